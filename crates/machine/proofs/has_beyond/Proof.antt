@@ -1,0 +1,18 @@
+use mathlib.Core.Path.{sym}
+use native.Mathlib.Omega.{arith}
+use borrow.Author.Needs.{needs}
+use Rattle.machine.specs.BeyondLaws.{beyond-shift, past-beyond}
+use Rattle.machine.proofs.has_beyond.Statement.{statement}
+use Rattle.machine.proofs.has_beyond.Tie as tie
+
+shr-result : tie.Need-shr-result
+shr-result c = search needs
+
+returns : tie.Need-returns
+returns c = let s = c .before .args in beyond-shift (s .n) (s .m) (omega arith)
+
+returns-2 : tie.Need-returns-2
+returns-2 c = let s = c .before .args in sym (past-beyond (s .n) (s .m) (omega arith))
+
+pub has-beyond-spec : {M : Type 1} → statement M
+has-beyond-spec = tie.close (tie.spec shr-result returns returns-2)

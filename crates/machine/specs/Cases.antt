@@ -1,0 +1,146 @@
+-- Document 01, "Shelf examples", cases 1 to 12, as one fact about one list, by computation; and a second list of small cases with two
+-- concrete states or with more than one set, which tell slips that cases 1 to 12 do not tell.
+use mathlib.Core.Bool.{Bool, true, false}
+use mathlib.Core.List.{List, [], _∷_, _++_}
+use mathlib.Core.Path.{_≡_, refl}
+use Prim.Native.Nat.{ℕ, _-_}
+use lib.ListN.{length, getD}
+use Rattle.mask.specs.Logic.{not, and, or}
+use Rattle.mask.specs.Bits.{hasBit}
+use Rattle.mask.specs.Bounded.{every, some, first, sum, count, everyIn, someIn}
+use Rattle.mask.specs.Tables.{maskOf, table}
+use Rattle.machine.specs.declared.Machine.{Machine}
+use Rattle.machine.specs.declared.Pair.{Pair}
+use Rattle.machine.specs.Machines.{observation, successors, moves, starts, fairSet, inFairSet, sameObservation, matched, next}
+use Rattle.machine.specs.Refusals.{refusal, andThen}
+use Rattle.machine.specs.WellFormed.{countsOk, beyond, stateBeyond, setBeyond, beyondCounts, stuckState, contentValidity, pairValidity}
+use Rattle.machine.specs.Lassos.{Lasso, moment}
+use Rattle.machine.specs.Step.{steps, better, least, partner, found, stateOf}
+use Rattle.machine.specs.Iteration.{iterate, settle}
+use Rattle.machine.specs.Game.{pairSet, mem, sameSet, none, allMatched, goals, inX, roundX, xOver, xsOver, union, levelOver, levels, turn, firstFamily, sameFamily, family}
+use Rattle.machine.specs.Ranks.{levelOf, setOf, towerOver, tower, rankIn, solverTable}
+use Rattle.machine.specs.Table.{blank, entryIndex, entry, covers, coveredCount}
+use Rattle.machine.specs.Lines.{nonBlank, lower, atMost, goalLine, rankLine, passes, linesValidity}
+use Rattle.machine.specs.Verdict.{Verdict, carried, notCarried, refused, startCovered, lackingStart, startVerdict, orElse, linesVerdict}
+use Rattle.machine.specs.Player.{Place, badLength, badStep, missedSet, lassoValidity, startPartner, startValidity, sectionAfter, follow, stepTo, placeAt, samePlace, lastRound, earlierRound, stemLength, loopLength, run, playValidity, Played, played, playedUnless}
+
+-- a machine whose start state is 0, from the lists of its states' observations and successor masks and of its sets
+machineOf : List ℕ → List ℕ → List ℕ → Machine
+machineOf observations successors sets = record {
+  states = length observations;
+  sets = length sets;
+  start = 1;
+  observations = table 64 (λ s. getD observations s 0);
+  successors = table 64 (λ s. getD successors s 0);
+  fairness = table 8 (λ k. getD sets k 0);
+}
+
+-- "By" has the rig before it and the score after it.
+infix 20 _by_
+_by_ : Machine → Machine → Pair
+C by A = record { concrete = C; abstraction = A }
+
+-- K with its observation and its sets
+K : ℕ → List ℕ → Machine
+K o sets = machineOf (o ∷ []) (1 ∷ []) sets
+
+S : Machine
+S = machineOf (0 ∷ 0 ∷ []) (3 ∷ 2 ∷ []) (2 ∷ [])
+
+Late : Machine
+Late = machineOf (0 ∷ 1 ∷ 2 ∷ 3 ∷ []) (2 ∷ 12 ∷ 4 ∷ 8 ∷ []) (15 ∷ [])
+
+Early : Machine
+Early = machineOf (0 ∷ 1 ∷ 1 ∷ 2 ∷ 3 ∷ []) (6 ∷ 8 ∷ 16 ∷ 8 ∷ 16 ∷ []) (31 ∷ [])
+
+-- what a case asks, and what is answered: the solver's table, the check's verdict on a table, the player's run
+data Answer : Type 0 where
+  solves : List ℕ → Answer
+  says : Verdict → Answer
+  plays : Played → List ℕ → Answer
+
+solve : Pair → Answer
+solve p = solves (solverTable p)
+
+check : Pair → List ℕ → Answer
+check p T = says (linesVerdict p T)
+
+solveAndCheck : Pair → Answer
+solveAndCheck p = check p (solverTable p)
+
+play : Pair → List ℕ → Lasso → Answer
+play p T l = plays (playedUnless (playValidity p T l) (played (stemLength p T l) (loopLength p T l))) (run p T l)
+
+-- cases 1 to 12
+asked : List Answer
+asked =
+    solve (K 0 (1 ∷ []) by K 0 (1 ∷ []))
+    ∷ solve (K 0 (1 ∷ []) by K 0 (0 ∷ []))
+    ∷ solveAndCheck (K 0 (1 ∷ []) by K 0 (0 ∷ []))
+    ∷ solve (K 0 (0 ∷ []) by K 0 (0 ∷ []))
+    ∷ solveAndCheck (K 0 (0 ∷ []) by K 0 (0 ∷ []))
+    ∷ solve (K 0 (1 ∷ []) by K 1 (1 ∷ []))
+    ∷ solve (K 0 (1 ∷ []) by S)
+    ∷ solveAndCheck (K 0 (1 ∷ []) by S)
+    ∷ check (K 0 (1 ∷ []) by S) (1 ∷ 0 ∷ [])
+    ∷ check (K 0 (1 ∷ []) by S) (0 ∷ 0 ∷ [])
+    ∷ check (K 0 (1 ∷ []) by S) (3 ∷ 0 ∷ [])
+    ∷ check (K 0 (1 ∷ []) by S) (blank ∷ 0 ∷ [])
+    ∷ play (K 0 (1 ∷ []) by S) (2 ∷ 0 ∷ []) (record { stem = []; loop = 0 ∷ [] })
+    ∷ solveAndCheck (Late by Early)
+    ∷ solveAndCheck (Early by Late)
+    ∷ []
+
+answered : List Answer
+answered =
+    solves (0 ∷ [])
+    ∷ solves (blank ∷ [])
+    ∷ says (notCarried 0 0)
+    ∷ solves (1 ∷ [])
+    ∷ says (carried 1)
+    ∷ solves (blank ∷ [])
+    ∷ solves (2 ∷ 0 ∷ [])
+    ∷ says (carried 2)
+    ∷ says (carried 2)
+    ∷ says (refused (refusal 12 1 0 0))
+    ∷ says (refused (refusal 12 1 0 0))
+    ∷ says (notCarried 0 1)
+    ∷ plays (played 1 1) (0 ∷ 1 ∷ [])
+    ∷ says (notCarried 0 2)
+    ∷ says (carried 5)
+    ∷ []
+
+cases : asked ≡ answered
+unfolding machineOf _by_ K S Late Early solve check solveAndCheck play asked answered not and or hasBit every some first sum count everyIn someIn maskOf table observation successors moves starts fairSet inFairSet sameObservation matched next andThen countsOk beyond stateBeyond setBeyond beyondCounts stuckState contentValidity pairValidity moment steps better least partner found stateOf iterate settle pairSet mem sameSet none allMatched goals inX roundX xOver xsOver union levelOver levels turn firstFamily sameFamily family levelOf setOf towerOver tower rankIn solverTable entryIndex entry covers coveredCount nonBlank lower atMost goalLine rankLine passes linesValidity startCovered lackingStart startVerdict orElse linesVerdict badLength badStep missedSet lassoValidity startPartner startValidity sectionAfter follow stepTo placeAt samePlace lastRound earlierRound stemLength loopLength run playValidity playedUnless
+cases = refl
+
+-- a concrete machine of two states, 0 to 0 and 1 to 0, one observation
+Two : List ℕ → Machine
+Two sets = machineOf (0 ∷ 0 ∷ []) (1 ∷ 1 ∷ []) sets
+
+-- cases with two concrete states, or with more than one set
+askedMore : List Answer
+askedMore =
+    solve (Two (2 ∷ []) by K 0 (0 ∷ []))
+    ∷ check (Two (2 ∷ []) by K 0 (0 ∷ [])) (1 ∷ 1 ∷ [])
+    ∷ check (K 0 (1 ∷ []) by K 0 (0 ∷ [])) (1 ∷ [])
+    ∷ check (K 0 (0 ∷ []) by K 0 (0 ∷ 0 ∷ [])) (blank ∷ 1 ∷ [])
+    ∷ check (K 0 (0 ∷ []) by K 0 (0 ∷ 1 ∷ [])) (blank ∷ 0 ∷ [])
+    ∷ solve (K 0 (1 ∷ []) by K 0 (0 ∷ 1 ∷ []))
+    ∷ solve (K 0 (1 ∷ 0 ∷ []) by K 0 (0 ∷ 0 ∷ []))
+    ∷ []
+
+answeredMore : List Answer
+answeredMore =
+    solves (1 ∷ 2 ∷ [])
+    ∷ says (refused (refusal 12 1 1 0))
+    ∷ says (refused (refusal 12 1 0 0))
+    ∷ says (notCarried 0 1)
+    ∷ says (refused (refusal 12 2 0 0))
+    ∷ solves (blank ∷ blank ∷ [])
+    ∷ solves (2 ∷ 2 ∷ [])
+    ∷ []
+
+casesMore : askedMore ≡ answeredMore
+unfolding machineOf _by_ K S Late Early solve check solveAndCheck play askedMore answeredMore Two not and or hasBit every some first sum count everyIn someIn maskOf table observation successors moves starts fairSet inFairSet sameObservation matched next andThen countsOk beyond stateBeyond setBeyond beyondCounts stuckState contentValidity pairValidity moment steps better least partner found stateOf iterate settle pairSet mem sameSet none allMatched goals inX roundX xOver xsOver union levelOver levels turn firstFamily sameFamily family levelOf setOf towerOver tower rankIn solverTable entryIndex entry covers coveredCount nonBlank lower atMost goalLine rankLine passes linesValidity startCovered lackingStart startVerdict orElse linesVerdict badLength badStep missedSet lassoValidity startPartner startValidity sectionAfter follow stepTo placeAt samePlace lastRound earlierRound stemLength loopLength run playValidity playedUnless
+casesMore = refl

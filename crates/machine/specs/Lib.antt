@@ -1,0 +1,27 @@
+-- definitions, in document 01's order
+pub mod Machines
+pub mod Refusals
+pub mod WellFormed
+pub mod Lassos
+pub mod Step
+pub mod Observed
+pub mod Iteration
+pub mod Game
+pub mod Ranks
+pub mod Figure2
+pub mod Table
+pub mod Lines
+pub mod Verdict
+pub mod Player
+-- the shelf examples
+pub mod Cases
+-- laws
+pub mod StepLaws
+pub mod WellFormedLaws
+pub mod BeyondLaws
+pub mod PartnerLaws
+pub mod ObservedLaws
+pub mod LevelLaws
+pub mod LinesLaws
+pub mod VerdictLaws
+pub mod RowLaws

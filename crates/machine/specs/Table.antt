@@ -1,0 +1,33 @@
+-- Document 01, "The game", last part: tables, whoever made them.
+use mathlib.Core.Bool.{Bool}
+use mathlib.Core.List.{List}
+use Prim.Native.Nat.{ℕ, _+_, _*_}
+use lib.ListN.{getD}
+use lib.Dec.{eqb}
+use Rattle.mask.specs.Logic.{not}
+use Rattle.mask.specs.Bounded.{count}
+use Rattle.machine.specs.declared.Pair.{Pair}
+use Rattle.machine.specs.Machines.{nC, nA, setsA, pairs}
+
+-- "else blank, 65,535"
+abbrev pub blank : ℕ
+blank = 65535
+
+-- "entry ((j − 1) × nC + c) × nA + a", section j from 0 here
+unfoldable pub entryIndex : ℕ → ℕ → ℕ → ℕ → ℕ → ℕ
+entryIndex nC nA j c a = (j * nC + c) * nA + a
+
+unfoldable pub entry : Pair → List ℕ → ℕ → ℕ → ℕ → ℕ
+entry p T j c a = getD T (entryIndex (nC p) (nA p) j c a) 0
+
+-- "It covers, in section j, the pairs whose entry there is not blank."
+unfoldable pub covers : Pair → List ℕ → ℕ → ℕ → ℕ → Bool
+covers p T j c a = not (eqb (entry p T j c a) blank)
+
+-- "n × P entries"
+abbrev pub entries : Pair → ℕ
+entries p = setsA p * pairs p
+
+-- "the number of non-blank entries, all sections counted"
+unfoldable pub coveredCount : Pair → List ℕ → ℕ
+coveredCount p T = count (entries p) (λ e. not (eqb (getD T e 0) blank))

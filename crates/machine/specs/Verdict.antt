@@ -1,0 +1,63 @@
+-- Document 01, "Line check": the answer, as document 01 tells it.
+use mathlib.Core.Bool.{Bool, true, cond}
+use mathlib.Core.List.{List}
+use mathlib.Core.Path.{_≡_}
+use Prim.Native.Nat.{ℕ, _+_}
+use lib.ListN.{length}
+use lib.Dec.{eqb, ltb}
+use Rattle.mask.specs.Logic.{not, and}
+use Rattle.mask.specs.Bounded.{every, first, someIn}
+use Rattle.machine.specs.declared.Pair.{Pair}
+use Rattle.machine.specs.declared.Refusal.{Refusal}
+use Rattle.machine.specs.declared.Validity.{Validity}
+use Rattle.machine.specs.declared.Validity.the-variants.{Valid, Refused}
+use Rattle.machine.specs.Refusals.{refusal, andThen, short-buffer}
+use Rattle.machine.specs.Machines.{starts, nC, nA}
+use Rattle.machine.specs.WellFormed.{pairValidity}
+use Rattle.machine.specs.Table.{covers, coveredCount}
+use Rattle.machine.specs.Lines.{passesEach, linesValidity}
+
+-- "Lent tables have 28,672 entries or more (7 × 64 × 64)"
+abbrev pub tableRoom : ℕ
+tableRoom = 28672
+
+-- what the check can say: Carried with the count, NotCarried with c and the count, a refusal
+pub data Verdict : Type 0 where
+  carried : ℕ → Verdict
+  notCarried : ℕ → ℕ → Verdict
+  refused : Refusal → Verdict
+
+-- "a refusal's, 100 Carried, .. 200 + c NotCarried"
+unfoldable pub verdictNumber : Verdict → ℕ
+verdictNumber (carried count) = 100
+verdictNumber (notCarried c count) = 200 + c
+verdictNumber (refused r) = r .number
+
+-- a lent buffer of some length, and the least that it must have
+unfoldable pub bufferValidity : ℕ → ℕ → Validity
+bufferValidity least len = cond (ltb len least) (Refused (refusal short-buffer 0 0 0)) Valid
+
+-- the concrete start state c has an abstract start state a, with (c, a) non-blank in section 1
+unfoldable pub startCovered : Pair → List ℕ → ℕ → Bool
+startCovered p T c = someIn (nA p) (p .abstraction .start) (covers p T 0 c)
+
+-- "the lowest c that lacks one", nC where none does
+unfoldable pub lackingStart : Pair → List ℕ → ℕ
+lackingStart p T = first (nC p) (λ c. and (starts (p .concrete) c) (not (startCovered p T c)))
+
+-- "Carried if each rig start state c has a score start state a, with (c, a) non-blank in section 1; else NotCarried with the lowest c
+-- that lacks one. Both give the number of non-blank entries, all sections counted."
+unfoldable pub startVerdict : Pair → List ℕ → Verdict
+startVerdict p T = cond (ltb (lackingStart p T) (nC p)) (notCarried (lackingStart p T) (coveredCount p T)) (carried (coveredCount p T))
+
+unfoldable pub orElse : Validity → Verdict → Verdict
+orElse Valid v = v
+orElse (Refused r) v = refused r
+
+-- 5, 9 to 12, and the answer
+unfoldable pub linesVerdict : Pair → List ℕ → Verdict
+linesVerdict p T = orElse (andThen (pairValidity p) (linesValidity p T)) (startVerdict p T)
+
+-- the check's whole answer, of a lent table: 1 before all else
+unfoldable pub checkVerdict : Pair → List ℕ → Verdict
+checkVerdict p T = orElse (bufferValidity tableRoom (length T)) (linesVerdict p T)

@@ -1,0 +1,201 @@
+-- What a well-formed machine and a well-formed pair give, and what makes one.
+use mathlib.Core.Bool.{Bool, true, false, cond}
+use mathlib.Core.Logic.{_⊎_, inl, inr, ⊎-elim, by-cases}
+use mathlib.Core.Path.{_≡_, refl, sym, ap, _∙_}
+use Prim.Native.Nat.{ℕ, suc, _*_, _≤_, _<_, _^_}
+use native.Mathlib.Nat.{le-trans, mul-le-mul-right, mul-le-mul-left}
+use native.Mathlib.Decide.{decLe, decLt}
+use native.Mathlib.Omega.{arith}
+use lib.ListN.{getD}
+use lib.Dec.{eqb, leb, ltb}
+use borrow.Author.Tests.{eqb-true, eqb-false, eq-eqb, ne-eqb, leb-true, le-leb, lt-leb, ltb-true, lt-ltb, le-ltb}
+use Rattle.mask.specs.Logic.{not, and, or}
+use Rattle.mask.specs.LogicLaws.{dec, clash, refute, and-l, and-r, and-i, or-l, or-r, or-e, or-none, or-false, not-e, not-i, not-f, not-false}
+use Rattle.mask.specs.Bits.{hasBit}
+use Rattle.mask.specs.BitsLaws.{has-lt, has-small}
+use Rattle.mask.specs.Bounded.{some, first, someIn}
+use Rattle.mask.specs.BoundedLaws.{some-of, some-none, none-at, someIn-of, someIn-at, first-none, first-before, first-le}
+use Rattle.machine.specs.declared.Machine.{Machine}
+use Rattle.machine.specs.declared.Pair.{Pair}
+use Rattle.machine.specs.declared.Refusal.{Refusal}
+use Rattle.machine.specs.declared.Validity.{Validity}
+use Rattle.machine.specs.declared.Validity.the-variants.{Valid, Refused}
+use Rattle.machine.specs.Refusals.{refusal, andThen}
+use Rattle.machine.specs.Machines.{observation, successors, moves, starts, fairSet, inFairSet, nC, nA, setsC, setsA, pairs}
+use Rattle.machine.specs.WellFormed.{countsOk, beyond, stateBeyond, setBeyond, beyondCounts, stuckState, contentValidity, machineValidity, pairValidity, isValid, wellFormed}
+
+-- ---- validity
+pub refused-not-valid : (r : Refusal) → Refused r ≡ Valid → ⊥
+refused-not-valid r e = let z : _≡_ {A = ℕ} 0 1 = cc in omega arith
+
+-- what is refused where b holds is valid only where b does not and the rest is
+pub valid-next : (b : Bool) (r : Refusal) (v : Validity) → cond b (Refused r) v ≡ Valid → (b ≡ false) × (v ≡ Valid)
+valid-next true r v e = absurd (refused-not-valid r e)
+valid-next false r v e = (refl, e)
+
+-- and what is refused unless b holds is valid only where b holds and the rest is
+pub valid-if : (b : Bool) (v : Validity) (r : Refusal) → cond b v (Refused r) ≡ Valid → (b ≡ true) × (v ≡ Valid)
+valid-if true v r e = (refl, e)
+valid-if false v r e = absurd (refused-not-valid r e)
+
+pub then-valid : (v w : Validity) → andThen v w ≡ Valid → (v ≡ Valid) × (w ≡ Valid)
+unfolding andThen
+then-valid Valid w e = (refl, e)
+then-valid (Refused r) w e = absurd (refused-not-valid r e)
+
+pub then-of : (v w : Validity) → v ≡ Valid → andThen v w ≡ w
+unfolding andThen
+then-of v w e = rw e
+
+pub is-valid : (v : Validity) → isValid v ≡ true → v ≡ Valid
+unfolding isValid
+is-valid Valid t = refl
+is-valid (Refused r) t = absurd (clash refl t)
+
+pub valid-is : (v : Validity) → v ≡ Valid → isValid v ≡ true
+unfolding isValid
+valid-is v e = rw e
+
+-- ---- bits beyond a count
+pub beyond-none : (n mask : ℕ) → beyond n mask ≡ false → (i : ℕ) → i < 64 → hasBit mask i ≡ true → i < n
+unfolding beyond
+beyond-none n mask t i h e = by-cases (decLe n i) (λ l. absurd (clash t (someIn-of 64 mask (leb n) i h e (le-leb n i l)))) (λ l. omega arith)
+
+pub none-beyond : (n mask : ℕ) → ((i : ℕ) → i < 64 → hasBit mask i ≡ true → i < n) → beyond n mask ≡ false
+unfolding beyond
+none-beyond n mask h =
+    refute _ (λ t. let q = someIn-at 64 mask (leb n) t in absurd (omega (arith, leb-true n (q .0) (q .3), h (q .0) (q .1) (q .2))))
+
+-- ---- one machine
+pub record WellMachine (limit : ℕ) (m : Machine) : Type 0 where
+  pub states-low : 0 < m .states
+  pub states-high : m .states ≤ 64
+  pub sets-low : 0 < m .sets
+  pub sets-high : m .sets ≤ limit
+  pub start-bits : (i : ℕ) → i < 64 → starts m i ≡ true → i < m .states
+  pub move-bits : (s i : ℕ) → s < m .states → i < 64 → moves m s i ≡ true → i < m .states
+  pub set-bits : (k i : ℕ) → k < m .sets → i < 64 → inFairSet m k i ≡ true → i < m .states
+  pub observation-zero : (s : ℕ) → m .states ≤ s → s < 64 → observation m s ≡ 0
+  pub successors-zero : (s : ℕ) → m .states ≤ s → s < 64 → successors m s ≡ 0
+  pub fairness-zero : (k : ℕ) → m .sets ≤ k → k < 8 → fairSet m k ≡ 0
+  pub has-start : m .start ≡ 0 → ⊥
+  pub has-move : (s : ℕ) → s < m .states → successors m s ≡ 0 → ⊥
+
+pub counts-at : (limit states sets : ℕ) → countsOk limit states sets ≡ true → (0 < states) × (states ≤ 64) × (0 < sets) × (sets ≤ limit)
+unfolding countsOk
+counts-at limit states sets t =
+    let a = and-l (and (leb 1 states) (leb states 64)) _ t in
+    let b = and-r (and (leb 1 states) (leb states 64)) _ t in
+    (leb-true 1 states (and-l _ _ a), leb-true states 64 (and-r _ _ a), leb-true 1 sets (and-l _ _ b), leb-true sets limit (and-r _ _ b))
+
+pub counts-of : (limit states sets : ℕ) → 0 < states → states ≤ 64 → 0 < sets → sets ≤ limit → countsOk limit states sets ≡ true
+unfolding countsOk
+counts-of limit states sets a b c d = and-i (and-i (le-leb 1 states a) (le-leb states 64 b)) (and-i (le-leb 1 sets c) (le-leb sets limit d))
+
+module _ (limit i : ℕ) (m : Machine) where
+  tests : contentValidity i m ≡ Valid → (beyondCounts m ≡ false) × (m .start ≡ 0 → ⊥) × (stuckState (m .states) (m .successors) < 64 → ⊥)
+  unfolding contentValidity
+  tests content =
+      let a = valid-next (beyondCounts m) _ _ content in
+      let b = valid-next (eqb (m .start) 0) _ _ (a .1) in
+      let s = stuckState (m .states) (m .successors) in
+      (a .0, eqb-false (m .start) 0 (b .0), λ l. clash (valid-next (ltb s 64) _ _ (b .1) .0) (lt-ltb s 64 l))
+
+  parts : beyondCounts m ≡ false → (beyond (m .states) (m .start) ≡ false)
+      × ((s : ℕ) → s < 64 → stateBeyond (m .states) (m .observations) (m .successors) s ≡ false)
+      × ((k : ℕ) → k < 8 → setBeyond (m .states) (m .sets) (m .fairness) k ≡ false)
+  unfolding beyondCounts
+  parts t =
+      let a = or-none _ _ t in
+      let b = or-none _ _ (a .1) in
+      (a .0, none-at 64 _ (b .0), none-at 8 _ (b .1))
+
+  state-in : (s : ℕ) → s < m .states → stateBeyond (m .states) (m .observations) (m .successors) s ≡ false → beyond (m .states) (successors m s) ≡ false
+  unfolding stateBeyond successors
+  state-in s l t = rw (lt-ltb s (m .states) l) at t
+
+  state-past : (s : ℕ) → m .states ≤ s → stateBeyond (m .states) (m .observations) (m .successors) s ≡ false → (observation m s ≡ 0) × (successors m s ≡ 0)
+  unfolding stateBeyond successors observation
+  state-past s l t =
+      let q = or-none _ _ (rw (le-ltb s (m .states) l) at t) in
+      (eqb-true _ 0 (not-false _ (q .0)), eqb-true _ 0 (not-false _ (q .1)))
+
+  set-in : (k : ℕ) → k < m .sets → setBeyond (m .states) (m .sets) (m .fairness) k ≡ false → beyond (m .states) (fairSet m k) ≡ false
+  unfolding setBeyond fairSet
+  set-in k l t = rw (lt-ltb k (m .sets) l) at t
+
+  set-past : (k : ℕ) → m .sets ≤ k → setBeyond (m .states) (m .sets) (m .fairness) k ≡ false → fairSet m k ≡ 0
+  unfolding setBeyond fairSet
+  set-past k l t = eqb-true _ 0 (not-false _ (rw (le-ltb k (m .sets) l) at t))
+
+  not-stuck : (stuckState (m .states) (m .successors) < 64 → ⊥) → (s : ℕ) → s < 64 → s < m .states → successors m s ≡ 0 → ⊥
+  unfolding stuckState successors
+  not-stuck h s q l e = clash
+      (first-before 64 (λ s. and (ltb s (m .states)) (eqb (getD (m .successors) s 0) 0)) s
+      (by-cases (decLt (first 64 (λ s. and (ltb s (m .states)) (eqb (getD (m .successors) s 0) 0))) 64) (λ k. absurd (h k)) (λ k. omega arith)))
+      (and-i (lt-ltb s (m .states) l) (eq-eqb _ 0 e))
+
+  pub well-machine : limit ≤ 8 → countsOk limit (m .states) (m .sets) ≡ true → contentValidity i m ≡ Valid → WellMachine limit m
+  unfolding starts moves inFairSet
+  well-machine small counts content =
+      let t = tests content in
+      let q = parts (t .0) in
+      let n = counts-at limit (m .states) (m .sets) counts in
+      record {
+        states-low = n .0;
+        states-high = n .1;
+        sets-low = n .2;
+        sets-high = n .3;
+        start-bits = beyond-none (m .states) (m .start) (q .0);
+        move-bits = λ s b l. beyond-none _ _ (state-in s l (q .1 s (omega (arith, n .1)))) b;
+        set-bits = λ k b l. beyond-none _ _ (set-in k l (q .2 k (omega (arith, n .3)))) b;
+        observation-zero = λ s l h. state-past s l (q .1 s h) .0;
+        successors-zero = λ s l h. state-past s l (q .1 s h) .1;
+        fairness-zero = λ k l h. set-past k l (q .2 k h);
+        has-start = t .1;
+        has-move = λ s l. not-stuck (t .2) s (omega (arith, n .1)) l;
+      }
+
+-- a mask that a program holds, with no state at or past n, is a number of n bits
+pub bits-small : (n mask : ℕ) → mask < 2 ^ 64 → ((i : ℕ) → i < 64 → hasBit mask i ≡ true → i < n) → mask < 2 ^ n
+bits-small n mask h b = has-small 64 n mask h (λ i l k. refute _ (λ t. absurd (omega (arith, b i k t))))
+
+-- ---- a pair
+pub record WellPair (p : Pair) : Type 0 where
+  pub concrete : WellMachine 8 (p .concrete)
+  pub abstraction : WellMachine 7 (p .abstraction)
+
+pub well-valid : (p : Pair) → pairValidity p ≡ Valid → WellPair p
+unfolding pairValidity
+well-valid p e =
+    let a = valid-if _ _ _ e in
+    let b = then-valid (contentValidity 0 (p .concrete)) (contentValidity 1 (p .abstraction)) (a .1) in
+    record {
+      concrete = well-machine 8 0 (p .concrete) (omega arith) (and-l _ _ (a .0)) (b .0);
+      abstraction = well-machine 7 1 (p .abstraction) (omega arith) (and-r _ _ (a .0)) (b .1);
+    }
+
+pub well-pair : (p : Pair) → wellFormed p ≡ true → WellPair p
+unfolding wellFormed
+well-pair p t = well-valid p (is-valid _ t)
+
+pub well-is-valid : (p : Pair) → wellFormed p ≡ true → pairValidity p ≡ Valid
+unfolding wellFormed
+well-is-valid p t = is-valid _ t
+
+pub valid-is-well : (p : Pair) → pairValidity p ≡ Valid → wellFormed p ≡ true
+unfolding wellFormed
+valid-is-well p e = valid-is _ e
+
+pub mul-bound : (a b m n : ℕ) → a ≤ m → b ≤ n → a * b ≤ m * n
+mul-bound a b m n p q = le-trans (mul-le-mul-right b p) (mul-le-mul-left m q)
+
+-- the bounds of products: P, m × P and n × P
+pub pairs-small : (p : Pair) → WellPair p → pairs p ≤ 4096
+pairs-small p w = mul-bound (nC p) (nA p) 64 64 (w .concrete .states-high) (w .abstraction .states-high)
+
+pub ranks-small : (p : Pair) → WellPair p → setsC p * pairs p ≤ 32768
+ranks-small p w = mul-bound (setsC p) (pairs p) 8 4096 (w .concrete .sets-high) (pairs-small p w)
+
+pub entries-small : (p : Pair) → WellPair p → setsA p * pairs p ≤ 28672
+entries-small p w = mul-bound (setsA p) (pairs p) 7 4096 (w .abstraction .sets-high) (pairs-small p w)
