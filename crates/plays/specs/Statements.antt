@@ -1,0 +1,45 @@
+-- What is shown of endless plays over the definitions of document 01. Each statement is a type; Theorems.antt gives a proof of each.
+use mathlib.Core.Bool.{true}
+use mathlib.Core.List.{List}
+use mathlib.Core.Path.{_≡_}
+use Prim.Native.Nat.{ℕ, _+_, _≤_, _<_}
+use lib.ListN.{length, take, drop}
+use Rattle.machine.specs.declared.Pair.{Pair}
+use Rattle.machine.specs.declared.Validity.the-variants.{Valid}
+use Rattle.machine.specs.Machines.{nC, starts}
+use Rattle.machine.specs.WellFormed.{wellFormed}
+use Rattle.machine.specs.Lassos.{Lasso, isPlay, SameObservations}
+use Rattle.machine.specs.Lines.{passesEach}
+use Rattle.machine.specs.Verdict.{carried, startCovered, linesVerdict}
+use Rattle.machine.specs.Player.{samePlace, lastRound, earlierRound, stemLength, loopLength, run, playValidity}
+
+-- the concrete lasso l has a fair lasso of the abstract machine, from a start state, with the same observation at every moment
+abbrev pub Matched : Pair → Lasso → Type 0
+Matched p l = (k : Lasso) × (isPlay (p .abstraction) k ≡ true) × SameObservations (p .concrete) l (p .abstraction) k
+
+-- 6. if a table passes each line and has the start pairs, every fair lasso of the concrete machine from a start state, of any length, is matched
+abbrev pub PassingIsSound : Type 0
+PassingIsSound = (p : Pair) (T : List ℕ) → wellFormed p ≡ true → passesEach p T ≡ true
+    → ((c : ℕ) → c < nC p → starts (p .concrete) c ≡ true → startCovered p T c ≡ true)
+    → (l : Lasso) → isPlay (p .concrete) l ≡ true → Matched p l
+
+-- the same of what the check says
+abbrev pub CarriedIsSound : Type 0
+CarriedIsSound = (p : Pair) (T : List ℕ) (n : ℕ) → linesVerdict p T ≡ carried n → (l : Lasso) → isPlay (p .concrete) l ≡ true → Matched p l
+
+-- 7. the player's run
+pub record IsRun (p : Pair) (T : List ℕ) (l : Lasso) : Type 0 where
+  -- it ends by its rule, after at most 448 rounds
+  pub soon : lastRound p T l ≤ 448
+  pub order : earlierRound p T l < lastRound p T l
+  pub returns : samePlace p T l (earlierRound p T l) (lastRound p T l) ≡ true
+  -- its run fits the buffer, and is stem and loop
+  pub fits : length (run p T l) ≤ 28672
+  pub whole : length (run p T l) ≡ stemLength p T l + loopLength p T l
+  -- and is a fair lasso of the abstract machine from a start state
+  pub fair : isPlay (p .abstraction) (record { stem = take (stemLength p T l) (run p T l); loop = drop (stemLength p T l) (run p T l) }) ≡ true
+  pub agrees : SameObservations (p .concrete) l (p .abstraction)
+      (record { stem = take (stemLength p T l) (run p T l); loop = drop (stemLength p T l) (run p T l) })
+
+abbrev pub PlayerIsRight : Type 0
+PlayerIsRight = (p : Pair) (T : List ℕ) (l : Lasso) → playValidity p T l ≡ Valid → IsRun p T l
