@@ -1,0 +1,92 @@
+use mathlib.Core.Bool.{true}
+use mathlib.Core.Path.{_≡_, sym, _∙_}
+use Prim.Native.Nat.{_≤_}
+use native.Mathlib.Omega.{arith}
+use lib.ListN.{length}
+use borrow.Author.Needs.{needs}
+use Rattle.machine.specs.declared.Validity.the-variants.{Valid}
+use Rattle.machine.specs.WellFormed.{pairValidity, wellFormed}
+use Rattle.machine.specs.WellFormedLaws.{valid-is-well}
+use Rattle.linecheck.specs.Answers.{verdictOf}
+use Rattle.linecheck.specs.AnswersLaws.{check-short, check-invalid, check-fails, check-passes}
+use Rattle.linecheck.proofs.check_table.Statement.{statement}
+use Rattle.linecheck.proofs.check_table.Tie as tie
+
+room : (c : tie.Else1) → 28672 ≤ length (c .before .before .args .table .now)
+room c = omega arith
+
+valid : (c : tie.After-enum-told) → pairValidity (c .before .before .before .before .before .args .p) ≡ Valid
+valid c = sym (c .before .before .pair-validity .ensures) ∙ c .enum-told .given .1
+
+well : (c : tie.After-enum-told) → wellFormed (c .before .before .before .before .before .args .p) ≡ true
+well c = valid-is-well (c .before .before .before .before .before .args .p) (valid c)
+
+returns : tie.Need-returns
+unfolding verdictOf
+returns c = let x = c .before .before .args in sym (check-short (x .p) (x .table .now) (c .if1 .taken))
+
+pair-validity-requires : tie.Need-pair-validity-requires
+pair-validity-requires c κs = search needs
+
+enum-known-valid : tie.Need-enum-known-valid
+enum-known-valid c = search needs
+
+returns-2 : tie.Need-returns-2
+unfolding verdictOf
+returns-2 c =
+    let v = c .before .before .before in
+    let x = v .before .before .before .args in
+    sym (check-invalid (x .p) (x .table .now) (room (v .before)) _ (sym (v .pair-validity .ensures) ∙ c .before .valid .given .1))
+
+enum-told : tie.Need-enum-told
+enum-told c = search needs
+
+matched-masks-requires : tie.Need-matched-masks-requires
+matched-masks-requires c κs = search needs
+
+lines-validity-requires : tie.Need-lines-validity-requires
+lines-validity-requires c κs = (well (c .before), (c .matched-masks .ensures, room (c .before .before .before .before)))
+
+enum-known-lines : tie.Need-enum-known-lines
+enum-known-lines c = search needs
+
+returns-3 : tie.Need-returns-3
+unfolding verdictOf
+returns-3 c =
+    let l = c .before .before .before in
+    let v = l .before .before in
+    let e = v .before .before .before in
+    let x = e .before .before .args in
+    sym (check-fails (x .p) (x .table .now) (room e) _ (valid v) (sym (l .lines-validity .ensures) ∙ c .before .lines .given .1))
+
+enum-told-2 : tie.Need-enum-told-2
+enum-told-2 c = search needs
+
+verdict-of-starts-requires : tie.Need-verdict-of-starts-requires
+verdict-of-starts-requires c κs = let v = c .before .before .before .before in (well v, room (v .before .before .before))
+
+returns-4 : tie.Need-returns-4
+returns-4 c =
+    let l = c .before .before .before in
+    let v = l .before .before in
+    let e = v .before .before .before in
+    let x = e .before .before .args in
+    c .verdict-of-starts .ensures
+    ∙ sym (check-passes (x .p) (x .table .now) (room e) (valid v) (sym (l .lines-validity .ensures) ∙ c .before .enum-told2 .given .1))
+
+pub check-table-spec : {M : Type 1} → statement M
+check-table-spec =
+    tie.close
+    (tie.spec
+    returns
+    pair-validity-requires
+    enum-known-valid
+    returns-2
+    enum-told
+    matched-masks-requires
+    lines-validity-requires
+    enum-known-lines
+    returns-3
+    enum-told-2
+    verdict-of-starts-requires
+    returns-4)

@@ -1,0 +1,143 @@
+use mathlib.Core.Bool.{false}
+use mathlib.Core.Logic.{⊎-elim}
+use mathlib.Core.Path.{_≡_, refl, sym, _∙_}
+use Prim.Native.Nat.{ℕ, _+_, _-_, _≤_, _<_}
+use native.Mathlib.Omega.{arith}
+use lib.ListN.{length, getD}
+use borrow.Author.Count.{below-more, below-none}
+use borrow.Author.Needs.{needs}
+use borrow.Author.Tests.{not-true, not-false}
+use Rattle.machine.specs.WellFormedLaws.{WellPair, well-pair}
+use Rattle.machine.specs.Table.{blank}
+use Rattle.machine.specs.RowLaws.{row-room}
+use Rattle.machine.specs.Verdict.{startCovered}
+use Rattle.linecheck.specs.BoundsLaws.{pairOf}
+use Rattle.linecheck.specs.StartsLaws.{lacks, lacks-not, lacks-covered, lacks-is, lacking-is, lacking-none, start-found}
+use Rattle.linecheck.proofs.lacking_start.Statement.{statement}
+use Rattle.linecheck.proofs.lacking_start.Tie as tie
+
+abbrev Inv-loop : tie.InvT-loop
+Inv-loop table concrete abstraction nc na c₀ c = (c ≤ nc) × ((k : ℕ) → k < c → lacks (pairOf concrete abstraction) table k ≡ false)
+
+abbrev μ-loop : tie.MeasureT-loop
+μ-loop table concrete abstraction nc na c₀ c = nc - c
+
+abbrev top : tie.At-loop Inv-loop μ-loop → tie.Start Inv-loop μ-loop
+top c = c .before .before .before .before
+
+well : (c : tie.At-loop Inv-loop μ-loop) → WellPair (top c .args .p)
+well c = well-pair (top c .args .p) (top c .pre .0)
+
+small : (c : tie.At-loop Inv-loop μ-loop) (i : ℕ) → getD (top c .args .table .now) i 0 ≤ blank
+small c i = omega (arith, c .before .before .before .shared-slice-known .given i)
+
+-- the row of section 1 beside c lies within the table
+room : (c : tie.After-index Inv-loop μ-loop)
+    → let x = top (c .before .before .before .before) .args in
+    c .index .result + x .p .abstraction .states ≤ length (x .table .now)
+room c =
+    let l = c .before .before .before .before in
+    let p = top l .args .p in
+    let w = well l in
+    omega (
+      arith,
+      c .index .ensures,
+      top l .pre .1,
+      row-room (p .concrete .states) (p .abstraction .states) 0 (l .loop .c) (omega arith) (w .concrete .states-high) (w .abstraction .states-high) (omega arith),
+    )
+
+covered : (c : tie.After-has-partner Inv-loop μ-loop)
+    → let l = c .before .before .before .before .before .before in
+    c .has-partner .result ≡ startCovered (top l .args .p) (top l .args .table .now) (l .loop .c)
+covered c =
+    let i = c .before .before in
+    let l = i .before .before .before .before in
+    let x = top l .args in
+    c .has-partner .ensures
+    ∙ start-found (x .p) (x .table .now) (well l) (small l) (l .loop .c) (i .index .result) (i .index .result + x .p .abstraction .states) (i .index .ensures) refl (room i) _
+
+loop-holds : tie.Need-loop-holds Inv-loop μ-loop
+loop-holds c = (search needs, below-none _)
+
+has-requires : tie.Need-has-requires Inv-loop μ-loop
+has-requires c κs = search needs
+
+index-requires : tie.Need-index-requires Inv-loop μ-loop
+index-requires c κs =
+    let w = well (c .before .before .before) in
+    omega (arith, w .concrete .states-high, w .abstraction .states-high)
+
+add-to : tie.Need-add-to Inv-loop μ-loop
+add-to c = omega (arith, room c, top (c .before .before .before .before) .good)
+
+mul-has-partner : tie.Need-mul-has-partner Inv-loop μ-loop
+mul-has-partner c = omega (arith, room c, top (c .before .before .before .before) .good)
+
+sub-has-partner : tie.Need-sub-has-partner Inv-loop μ-loop
+sub-has-partner c = search needs
+
+part-has-partner-start : tie.Need-part-has-partner-start Inv-loop μ-loop
+part-has-partner-start c = search needs
+
+part-has-partner-end : tie.Need-part-has-partner-end Inv-loop μ-loop
+part-has-partner-end c = room c
+
+has-partner-requires : tie.Need-has-partner-requires Inv-loop μ-loop
+has-partner-requires c κs = search needs
+
+returns : tie.Need-returns Inv-loop μ-loop
+returns c =
+    let h = c .before .before .before .before .before in
+    let l = h .before .before in
+    let x = top l .args in
+    sym (lacking-is (x .p) (x .table .now) (l .loop .c) (omega arith)
+    (lacks-is (x .p) (x .table .now) (l .loop .c) (sym (h .has .ensures) ∙ c .before .before .before .before .if1 .taken) (sym (covered (c .before)) ∙ not-true _ (c .if2 .taken)))
+    (l .loop .inv .1))
+
+add-c : tie.Need-add-c Inv-loop μ-loop
+add-c c = search needs
+
+loop-less : tie.Need-loop-less Inv-loop μ-loop
+loop-less c = search needs
+
+loop-again : tie.Need-loop-again Inv-loop μ-loop
+loop-again c =
+    let l = c .before .before .before in
+    let x = top l .args in (
+      search needs,
+      below-more _ _ (l .loop .inv .1)
+          (⊎-elim
+          (λ w.
+          let i : tie.After-index Inv-loop μ-loop = record { before = record { before = c .before; if1 = w .0 }; index = w .1 } in
+          let d : tie.After-has-partner Inv-loop μ-loop = record { before = record { before = i; has-partner-arg = w .2 }; has-partner = w .3 } in
+          lacks-covered (x .p) (x .table .now) (l .loop .c) (sym (covered d) ∙ not-false _ (w .4 .left)))
+          (λ w. lacks-not (x .p) (x .table .now) (l .loop .c) (sym (c .before .has .ensures) ∙ w .left))
+          (c .if1 .came)),
+    )
+
+returns-2 : tie.Need-returns-2 Inv-loop μ-loop
+returns-2 c =
+    let l = c .before in
+    let x = top l .args in
+    sym (lacking-none (x .p) (x .table .now) (λ k h. l .loop .inv .1 k (omega arith)))
+
+pub lacking-start-spec : {M : Type 1} → statement M
+lacking-start-spec =
+    tie.close
+    (tie.spec
+    Inv-loop
+    μ-loop
+    loop-holds
+    has-requires
+    index-requires
+    add-to
+    mul-has-partner
+    sub-has-partner
+    part-has-partner-start
+    part-has-partner-end
+    has-partner-requires
+    returns
+    add-c
+    loop-less
+    loop-again
+    returns-2)

@@ -1,0 +1,46 @@
+use mathlib.Core.Path.{sym}
+use native.Mathlib.Omega.{arith}
+use borrow.Author.Needs.{needs}
+use Rattle.machine.specs.WellFormedLaws.{WellPair, well-pair, pairs-small, entries-small}
+use Rattle.linecheck.specs.Answers.{verdictOf}
+use Rattle.linecheck.specs.AnswersLaws.{start-lacking, start-carried}
+use Rattle.linecheck.proofs.verdict_of_starts.Statement.{statement}
+use Rattle.linecheck.proofs.verdict_of_starts.Tie as tie
+
+well : (c : tie.Start) → WellPair (c .args .p)
+well c = well-pair (c .args .p) (c .pre .0)
+
+mul-covered-count : tie.Need-mul-covered-count
+mul-covered-count c = let s = c .before .before .before in omega (arith, pairs-small (s .args .p) (well s))
+
+mul-covered-count-2 : tie.Need-mul-covered-count-2
+mul-covered-count-2 c = let s = c .before .before .before in omega (arith, entries-small (s .args .p) (well s))
+
+covered-count-requires : tie.Need-covered-count-requires
+covered-count-requires c κs = let s = c .before .before .before in omega (arith, entries-small (s .args .p) (well s), s .pre .1)
+
+lacking-start-requires : tie.Need-lacking-start-requires
+lacking-start-requires c κs = search needs
+
+returns : tie.Need-returns
+unfolding verdictOf
+returns c =
+    let x = c .before .before .before .before .before .before .args in
+    sym (start-lacking (x .p) (x .table .now) _ _ (c .before .before .covered-count .ensures) (c .before .lacking-start .ensures) (omega arith))
+
+returns-2 : tie.Need-returns-2
+unfolding verdictOf
+returns-2 c =
+    let x = c .before .before .before .before .before .before .args in
+    sym (start-carried (x .p) (x .table .now) _ _ (c .before .before .covered-count .ensures) (c .before .lacking-start .ensures) (omega arith))
+
+pub verdict-of-starts-spec : {M : Type 1} → statement M
+verdict-of-starts-spec =
+    tie.close
+    (tie.spec
+    mul-covered-count
+    mul-covered-count-2
+    covered-count-requires
+    lacking-start-requires
+    returns
+    returns-2)

@@ -1,0 +1,7 @@
+-- definitions
+pub mod Answers
+pub mod Bounds
+-- laws
+pub mod BoundsLaws
+pub mod StartsLaws
+pub mod AnswersLaws

@@ -1,0 +1,274 @@
+// The line check: document 01, "Line check". It sees the machines and the step, and not the solver.
+// Cost: for each non-blank entry and each successor of its concrete state, one search among the successors of its abstract state, which stops
+// at the first that serves: at most n x nC x nA x nC x nA looks at an entry, and on passing tables far fewer.
+ghost use mathlib.Core.Bool.{true, cond};
+ghost use mathlib.Core.Path.{_≡_};
+ghost use Prim.Native.Nat.{ℕ, _+_, _*_, _<_, _≤_};
+ghost use lib.ListN.{length, getD};
+ghost use lib.Dec.{eqb};
+ghost use Rattle.mask.specs.Logic.{not};
+ghost use Rattle.mask.specs.Bounded.{count};
+ghost use Rattle.machine.specs.Machines.{next};
+ghost use Rattle.machine.specs.WellFormed.{wellFormed};
+ghost use Rattle.machine.specs.Ranks.{levelOf, setOf};
+ghost use Rattle.machine.specs.Table.{blank, entryIndex};
+ghost use Rattle.machine.specs.Lines.{linesValidity};
+ghost use Rattle.machine.specs.Observed.{matchedMasks};
+ghost use Rattle.machine.specs.Refusals.{refusal, failing-entry};
+ghost use Rattle.machine.specs.Verdict.{lackingStart, startVerdict, checkVerdict};
+ghost use Rattle.linecheck.specs.Answers.{verdictOf};
+ghost use Rattle.linecheck.specs.Bounds.{lineOf};
+use machine::Pair;
+use machine::Refusal;
+use machine::Validity;
+
+// What the check says: Carried with the count, NotCarried with c and the count, or where it was stopped.
+pub enum Answer {
+    Carried(usize),
+    NotCarried(usize, usize),
+    Refused(Refusal),
+}
+
+// What an entry asks of each step: partners in `section` whose entry is at most `bound`; unless `holds`, the entry fails before any step.
+struct Line {
+    holds: bool,
+    section: usize,
+    bound: u16,
+}
+
+// An entry's l and k, k counted from 0.
+struct Level {
+    level: usize,
+    set: usize,
+}
+
+// The section after j: after the last comes the first.
+fn next_section(n: usize, j: usize) -> usize
+    requires { ⌜ j < n ⌝ }
+    ensures { λ r. ⌜ r ≡ next n j ⌝ }
+{
+    if j + 1 == n { 0 } else { j + 1 }
+}
+
+// The place in a table of entry (j, c, a).
+fn index(nc: usize, na: usize, j: usize, c: usize, a: usize) -> usize
+    requires { ⌜ (j < 7) × ((nc ≤ 64) × ((na ≤ 64) × ((c ≤ nc) × (a ≤ na)))) ⌝ }
+    ensures { λ r. ⌜ r ≡ entryIndex nc na j c a ⌝ }
+{
+    (j * nc + c) * na + a
+}
+
+// The l and k of an entry that is not 0.
+fn level_of(m: usize, e: u16) -> Level
+    requires { ⌜ (0 < m) × (0 < e) ⌝ }
+    ensures { λ r. ⌜ (r .level ≡ levelOf m e) × (r .set ≡ setOf m e) ⌝ }
+{
+    let r = e as usize - 1;
+    Level {
+        level: r / m + 1,
+        set: r % m,
+    }
+}
+
+// What the entry e of (j, c, a) asks, by document 01's lines. `most` is m x P, `next` the section after j; `matched` has the states that
+// are matched with c.
+fn line_of(
+    m: usize,
+    most: usize,
+    j: usize,
+    next: usize,
+    c: usize,
+    a: usize,
+    e: u16,
+    matched: u64,
+    concrete_sets: &[u64; 8],
+    abstract_set: u64,
+) -> Line
+    requires { ⌜ (0 < m) × (m ≤ 8) ⌝ }
+    ensures { λ r. ⌜ r ≡ lineOf m most j next c a e matched (now («concrete_sets» .entry)) «abstract_set» ⌝ }
+{
+    let fails = Line {
+        holds: false,
+        section: 0,
+        bound: 0,
+    };
+    if !mask::has(matched, a) {
+        return fails;
+    }
+    if most < e as usize {
+        return fails;
+    }
+    if e == 0 {
+        return Line {
+            holds: mask::has(abstract_set, a),
+            section: next,
+            bound: 65534,
+        };
+    }
+    let rank = level_of(m, e);
+    let k = rank.set;
+    let below = (rank.level - 1) * m;
+    let bound = if mask::has(concrete_sets[k], c) {
+        below as u16
+    } else {
+        e
+    };
+    Line {
+        holds: true,
+        section: j,
+        bound: bound,
+    }
+}
+
+// The refusal of entry (j, c, a); its section is counted from 1.
+fn failing(j: usize, c: usize, a: usize) -> Validity
+    requires { ⌜ j < 7 ⌝ }
+    ensures { λ r. ⌜ r ≡ Validity.Refused (refusal failing-entry (j + 1) c a) ⌝ }
+{
+    Validity::Refused(Refusal {
+        number: machine::FAILING_ENTRY,
+        first: j + 1,
+        second: c,
+        third: a,
+    })
+}
+
+// Whether each line of a table of well-formed machines holds, and if not where the first is that fails.
+fn lines_validity(p: Pair, matched: [u64; 64], table: &[u16]) -> Validity
+    requires { ⌜ (wellFormed p ≡ true) × ((matched ≡ matchedMasks p) × (28672 ≤ length (now table))) ⌝ }
+    ensures { λ r. ⌜ r ≡ linesValidity p (now (table .entry)) ⌝ }
+{
+    let concrete = p.concrete;
+    let abstraction = p.abstraction;
+    let nc = concrete.states;
+    let na = abstraction.states;
+    let m = concrete.sets;
+    let n = abstraction.sets;
+    let concrete_sets = concrete.fairness;
+    let most = m * (nc * na);
+    let mut answer = Validity::Valid;
+    'lines: for j in 0..n {
+        let next = next_section(n, j);
+        for c in 0..nc {
+            for a in 0..na {
+                let at = index(nc, na, j, c, a);
+                let e = table[at];
+                if e != 65535 {
+                    let line = line_of(
+                        m,
+                        most,
+                        j,
+                        next,
+                        c,
+                        a,
+                        e,
+                        matched[c],
+                        &concrete_sets,
+                        abstraction.fairness[j],
+                    );
+                    if !line.holds {
+                        answer = failing(j, c, a);
+                        break 'lines;
+                    }
+                    let section = line.section;
+                    let bound = line.bound;
+                    let moves = abstraction.successors[a];
+                    let mut rest = concrete.successors[c];
+                    while rest != 0 {
+                        let d = mask::lowest(rest);
+                        let from = index(nc, na, section, d, 0);
+                        let to = from + na;
+                        if !machine::has_partner(moves, matched[d], &table[from..to], bound) {
+                            answer = failing(j, c, a);
+                            break 'lines;
+                        }
+                        rest = mask::rest(rest);
+                    }
+                }
+            }
+        }
+    }
+    answer
+}
+
+// How many of the first `entries` entries are not blank.
+fn covered_count(table: &[u16], entries: usize) -> usize
+    requires { ⌜ entries ≤ length (now table) ⌝ }
+    ensures { λ r. ⌜ r ≡ count entries (λ e. not (eqb (getD (now (table .entry)) e 0) blank)) ⌝ }
+{
+    let mut found: usize = 0;
+    for e in 0..entries {
+        if table[e] != 65535 {
+            found += 1;
+        }
+    }
+    found
+}
+
+// The lowest concrete start state without an abstract start state beside it that is not blank in section 1; nc where there is none.
+fn lacking_start(p: Pair, table: &[u16]) -> usize
+    requires { ⌜ (wellFormed p ≡ true) × (28672 ≤ length (now table)) ⌝ }
+    ensures { λ r. ⌜ r ≡ lackingStart p (now (table .entry)) ⌝ }
+{
+    let concrete = p.concrete;
+    let abstraction = p.abstraction;
+    let nc = concrete.states;
+    let na = abstraction.states;
+    for c in 0..nc {
+        if mask::has(concrete.start, c) {
+            let from = index(nc, na, 0, c, 0);
+            let to = from + na;
+            if !machine::has_partner(
+                abstraction.start,
+                abstraction.start,
+                &table[from..to],
+                65534,
+            ) {
+                return c;
+            }
+        }
+    }
+    nc
+}
+
+// The check: what the table says of the pair, or where it was stopped.
+pub fn check_table(p: Pair, table: &[u16]) -> Answer
+    ensures { λ r. ⌜ verdictOf r ≡ checkVerdict p (now (table .entry)) ⌝ }
+{
+    if table.len() < 28672 {
+        return Answer::Refused(Refusal {
+            number: machine::SHORT_BUFFER,
+            first: 0,
+            second: 0,
+            third: 0,
+        });
+    }
+    let valid = machine::pair_validity(p);
+    if let Validity::Refused(r) = valid {
+        return Answer::Refused(r);
+    }
+    let lines = lines_validity(p, machine::matched_masks(p), table);
+    if let Validity::Refused(r) = lines {
+        return Answer::Refused(r);
+    }
+    verdict_of_starts(p, table)
+}
+
+// What is said of a table that passes each line.
+fn verdict_of_starts(p: Pair, table: &[u16]) -> Answer
+    requires { ⌜ (wellFormed p ≡ true) × (28672 ≤ length (now table)) ⌝ }
+    ensures { λ r. ⌜ verdictOf r ≡ startVerdict p (now (table .entry)) ⌝ }
+{
+    let concrete = p.concrete;
+    let abstraction = p.abstraction;
+    let nc = concrete.states;
+    let na = abstraction.states;
+    let n = abstraction.sets;
+    let found = covered_count(table, n * (nc * na));
+    let c = lacking_start(p, table);
+    if c < nc {
+        Answer::NotCarried(c, found)
+    } else {
+        Answer::Carried(found)
+    }
+}
