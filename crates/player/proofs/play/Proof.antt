@@ -1,0 +1,221 @@
+use mathlib.Core.List.{[], _∷_}
+use mathlib.Core.Path.{_≡_, sym, ap, _∙_}
+use Prim.Native.Nat.{ℕ}
+use native.Mathlib.Omega.{arith}
+use borrow.Author.Needs.{needs}
+use denote.Enum.Declared.{tagOf}
+use types.Run.{OneOf, miss}
+use Rattle.machine.specs.declared.Partner.the-variants.{State}
+use Rattle.machine.specs.declared.Refusal.{Refusal}
+use Rattle.machine.specs.declared.Validity.the-variants.{Valid, Refused as Stopped}
+use Rattle.machine.specs.Machines.{starts}
+use Rattle.machine.specs.WellFormedLaws.{WellPair, well-valid}
+use Rattle.machine.specs.Lassos.{Lasso, moment}
+use Rattle.machine.specs.Step.{partner, stateOf}
+use Rattle.machine.specs.Table.{entry}
+use Rattle.machine.specs.Lines.{nonBlank}
+use Rattle.machine.specs.Verdict.{refused as check-refused}
+use Rattle.machine.specs.Player.{lassoValidity, startPartner}
+use Rattle.linecheck.specs.declared.Answer.{Answer}
+use Rattle.linecheck.specs.declared.Answer.the-variants.{Carried, NotCarried, Refused}
+use Rattle.linecheck.specs.Answers.{verdictOf}
+use Rattle.linecheck.proofs.Answer as answer
+use Rattle.plays.specs.PlayerLaws.{GoodLasso, good-lasso, Playable, playable}
+use Rattle.player.specs.Answers.{playedOf}
+use Rattle.player.specs.Given.{given}
+use Rattle.player.specs.AnswerLaws.{Passes, check-passes, stopped-by, short-run, check-stops, lasso-stops, start-stops, play-valid, run-answer, run-buffer}
+use Rattle.player.proofs.play.Statement.{statement}
+use Rattle.player.proofs.play.Tie as tie
+
+-- what is given
+abbrev top : tie.Else1 → tie.Start
+top c = c .before .before .before .before .before
+
+abbrev lasso : tie.Else1 → Lasso
+lasso c = given (top c .args .stem .now) (top c .args .cycle .now)
+
+stopped-requires : tie.Need-stopped-requires
+stopped-requires c κs = search needs
+
+returns : tie.Need-returns
+returns c =
+    let s = c .before .before .before .before .before .before in
+    let x = s .args in
+    let l = given (x .stem .now) (x .cycle .now) in
+    stopped-by (x .p) (x .table .now) l (x .run .now) (c .stopped .result)
+    (short-run (x .p) (x .table .now) l (x .run .now) (c .before .if1 .taken) ∙ ap Stopped (sym (c .stopped .ensures)))
+
+check-table-requires : tie.Need-check-table-requires
+check-table-requires c κs = search needs
+
+enum-known-checked : tie.Need-enum-known-checked
+enum-known-checked c = search needs
+
+returns-2 : tie.Need-returns-2
+unfolding verdictOf
+returns-2 c =
+    let d = c .before .before .before .before in
+    let x = top d .args in
+    let r = c .before .checked .given .0 .0 in
+    stopped-by (x .p) (x .table .now) (lasso d) (x .run .now) r
+    (check-stops (x .p) (x .table .now) (lasso d) (x .run .now) (d .if1 .left) r
+    (sym (c .before .before .before .check-table .ensures) ∙ ap verdictOf (c .before .checked .given .1)))
+
+-- the check has refused nothing
+never : (a : Answer) (r : Refusal) → OneOf (0 ∷ 1 ∷ []) (tagOf answer.the-type a) → verdictOf a ≡ check-refused r → ⊥
+unfolding verdictOf
+never (Carried n) r k e = let z : _≡_ {A = ℕ} 0 1 = cc in omega arith
+never (NotCarried c n) r k e = let z : _≡_ {A = ℕ} 0 1 = cc in omega arith
+never (Refused s) r k e = miss (0 ∷ 1 ∷ []) 2 tt k
+
+passes : (c : tie.At-match-keys2) → let d = c .before .before in Passes (top d .args .p) (top d .args .table .now)
+passes c =
+    let d = c .before .before in
+    check-passes (top d .args .p) (top d .args .table .now)
+    (λ r e. never (c .before .check-table .result) r (c .match .keys2) (c .before .check-table .ensures ∙ e))
+
+well : (c : tie.At-match-keys2) → WellPair (top (c .before .before) .args .p)
+well c = well-valid (top (c .before .before) .args .p) (passes c .pair)
+
+lasso-validity-requires : tie.Need-lasso-validity-requires
+lasso-validity-requires c κs = well c .concrete .sets-high
+
+enum-known-tested : tie.Need-enum-known-tested
+enum-known-tested c = search needs
+
+returns-3 : tie.Need-returns-3
+returns-3 c =
+    let m = c .before .before .before .before in
+    let d = m .before .before in
+    let x = top d .args in
+    let r = c .before .tested .given .0 .0 in
+    stopped-by (x .p) (x .table .now) (lasso d) (x .run .now) r
+    (lasso-stops (x .p) (x .table .now) (lasso d) (x .run .now) (d .if1 .left) (passes m) r
+    (sym (c .before .before .before .lasso-validity .ensures) ∙ c .before .tested .given .1))
+
+enum-told : tie.Need-enum-told
+enum-told c = search needs
+
+-- 13 to 15 are not refused
+abbrev checked : tie.After-enum-told → tie.At-match-keys2
+checked c = c .before .before .before
+
+tested : (c : tie.After-enum-told) → let d = checked c .before .before in lassoValidity (top d .args .p .concrete) (lasso d) ≡ Valid
+tested c = sym (c .before .before .lasso-validity .ensures) ∙ c .enum-told .given .1
+
+good : (c : tie.After-enum-told) → let d = checked c .before .before in GoodLasso (top d .args .p .concrete) (lasso d)
+good c = let d = checked c .before .before in good-lasso (top d .args .p .concrete) (lasso d) (tested c)
+
+matched-masks-requires : tie.Need-matched-masks-requires
+matched-masks-requires c κs = search needs
+
+state-at-requires : tie.Need-state-at-requires
+state-at-requires c κs = omega (arith, good (c .before .before) .some-loop)
+
+best-partner-requires : tie.Need-best-partner-requires
+unfolding starts
+best-partner-requires c κs =
+    let b = c .before .before .before .before in
+    let m = checked b in
+    let w = well m in (
+      record { well = w; masks = c .before .before .matched-masks .ensures; long = passes m .long },
+      (
+        (w .abstraction .sets-low, omega (arith, c .before .state-at .ensures, good b .right 0 (omega (arith, good b .some-loop)) .bound)),
+        λ i h t. w .abstraction .start-bits i h t,
+      ),
+    )
+
+-- the partner that is found is the definition's
+abbrev begun : tie.After-best-partner → tie.After-enum-told
+begun c = c .before .before .before .before .before
+
+first-is : (c : tie.After-best-partner) → let d = checked (begun c) .before .before in
+    c .best-partner .result ≡ startPartner (top d .args .p) (top d .args .table .now) (moment (lasso d) 0)
+unfolding startPartner
+first-is c =
+    let x = top (checked (begun c) .before .before) .args in
+    c .best-partner .ensures
+    ∙ ap (λ (b : ℕ). partner (x .p .abstraction .start) (nonBlank (x .p) (x .table .now) 0 b) (entry (x .p) (x .table .now) 0 b)) (c .before .before .state-at .ensures)
+
+enum-known-first : tie.Need-enum-known-first
+enum-known-first c = search needs
+
+enum-told-2 : tie.Need-enum-told-2
+enum-told-2 c = search needs
+
+stopped-requires-2 : tie.Need-stopped-requires-2
+stopped-requires-2 c κs = search needs
+
+returns-4 : tie.Need-returns-4
+returns-4 c =
+    let b = c .before .before .before in
+    let m = checked (begun b) in
+    let d = m .before .before in
+    let x = top d .args in
+    stopped-by (x .p) (x .table .now) (lasso d) (x .run .now) (c .stopped2 .result)
+    (start-stops (x .p) (x .table .now) (lasso d) (x .run .now) (d .if1 .left) (passes m) (tested (begun b)) (sym (first-is b) ∙ c .before .enum-told2 .given .1)
+    ∙ ap Stopped (sym (c .stopped2 .ensures)))
+
+-- nothing is refused
+named : (c : tie.After-best-partner) (a : ℕ) → c .best-partner .result ≡ State a → let d = checked (begun c) .before .before in
+    startPartner (top d .args .p) (top d .args .table .now) (moment (lasso d) 0) ≡ State a
+named c a e = sym (first-is c) ∙ e
+
+can-play : (c : tie.After-best-partner) (a : ℕ) → c .best-partner .result ≡ State a → let d = checked (begun c) .before .before in
+    Playable (top d .args .p) (top d .args .table .now) (lasso d)
+can-play c a e =
+    let m = checked (begun c) in
+    let d = m .before .before in
+    let x = top d .args in
+    playable (x .p) (x .table .now) (lasso d)
+    (play-valid (x .p) (x .table .now) (lasso d) (x .run .now) (d .if1 .left) (passes m) (tested (begun c)) a (named c a e))
+
+write-run-requires : tie.Need-write-run-requires
+unfolding stateOf
+write-run-requires c κs =
+    let b = c .before .before .before .before .before in
+    let a = c .before .before .before .first .given .0 .0 in
+    let e = c .before .before .before .first .given .1 in
+    let m = checked (begun b) in (
+      record { well = well m; masks = b .before .before .before .matched-masks .ensures; long = passes m .long },
+      (can-play b a e, (sym (ap stateOf (named b a e)), m .before .before .if1 .left)),
+    )
+
+same-length : tie.Need-same-length
+same-length c = search needs
+
+returns-5 : tie.Need-returns-5
+returns-5 c =
+    let b = c .before .before .before .before .before .before .before .before in
+    let g = c .before .before .before .before .before .before .first .given in
+    let m = checked (begun b) in
+    let d = m .before .before in
+    let x = top d .args in
+    let said = c .before .before .write-run .ensures in (
+      ap playedOf (said .0) ∙ run-answer (x .p) (x .table .now) (lasso d) (x .run .now) (d .if1 .left) (passes m) (tested (begun b)) (g .0 .0) (named b (g .0 .0) (g .1)),
+      said .1 ∙ run-buffer (x .p) (x .table .now) (lasso d) (x .run .now) (d .if1 .left) (passes m) (tested (begun b)) (g .0 .0) (named b (g .0 .0) (g .1)),
+    )
+
+pub play-spec : {M : Type 1} → statement M
+play-spec =
+    tie.close
+    (tie.spec
+    stopped-requires
+    returns
+    check-table-requires
+    enum-known-checked
+    returns-2
+    lasso-validity-requires
+    enum-known-tested
+    returns-3
+    enum-told
+    matched-masks-requires
+    state-at-requires
+    best-partner-requires
+    enum-known-first
+    enum-told-2
+    stopped-requires-2
+    returns-4
+    write-run-requires
+    same-length
+    returns-5)

@@ -1,0 +1,123 @@
+-- Laws of refusals 13 to 15, as the tests of the code go.
+use mathlib.Core.Bool.{true, false}
+use mathlib.Core.List.{List}
+use mathlib.Core.Path.{_≡_, refl, sym, ap, _∙_}
+use Prim.Native.Nat.{ℕ, suc, _-_, _≤_, _<_}
+use native.Mathlib.Omega.{arith}
+use lib.ListN.{length, getD, List·getD-eq-default}
+use lib.Dec.{eqb, ltb}
+use borrow.Author.Tests.{eqb-true, eqb-false, eq-eqb, ne-eqb, lt-ltb, le-ltb, le-leb, lt-leb}
+use Rattle.mask.specs.Logic.{not, and}
+use Rattle.mask.specs.LogicLaws.{cond-cases, or-l, or-r, or-false, or-false-l, not-i, not-f, and-true-l, and-false-l}
+use Rattle.mask.specs.Bits.{hasBit}
+use Rattle.mask.specs.BitsLaws.{has-none}
+use Rattle.mask.specs.Bounded.{first}
+use Rattle.mask.specs.BoundedLaws.{some-of, some-none, first-is, first-none}
+use Rattle.machine.specs.declared.Machine.{Machine}
+use Rattle.machine.specs.declared.Validity.the-variants.{Valid, Refused}
+use Rattle.machine.specs.Refusals.{refusal, bad-lasso-length, bad-lasso-step, unfair-lasso}
+use Rattle.machine.specs.Machines.{successors, moves, starts, fairSet, inFairSet}
+use Rattle.machine.specs.Lassos.{Lasso, lassoLength, moment}
+use Rattle.machine.specs.Player.{badLength, badStep, missedSet, lassoValidity}
+use Rattle.plays.specs.PlayLaws.{moment-loop, moment-again}
+use Rattle.player.specs.Given.{noneIn}
+
+-- ---- states and moves
+-- the state at a position of the loop
+pub moment-cycle : (l : Lasso) (i : ℕ) → length (l .stem) ≤ i → i < lassoLength l → getD (l .loop) (i - length (l .stem)) 0 ≡ moment l i
+moment-cycle l i h k = sym (moment-loop l (i - length (l .stem)) (omega arith)) ∙ ap (moment l) (omega arith)
+
+-- after the loop's last state comes its first
+pub moment-closing : (l : Lasso) (i : ℕ) → suc i ≡ lassoLength l → moment l (suc i) ≡ moment l (length (l .stem))
+moment-closing l i e = ap (moment l) e ∙ moment-again l (length (l .stem)) (omega arith)
+
+-- a state past the machine's entries has no successor
+pub moves-past : (m : Machine) (s t : ℕ) → length (m .successors) ≤ s → moves m s t ≡ false
+unfolding moves successors
+moves-past m s t h = rw (List·getD-eq-default (m .successors) 0 h) (has-none t)
+
+-- ---- 13
+module _ (l : Lasso) where
+  pub empty-loop : length (l .loop) ≡ 0 → badLength l ≡ true
+  unfolding badLength
+  empty-loop e = or-l _ (eq-eqb _ _ e)
+
+  pub over-long : 64 < lassoLength l → badLength l ≡ true
+  unfolding badLength
+  over-long h = or-r _ (lt-ltb _ _ h)
+
+  pub fit-length : (length (l .loop) ≡ 0 → ⊥) → lassoLength l ≤ 64 → badLength l ≡ false
+  unfolding badLength
+  fit-length d h = or-false (ne-eqb _ _ d) (le-ltb _ _ h)
+
+-- ---- 14
+module _ (m : Machine) (l : Lasso) (i : ℕ) where
+  -- position i is entered rightly
+  pub record Entered : Type 0 where
+    pub start : i ≡ 0 → starts m (moment l 0) ≡ true
+    pub entered : (i ≡ 0 → ⊥) → moves m (moment l (i - 1)) (moment l i) ≡ true
+
+  pub bad-state : m .states ≤ moment l i → badStep m l i ≡ true
+  unfolding badStep
+  bad-state h = or-l _ (le-leb _ _ h)
+
+  pub bad-start : i ≡ 0 → starts m (moment l i) ≡ false → badStep m l i ≡ true
+  unfolding badStep
+  bad-start e f = or-r _ (or-l _ (rw (eq-eqb i 0 e) (not-i (ap (λ (j : ℕ). starts m (moment l j)) (sym e) ∙ f))))
+
+  pub bad-entry : (i ≡ 0 → ⊥) → moves m (moment l (i - 1)) (moment l i) ≡ false → badStep m l i ≡ true
+  unfolding badStep
+  bad-entry d f = or-r _ (or-l _ (rw (ne-eqb i 0 d) (not-i f)))
+
+  -- what is left to test where the state is one of the machine's and is entered rightly
+  rest : moment l i < m .states → Entered → badStep m l i ≡ and (eqb (suc i) (lassoLength l)) (not (moves m (moment l i) (moment l (suc i))))
+  unfolding badStep
+  rest h r = or-false-l _ (lt-leb _ _ h) ∙ or-false-l _ (cond-cases (eqb i 0) (λ b. b ≡ false)
+      (not (starts m (moment l 0))) (not (moves m (moment l (i - 1)) (moment l i)))
+      (λ t. not-f (r .start (eqb-true _ _ t))) (λ t. not-f (r .entered (eqb-false _ _ t))))
+
+  -- before the last position nothing is; at the last position, the closing step
+  pub good-before : moment l i < m .states → Entered → suc i < lassoLength l → badStep m l i ≡ false
+  good-before h r k = rest h r ∙ and-false-l _ (ne-eqb (suc i) (lassoLength l) (λ e. omega arith))
+
+  pub closing : moment l i < m .states → Entered → suc i ≡ lassoLength l
+      → badStep m l i ≡ not (moves m (moment l i) (moment l (length (l .stem))))
+  closing h r e = rest h r ∙ and-true-l _ (eq-eqb _ _ e) ∙ ap (λ (s : ℕ). not (moves m (moment l i) s)) (moment-closing l i e)
+
+-- ---- 15
+pub missed-is : (m : Machine) (l : Lasso) (k : ℕ) → missedSet m l k ≡ noneIn (getD (m .fairness) k 0) (l .loop)
+unfolding missedSet noneIn inFairSet fairSet
+missed-is m l k = refl
+
+pub none-of : (members : ℕ) (cycle : List ℕ) → ((i : ℕ) → i < length cycle → hasBit members (getD cycle i 0) ≡ false) → noneIn members cycle ≡ true
+unfolding noneIn
+none-of members cycle h = not-i (some-none (length cycle) _ h)
+
+pub none-not : (members : ℕ) (cycle : List ℕ) (i : ℕ) → i < length cycle → hasBit members (getD cycle i 0) ≡ true → noneIn members cycle ≡ false
+unfolding noneIn
+none-not members cycle i h t = not-f (some-of (length cycle) _ i h t)
+
+-- ---- 13 to 15 together, each after all that is tested before it
+module _ (m : Machine) (l : Lasso) where
+  pub refused-length : badLength l ≡ true → lassoValidity m l ≡ Refused (refusal bad-lasso-length 0 0 0)
+  unfolding lassoValidity
+  refused-length e = rw e
+
+  module _ (fit : badLength l ≡ false) where
+    pub refused-step : (i : ℕ) → i < lassoLength l → badStep m l i ≡ true → ((k : ℕ) → k < i → badStep m l k ≡ false)
+        → lassoValidity m l ≡ Refused (refusal bad-lasso-step i 0 0)
+    unfolding lassoValidity
+    refused-step i h e b = rw (fit, first-is (lassoLength l) (badStep m l) i h e b, lt-ltb i (lassoLength l) h)
+
+    module _ (stepped : (i : ℕ) → i < lassoLength l → badStep m l i ≡ false) where
+      steps-done : ltb (first (lassoLength l) (badStep m l)) (lassoLength l) ≡ false
+      steps-done = le-ltb (first (lassoLength l) (badStep m l)) (lassoLength l) (omega (arith, first-none (lassoLength l) (badStep m l) stepped))
+
+      pub refused-set : (k : ℕ) → k < m .sets → missedSet m l k ≡ true → ((i : ℕ) → i < k → missedSet m l i ≡ false)
+          → lassoValidity m l ≡ Refused (refusal unfair-lasso (suc k) 0 0)
+      unfolding lassoValidity
+      refused-set k h e b = rw (fit, steps-done, first-is (m .sets) (missedSet m l) k h e b, lt-ltb k (m .sets) h)
+
+      pub not-refused : ((k : ℕ) → k < m .sets → missedSet m l k ≡ false) → lassoValidity m l ≡ Valid
+      unfolding lassoValidity
+      not-refused b = rw (fit, steps-done, first-none (m .sets) (missedSet m l) b, le-ltb (m .sets) (m .sets) (omega arith))

@@ -1,0 +1,55 @@
+-- Laws of the run as it is written, one byte a moment.
+use mathlib.Core.List.{List, [], _∷_, _++_}
+use mathlib.Core.Path.{_≡_, refl, sym, ap}
+use Prim.Native.Nat.{ℕ, zero, suc, _+_, _-_, _*_, _≤_, _<_}
+use native.Mathlib.Omega.{arith}
+use lib.ListN.{length, drop, set}
+use lib.Seq.{drop-cons, append-snoc, set-at}
+use Rattle.mask.specs.Tables.{table}
+use Rattle.mask.specs.TablesLaws.{table-length}
+use Rattle.machine.specs.declared.Pair.{Pair}
+use Rattle.machine.specs.WellFormedLaws.{mul-bound}
+use Rattle.machine.specs.Lassos.{Lasso}
+use Rattle.machine.specs.Player.{placeAt, loopStart, lastRound, earlierRound, stemLength, loopLength, run}
+use Rattle.plays.specs.PlayerLaws.{Playable, player-run}
+use Rattle.player.specs.declared.Place.{Place}
+use Rattle.player.specs.Places.{momentOf, Placed, writtenTo, written}
+
+table-snoc : (n : ℕ) (f : ℕ → ℕ) → table (suc n) f ≡ table n f ++ f n ∷ []
+unfolding table
+table-snoc zero f = refl
+table-snoc (suc n) f = ap (λ (r : List ℕ). f 0 ∷ r) (table-snoc n (λ i. f (suc i)))
+
+module _ (p : Pair) (T : List ℕ) (l : Lasso) where
+  pub written-none : (buffer : List ℕ) → buffer ≡ writtenTo p T l 0 buffer
+  unfolding writtenTo table
+  written-none buffer = refl
+
+  pub written-more : (t : ℕ) (buffer : List ℕ) → t < length buffer → set (writtenTo p T l t buffer) t (placeAt p T l t .state) ≡ writtenTo p T l (suc t) buffer
+  unfolding writtenTo
+  written-more t buffer h =
+      let f : ℕ → ℕ = λ t. placeAt p T l t .state in
+      rw (drop-cons buffer t 0 h, set-at (table t f) _ (drop (suc t) buffer) (f t) t (table-length t f), table-snoc t f) (sym (append-snoc (table t f) (f t) (drop (suc t) buffer)))
+
+  -- the run is whole at the later of the two loop starts
+  pub written-whole : (n : ℕ) (buffer : List ℕ) → lastRound p T l ≡ n → writtenTo p T l (loopStart p T l n) buffer ≡ written p T l buffer
+  unfolding writtenTo written run
+  written-whole n buffer e = rw (e, table-length)
+
+  pub stem-is : (x : ℕ) → earlierRound p T l ≡ x → length (l .stem) + x * length (l .loop) ≡ stemLength p T l
+  unfolding stemLength
+  stem-is x e = rw e
+
+  pub loop-is : (x y : ℕ) → earlierRound p T l ≡ x → lastRound p T l ≡ y → (y - x) * length (l .loop) ≡ loopLength p T l
+  unfolding loopLength
+  loop-is x y e f = rw (e, f)
+
+-- before the last round there is room
+module _ {p : Pair} {T : List ℕ} {l : Lasso} (k : Playable p T l) where
+  pub rounds-low : (x : ℕ) → x ≤ 448 → x * length (l .loop) ≤ 28672
+  rounds-low x h = mul-bound x (length (l .loop)) 448 64 h (omega (arith, k .good .short))
+
+  pub room-left : {at : Place} → Placed l at → at .round < lastRound p T l → momentOf (length (l .loop)) at < 28672
+  room-left {at} h b =
+      let r : at .round ≤ 447 = omega (arith, player-run p T l k .soon) in
+      omega (arith, h .within, k .good .short, mul-bound (at .round) (length (l .loop)) 447 64 r (omega (arith, k .good .short)))

@@ -1,0 +1,82 @@
+-- The statements' proofs.
+use mathlib.Core.List.{List, _++_}
+use mathlib.Core.Path.{_≡_, refl, ap, _∙_}
+use Prim.Native.Nat.{ℕ, _+_, _≤_}
+use native.Mathlib.Omega.{arith}
+use lib.ListN.{length, take, drop, length-append, length-drop}
+use lib.Seq.{take-append-le, drop-append-le, take-at, drop-at}
+use Rattle.machine.specs.declared.Pair.{Pair}
+use Rattle.machine.specs.declared.Refusal.{Refusal}
+use Rattle.machine.specs.declared.Validity.{Validity}
+use Rattle.machine.specs.declared.Validity.the-variants.{Valid, Refused}
+use Rattle.machine.specs.WellFormedLaws.{then-valid}
+use Rattle.machine.specs.Lassos.{Lasso}
+use Rattle.machine.specs.Player.{played, refused, playedUnless, keptUnless, allValidity, playerAnswer, playerBuffer, playValidity, run, stemLength, loopLength}
+use Rattle.plays.specs.Statements.{IsRun}
+use Rattle.plays.specs.PlayerLaws.{playable, good-play, player-run}
+use Rattle.player.specs.Statements.{lassoIn, RunGiven, GivenRunIsRight, RefusalKeepsBuffer}
+use Rattle.player.specs.AnswerLaws.{buffer-long}
+
+-- ---- what an answer tells of the tests
+unless-played : (v : Validity) (x y s q : ℕ) → playedUnless v (played x y) ≡ played s q → (v ≡ Valid) × (x ≡ s) × (y ≡ q)
+unfolding playedUnless
+unless-played Valid x y s q e = (refl, cc, cc)
+unless-played (Refused r) x y s q e = let z : _≡_ {A = ℕ} 0 1 = cc in absurd (omega arith)
+
+kept-unless : (v : Validity) (x y : ℕ) (r : Refusal) (buffer out : List ℕ) → playedUnless v (played x y) ≡ refused r → keptUnless v buffer out ≡ buffer
+unfolding playedUnless keptUnless
+kept-unless Valid x y r buffer out e = let z : _≡_ {A = ℕ} 0 1 = cc in absurd (omega arith)
+kept-unless (Refused s) x y r buffer out e = refl
+
+pub refusal-keeps-buffer : RefusalKeepsBuffer
+unfolding playerAnswer playerBuffer
+refusal-keeps-buffer p T l buffer r e = kept-unless (allValidity p T l buffer) (stemLength p T l) (loopLength p T l) r buffer (run p T l) e
+
+-- ---- the run in the buffer
+-- of a list with something after it, its front and its rest
+cut-front : (s q : ℕ) (out rest : List ℕ) → length out ≡ s + q → take s (out ++ rest) ≡ take s out
+cut-front s q out rest e = take-append-le s out rest (omega arith)
+
+cut-back : (s q : ℕ) (out rest : List ℕ) → length out ≡ s + q → take q (drop s (out ++ rest)) ≡ drop s out
+cut-back s q out rest e =
+    rw (drop-append-le s out rest (omega arith)) (take-at (drop s out) rest q (length-drop s out ∙ omega arith))
+
+module _ (p : Pair) (T : List ℕ) (l : Lasso) (buffer : List ℕ) (valid : allValidity p T l buffer ≡ Valid) where
+  buffer-is : playerBuffer p T l buffer ≡ run p T l ++ drop (length (run p T l)) buffer
+  unfolding playerBuffer keptUnless
+  buffer-is = rw valid
+
+  tests : (28672 ≤ length buffer) × (playValidity p T l ≡ Valid)
+  unfolding allValidity
+  tests =
+      let b = then-valid _ _ (then-valid _ _ valid .1) in
+      (buffer-long (length buffer) (b .0), b .1)
+
+  run-is : IsRun p T l
+  run-is = player-run p T l (playable p T l (tests .1))
+
+  -- the bytes that the answer tells of are the run
+  bytes-are : lassoIn (stemLength p T l) (loopLength p T l) (playerBuffer p T l buffer)
+      ≡ record { stem = take (stemLength p T l) (run p T l); loop = drop (stemLength p T l) (run p T l) }
+  bytes-are =
+      let s = stemLength p T l in
+      let q = loopLength p T l in
+      let rest = drop (length (run p T l)) buffer in
+      rw buffer-is (λ i. record { stem = cut-front s q (run p T l) rest (run-is .whole) i; loop = cut-back s q (run p T l) rest (run-is .whole) i })
+
+  given : RunGiven p T l buffer (stemLength p T l) (loopLength p T l)
+  given = record {
+    asked = good-play (p .concrete) l (playable p T l (tests .1) .good);
+    fair = rw bytes-are (run-is .fair);
+    agrees = rw bytes-are (run-is .agrees);
+    fits = omega (arith, run-is .fits, run-is .whole);
+    long = rw buffer-is (simp (length-append, length-drop) (omega (arith, run-is .fits, tests .0)));
+    past = rw buffer-is (drop-at (run p T l) (drop (length (run p T l)) buffer) (stemLength p T l + loopLength p T l) (run-is .whole)
+        ∙ ap (λ (n : ℕ). drop n buffer) (run-is .whole));
+  }
+
+pub given-run-is-right : GivenRunIsRight
+unfolding playerAnswer
+given-run-is-right p T l buffer s q e =
+    let u = unless-played (allValidity p T l buffer) (stemLength p T l) (loopLength p T l) s q e in
+    rw (u .1, u .2) at (given p T l buffer (u .0))
