@@ -1,0 +1,82 @@
+use Prim.Native.Nat.{ℕ, _+_, _-_, _*_, _≤_}
+use mathlib.Core.List.{List}
+use mathlib.Core.Path.{_≡_, refl, ap, _∙_}
+use native.Mathlib.Omega.{arith}
+use lib.ListN.{length, set, length-set}
+use borrow.Author.Needs.{needs}
+use Rattle.codec.specs.Format.{numberAt}
+use Rattle.codec.specs.Loading.{front}
+use Rattle.codec.specs.FrontLaws.{front-none, front-turn}
+use Rattle.codec.proofs.reader.entries_at.Statement.{statement}
+use Rattle.codec.proofs.reader.entries_at.Tie as tie
+
+abbrev Inv-loop : tie.InvT-loop
+Inv-loop q at count table₀ e₀ table e = (e ≤ count) × (length table ≡ length table₀) × (table ≡ front e (λ i. numberAt 2 q (at + 2 * i)) table₀)
+
+abbrev μ-loop : tie.MeasureT-loop
+μ-loop q at count table₀ e₀ table e = count - e
+
+loop-holds : tie.Need-loop-holds Inv-loop μ-loop
+loop-holds c = (omega arith, refl, front-none _ _)
+
+mul-number-at : tie.Need-mul-number-at Inv-loop μ-loop
+mul-number-at c = search needs
+
+add-number-at : tie.Need-add-number-at Inv-loop μ-loop
+add-number-at c = search needs
+
+number-at-requires : tie.Need-number-at-requires Inv-loop μ-loop
+number-at-requires c κs = search needs
+
+cast-table : tie.Need-cast-table Inv-loop μ-loop
+cast-table c = omega (arith, c .number-at .ensures .1)
+
+mul-table : tie.Need-mul-table Inv-loop μ-loop
+mul-table c = search needs
+
+slice-write-table : tie.Need-slice-write-table Inv-loop μ-loop
+slice-write-table c = search needs
+
+add-e : tie.Need-add-e Inv-loop μ-loop
+add-e c = search needs
+
+loop-less : tie.Need-loop-less Inv-loop μ-loop
+loop-less c = search needs
+
+loop-again : tie.Need-loop-again Inv-loop μ-loop
+loop-again c =
+    let l = c .before .before .loop in
+    let a = c .before .before .before .before .before .args in
+    let g : ℕ → ℕ = λ i. numberAt 2 (a .q .now) (a .at + 2 * i) in (
+      omega arith,
+      length-set (l .table) (l .e) (c .number-at .result) ∙ l .inv .1,
+      ap (λ (m : List ℕ). set m (l .e) (c .number-at .result)) (l .inv .2)
+          ∙ front-turn g (a .table .now) (l .e) (c .number-at .result) (omega arith) (c .number-at .ensures .0),
+    )
+
+same-length : tie.Need-same-length Inv-loop μ-loop
+same-length c = c .before .loop .inv .1
+
+returns : tie.Need-returns Inv-loop μ-loop
+returns c =
+    let a = c .before .before .before .before .args in
+    c .before .loop .inv .2 ∙ ap (λ (n : ℕ). front n (λ i. numberAt 2 (a .q .now) (a .at + 2 * i)) (a .table .now)) (omega arith)
+
+pub entries-at-spec : {M : Type 1} → statement M
+entries-at-spec =
+    tie.close
+    (tie.spec
+    Inv-loop
+    μ-loop
+    loop-holds
+    mul-number-at
+    add-number-at
+    number-at-requires
+    cast-table
+    mul-table
+    slice-write-table
+    add-e
+    loop-less
+    loop-again
+    same-length
+    returns)

@@ -1,0 +1,64 @@
+use Prim.Native.Nat.{ℕ, _+_, _-_, _≤_}
+use mathlib.Core.Path.{_≡_, refl, ap, _∙_}
+use native.Mathlib.Omega.{arith}
+use mathlib.Core.List.{List}
+use lib.ListN.{getD, set, length, length-set, replicate, length-replicate}
+use borrow.Author.Needs.{needs}
+use Rattle.codec.specs.Loading.{front}
+use Rattle.codec.specs.FrontLaws.{front-none, front-turn}
+use Rattle.codec.proofs.reader.observations_at.Statement.{statement}
+use Rattle.codec.proofs.reader.observations_at.Tie as tie
+
+abbrev Inv-loop : tie.InvT-loop
+Inv-loop q at n out₀ s₀ out s = (s ≤ n) × (length out ≡ 64) × (out ≡ front s (λ k. getD q (at + k) 0) (replicate 64 0))
+
+abbrev μ-loop : tie.MeasureT-loop
+μ-loop q at n out₀ s₀ out s = n - s
+
+loop-holds : tie.Need-loop-holds Inv-loop μ-loop
+loop-holds c = (omega arith, length-replicate {A = ℕ} 64 0, front-none _ _)
+
+add-out : tie.Need-add-out Inv-loop μ-loop
+add-out c = search needs
+
+shared-slice-read-out : tie.Need-shared-slice-read-out Inv-loop μ-loop
+shared-slice-read-out c = search needs
+
+array-write-out : tie.Need-array-write-out Inv-loop μ-loop
+array-write-out c = search needs
+
+add-s : tie.Need-add-s Inv-loop μ-loop
+add-s c = search needs
+
+loop-less : tie.Need-loop-less Inv-loop μ-loop
+loop-less c = search needs
+
+loop-again : tie.Need-loop-again Inv-loop μ-loop
+loop-again c =
+    let l = c .before .before .loop in
+    let a = c .before .before .before .args in
+    let v = getD (a .q .now) (a .at + l .s) 0 in (
+      omega arith,
+      length-set (l .out) (l .s) v ∙ l .inv .1,
+      ap (λ (m : List ℕ). set m (l .s) v) (l .inv .2) ∙ front-turn (λ k. getD (a .q .now) (a .at + k) 0) (replicate 64 0) (l .s) v (omega (arith, length-replicate {A = ℕ} 64 0)) refl,
+    )
+
+returns : tie.Need-returns Inv-loop μ-loop
+returns c =
+    let a = c .before .before .args in
+    c .before .loop .inv .2 ∙ ap (λ (n : ℕ). front n (λ k. getD (a .q .now) (a .at + k) 0) (replicate 64 0)) (omega arith)
+
+pub observations-at-spec : {M : Type 1} → statement M
+observations-at-spec =
+    tie.close
+    (tie.spec
+    Inv-loop
+    μ-loop
+    loop-holds
+    add-out
+    shared-slice-read-out
+    array-write-out
+    add-s
+    loop-less
+    loop-again
+    returns)

@@ -1,0 +1,160 @@
+-- Document 01: how a file is read, with refusals 1 to 11 in its order.
+use mathlib.Core.Bool.{Bool, true, false, cond}
+use mathlib.Core.List.{List, [], _++_}
+use Prim.Native.Nat.{ℕ, suc, _+_, _-_, _*_, _/_, _%_}
+use lib.ListN.{length, getD, drop, replicate}
+use lib.Dec.{eqb, leb, ltb}
+use Rattle.mask.specs.Logic.{not, and, or}
+use Rattle.mask.specs.Bounded.{every, first}
+use Rattle.mask.specs.Tables.{table}
+use Rattle.machine.specs.declared.Machine.{Machine}
+use Rattle.machine.specs.declared.Pair.{Pair}
+use Rattle.machine.specs.declared.Refusal.{Refusal}
+use Rattle.machine.specs.declared.Validity.{Validity}
+use Rattle.machine.specs.declared.Validity.the-variants.{Valid, Refused}
+use Rattle.machine.specs.Refusals.{refusal, andThen, bad-length, bad-first-block, bad-header, bad-counts, wrong-length, bad-block, bad-padding}
+use Rattle.machine.specs.Machines.{nC, nA, setsC, setsA}
+use Rattle.machine.specs.WellFormed.{countsOk, pairValidity}
+use Rattle.machine.specs.Table.{entries}
+use Rattle.machine.specs.Verdict.{bufferValidity, tableRoom}
+use Rattle.codec.specs.Format.{letters, numberAt, payloadLength, fileLength, checkAt}
+
+-- what a reading can be: the machines, the note whether a table came and the lent table's final content, or a refusal
+pub data Read : Type 0 where
+  taken : Pair → Bool → Read
+  refused : Refusal → Read
+
+-- ---- blocks
+-- the check of block i holds
+unfoldable pub checkHolds : List ℕ → ℕ → Bool
+checkHolds f i = eqb (numberAt 2 f (512 * i + 510)) (checkAt f (512 * i))
+
+-- the number of block i is its place
+unfoldable pub numberHolds : List ℕ → ℕ → Bool
+numberHolds f i = eqb (numberAt 2 f (512 * i)) i
+
+unfoldable pub blockHolds : List ℕ → ℕ → Bool
+blockHolds f i = and (checkHolds f i) (numberHolds f i)
+
+-- the payloads of the first n blocks, joined
+unfoldable pub payloadOf : List ℕ → ℕ → List ℕ
+payloadOf f n = table (508 * n) (λ k. getD f (512 * (k / 508) + 2 + k % 508) 0)
+
+-- ---- the first block
+-- byte k of the payload, which the first block holds
+unfoldable pub headerByte : List ℕ → ℕ → ℕ
+headerByte f k = getD f (2 + k) 0
+
+-- the note whether a table follows
+unfoldable pub noteOf : List ℕ → Bool
+noteOf f = eqb (headerByte f 9) 1
+
+-- 4: "letters, a zero or the table byte wrong"
+unfoldable pub headerHolds : List ℕ → Bool
+headerHolds f =
+    and (every 4 (λ i. eqb (headerByte f i) (getD letters i 0)))
+    (and (eqb (headerByte f 8) 0) (and (leb (headerByte f 9) 1) (every 6 (λ i. eqb (headerByte f (10 + i)) 0))))
+
+-- 5, by the first block
+unfoldable pub countsHold : List ℕ → Bool
+countsHold f = and (countsOk 8 (headerByte f 4) (headerByte f 6)) (countsOk 7 (headerByte f 5) (headerByte f 7))
+
+-- 2 to 5: all that rests on the first block
+unfoldable pub firstValidity : List ℕ → Validity
+firstValidity f =
+    cond (or (eqb (length f) 0) (not (eqb (length f % 512) 0))) (Refused (refusal bad-length 0 0 0))
+    (cond (not (blockHolds f 0)) (Refused (refusal bad-first-block 0 0 0))
+    (cond (not (headerHolds f)) (Refused (refusal bad-header 0 0 0))
+    (cond (not (countsHold f)) (Refused (refusal bad-counts 0 0 0)) Valid)))
+
+-- the length that the counts demand
+unfoldable pub demanded : List ℕ → ℕ
+demanded f = fileLength (headerByte f 4) (headerByte f 5) (headerByte f 6) (headerByte f 7) (noteOf f)
+
+-- ---- the whole file
+-- the first of the later blocks whose check or number is wrong; the file's blocks where none is
+unfoldable pub badBlock : List ℕ → ℕ
+badBlock f = suc (first (length f / 512 - 1) (λ i. not (blockHolds f (suc i))))
+
+-- 8: "padding not zero"
+unfoldable pub paddingHolds : List ℕ → Bool
+paddingHolds f =
+    let len = payloadLength (headerByte f 4) (headerByte f 5) (headerByte f 6) (headerByte f 7) (noteOf f) in
+    let n = length f / 512 in
+    every (508 * n) (λ k. or (ltb k len) (eqb (getD f (512 * (k / 508) + 2 + k % 508) 0) 0))
+
+-- 6 to 8
+unfoldable pub blocksValidity : List ℕ → Validity
+blocksValidity f =
+    let b = badBlock f in
+    cond (not (eqb (length f) (demanded f))) (Refused (refusal wrong-length 0 0 0))
+    (cond (ltb b (length f / 512)) (Refused (refusal bad-block b 0 0))
+    (cond (not (paddingHolds f)) (Refused (refusal bad-padding 0 0 0)) Valid))
+
+-- ---- what the payload holds
+-- a machine of N states and some sets, at a place of the payload; entries beyond the counts are zero
+unfoldable pub machineAt : List ℕ → ℕ → ℕ → ℕ → Machine
+machineAt Q at N sets = record {
+  states = N;
+  sets = sets;
+  start = numberAt 8 Q (at + N);
+  observations = table 64 (λ s. cond (ltb s N) (getD Q (at + s) 0) 0);
+  successors = table 64 (λ s. cond (ltb s N) (numberAt 8 Q (at + N + 8 + 8 * s)) 0);
+  fairness = table 8 (λ k. cond (ltb k sets) (numberAt 8 Q (at + 9 * N + 8 + 8 * k)) 0);
+}
+
+-- the machines of a file whose blocks hold
+unfoldable pub pairOf : List ℕ → Pair
+pairOf f =
+    let Q = payloadOf f (length f / 512) in
+    let c = headerByte f 4 in
+    let m = headerByte f 6 in
+    record { concrete = machineAt Q 16 c m; abstraction = machineAt Q (24 + 9 * c + 8 * m) (headerByte f 5) (headerByte f 7) }
+
+-- its table's entries
+unfoldable pub entriesOf : List ℕ → List ℕ
+entriesOf f =
+    let Q = payloadOf f (length f / 512) in
+    let p = pairOf f in
+    let at = payloadLength (nC p) (nA p) (setsC p) (setsA p) false in
+    table (entries p) (λ e. numberAt 2 Q (at + 2 * e))
+
+-- all that the reader tests: 1 to 11
+unfoldable pub readValidity : List ℕ → ℕ → Validity
+readValidity f room =
+    andThen (bufferValidity tableRoom room) (andThen (firstValidity f) (andThen (blocksValidity f) (pairValidity (pairOf f))))
+
+unfoldable pub takenUnless : Validity → Read → Read
+takenUnless Valid r = r
+takenUnless (Refused r) v = refused r
+
+-- the reader's whole answer, for a file f and a lent table T
+unfoldable pub readAnswer : List ℕ → List ℕ → Read
+readAnswer f T = takenUnless (readValidity f (length T)) (taken (pairOf f) (noteOf f))
+
+-- the lent table's final content: "A file without a table leaves the lent table unchanged", and so does a refusal
+unfoldable pub tableUnless : Validity → Bool → List ℕ → List ℕ → List ℕ
+tableUnless Valid note read T = cond note (read ++ drop (length read) T) T
+tableUnless (Refused r) note read T = T
+
+unfoldable pub readTable : List ℕ → List ℕ → List ℕ
+readTable f T = tableUnless (readValidity f (length T)) (noteOf f) (entriesOf f) T
+
+-- "Beside a refusal all machines .. in the result are zero"
+unfoldable pub zeroMachine : Machine
+zeroMachine = record { states = 0; sets = 0; start = 0; observations = replicate 64 0; successors = replicate 64 0; fairness = replicate 8 0 }
+
+unfoldable pub zeroPair : Pair
+zeroPair = record { concrete = zeroMachine; abstraction = zeroMachine }
+
+-- what the first block tells: the length in bytes that the whole file must have, or a refusal
+pub data Sized : Type 0 where
+  bytes : ℕ → Sized
+  refused : Refusal → Sized
+
+unfoldable pub sizedUnless : Validity → ℕ → Sized
+sizedUnless Valid n = bytes n
+sizedUnless (Refused r) n = refused r
+
+unfoldable pub sizeOf : List ℕ → Sized
+sizeOf f = sizedUnless (firstValidity f) (demanded f)

@@ -1,0 +1,328 @@
+-- Laws of reading: what the tests of a file give, and what each part of the reader computes, as the definitions of Reader say it.
+use mathlib.Core.Bool.{Bool, true, false, cond}
+use mathlib.Core.List.{List, _++_}
+use mathlib.Core.Logic.{⊎-elim, by-cases}
+use mathlib.Core.Path.{_≡_, refl, sym, ap, _∙_}
+use Prim.Native.Nat.{ℕ, zero, suc, _+_, _-_, _*_, _/_, _%_, _≤_, _<_}
+use native.Mathlib.Decide.{decLt}
+use native.Mathlib.Omega.{arith}
+use lib.ListN.{length, getD, drop, replicate, length-replicate}
+use lib.Dec.{eqb, ltb}
+use borrow.Author.Tests.{eqb-true, eqb-false, ne-eqb, lt-ltb, ltb-true, ltb-false}
+use Rattle.mask.specs.Logic.{not}
+use Rattle.mask.specs.LogicLaws.{both, cond-cases, and-l, and-r, or-none, or-l, or-r, or-e, not-i, not-f, not-not}
+use Rattle.mask.specs.Bounded.{every}
+use Rattle.mask.specs.BoundedLaws.{every-at, every-of, every-cong, first-is, first-none, first-before}
+use Rattle.mask.specs.Tables.{table}
+use Rattle.mask.specs.TablesLaws.{table-length, table-cong}
+use Rattle.machine.specs.declared.Pair.{Pair}
+use Rattle.machine.specs.declared.Refusal.{Refusal}
+use Rattle.machine.specs.declared.Validity.{Validity}
+use Rattle.machine.specs.declared.Validity.the-variants.{Valid, Refused}
+use Rattle.machine.specs.Refusals.{refusal, andThen, short-buffer, wrong-length}
+use Rattle.machine.specs.WellFormed.{pairValidity}
+use Rattle.machine.specs.WellFormedLaws.{valid-next, then-of, counts-at, mul-bound}
+use Rattle.machine.specs.Verdict.{tableRoom}
+use Rattle.codec.specs.declared.Reading.the-variants as reading
+use Rattle.codec.specs.declared.Size.the-variants as size
+use Rattle.codec.specs.Format.{numberAt, payloadLength, fileLength, blocksFor}
+use Rattle.codec.specs.Reader.{Read, taken, blockHolds, headerByte, noteOf, headerHolds, countsHold, firstValidity, demanded, badBlock, paddingHolds, blocksValidity, payloadOf, machineAt, pairOf, entriesOf, readValidity, takenUnless, tableUnless, sizedUnless, sizeOf}
+use Rattle.codec.specs.Answers.{showFor, sizeFor}
+use Rattle.codec.specs.Loading.{payloadDemanded, entriesPlace, entriesCount, front, payloadByte, Loaded}
+use Rattle.codec.specs.NumberLaws.{number-cong}
+use Rattle.codec.specs.FrontLaws.{front-length, front-zeros, front-padded}
+use Rattle.codec.specs.WriterLaws.{buffer-short, buffer-long}
+
+holds : {b : Bool} → not b ≡ false → b ≡ true
+holds {b} e = sym (not-not b) ∙ not-i e
+
+-- ---- the first block
+-- the six zeros, as they stand in the file
+pub zeros-header : (f : List ℕ) → every 6 (λ i. eqb (getD f (12 + i) 0) 0) ≡ every 6 (λ i. eqb (headerByte f (10 + i)) 0)
+unfolding headerByte
+zeros-header f = every-cong 6 _ _ (λ i l. ap (λ (k : ℕ). eqb (getD f k 0) 0) (omega arith))
+
+-- the products of counts that are bytes
+pub pairs-room : (c a : ℕ) → c < 256 → a < 256 → c * a ≤ 65025
+pairs-room c a h l = mul-bound c a 255 255 (omega arith) (omega arith)
+
+pub entries-room : (n c a : ℕ) → n < 256 → c < 256 → a < 256 → n * (c * a) ≤ 16581375
+entries-room n c a k h l = mul-bound n (c * a) 255 65025 (omega arith) (pairs-room c a h l)
+
+-- what a first block that is not refused gives
+pub record FirstValid (f : List ℕ) : Type 0 where
+  pub long : 512 ≤ length f
+  pub whole : length f % 512 ≡ 0
+  pub block : blockHolds f 0 ≡ true
+  pub header : headerHolds f ≡ true
+  pub counts : countsHold f ≡ true
+
+pub first-valid : (f : List ℕ) → firstValidity f ≡ Valid → FirstValid f
+unfolding firstValidity
+first-valid f e =
+    let a = valid-next _ _ _ e in
+    let b = valid-next _ _ _ (a .1) in
+    let c = valid-next _ _ _ (b .1) in
+    let d = valid-next _ _ _ (c .1) in
+    let n = or-none (eqb (length f) 0) (not (eqb (length f % 512) 0)) (a .0) in
+    let some : length f ≡ 0 → ⊥ = eqb-false (length f) 0 (n .0) in
+    let whole : length f % 512 ≡ 0 = eqb-true _ 0 (holds (n .1)) in
+    record { long = omega arith; whole = whole; block = holds (b .0); header = holds (c .0); counts = holds (d .0) }
+
+-- the length that the counts demand, by the payload's
+pub demanded-is : (f : List ℕ) → demanded f ≡ 512 * ((payloadDemanded f + 507) / 508)
+unfolding demanded fileLength blocksFor payloadDemanded
+demanded-is f = refl
+
+-- what the first block tells, as the call answers it
+pub sized-valid : (f : List ℕ) → firstValidity f ≡ Valid → sizeFor (sizeOf f) ≡ size.Bytes (demanded f)
+unfolding sizeFor sizeOf sizedUnless
+sized-valid f e = rw e
+
+pub sized-refused : (f : List ℕ) (r : Refusal) → firstValidity f ≡ Refused r → sizeFor (sizeOf f) ≡ size.Refused r
+unfolding sizeFor sizeOf sizedUnless
+sized-refused f r e = rw e
+
+unless-bytes : (v : Validity) (n m : ℕ) → sizeFor (sizedUnless v n) ≡ size.Bytes m → (v ≡ Valid) × (n ≡ m)
+unfolding sizeFor sizedUnless
+unless-bytes Valid n m e = (refl, cc)
+unless-bytes (Refused r) n m e = let z : _≡_ {A = ℕ} 0 1 = cc in absurd (omega arith)
+
+unless-refused : (v : Validity) (n : ℕ) (r : Refusal) → sizeFor (sizedUnless v n) ≡ size.Refused r → v ≡ Refused r
+unfolding sizeFor sizedUnless
+unless-refused Valid n r e = let z : _≡_ {A = ℕ} 0 1 = cc in absurd (omega arith)
+unless-refused (Refused r) n q e = cc
+
+pub sized-bytes : (f : List ℕ) (n : ℕ) → sizeFor (sizeOf f) ≡ size.Bytes n → (firstValidity f ≡ Valid) × (demanded f ≡ n)
+unfolding sizeOf
+sized-bytes f n e = unless-bytes (firstValidity f) (demanded f) n e
+
+pub refused-sized : (f : List ℕ) (r : Refusal) → sizeFor (sizeOf f) ≡ size.Refused r → firstValidity f ≡ Refused r
+unfolding sizeOf
+refused-sized f r e = unless-refused (firstValidity f) (demanded f) r e
+
+-- ---- the later blocks
+-- n blocks, of which the last has the payload's end
+pub record Fitting (f : List ℕ) (n : ℕ) : Type 0 where
+  pub long : length f ≡ 512 * n
+  pub some : 0 < n
+  pub ends : payloadDemanded f ≤ 508 * n
+  pub last : 508 * n < payloadDemanded f + 508
+
+payload-least : (f : List ℕ) → 32 ≤ payloadDemanded f
+unfolding payloadDemanded payloadLength
+payload-least f = omega arith
+
+pub fitting : (f : List ℕ) → length f ≡ demanded f → Fitting f (length f / 512)
+fitting f e =
+    let d = demanded-is f in
+    let l = payload-least f in
+    record { long = omega arith; some = omega arith; ends = omega arith; last = omega arith }
+
+pub bad-at : (f : List ℕ) (i : ℕ) → 0 < i → i < length f / 512 → blockHolds f i ≡ false
+    → ((k : ℕ) → k < i → 0 < k → blockHolds f k ≡ true) → badBlock f ≡ i
+unfolding badBlock
+bad-at f zero p l e h = absurd (omega arith)
+bad-at f (suc i) p l e h =
+    ap suc (first-is (length f / 512 - 1) (λ i. not (blockHolds f (suc i))) i (omega arith) (not-i e) (λ k q. not-f (h (suc k) (omega arith) (omega arith))))
+
+pub bad-none : (f : List ℕ) → 0 < length f / 512 → ((k : ℕ) → k < length f / 512 → 0 < k → blockHolds f k ≡ true) → badBlock f ≡ length f / 512
+unfolding badBlock
+bad-none f l h =
+    ap suc (first-none (length f / 512 - 1) (λ i. not (blockHolds f (suc i))) (λ k q. not-f (h (suc k) (omega arith) (omega arith)))) ∙ omega arith
+
+-- the place of a padding byte in the last block
+place : (f : List ℕ) (n k : ℕ) → Fitting f n → payloadDemanded f ≤ k → k < 508 * n
+    → 512 * (k / 508) + 2 + k % 508 ≡ payloadDemanded f + 4 * n - 2 + (k - payloadDemanded f)
+place f n k w h l = omega arith
+
+-- the padding, as it stands in the last block
+pub padding-is : (f : List ℕ) → length f ≡ demanded f → let n = length f / 512 in let len = payloadDemanded f in
+    every (508 * n - len) (λ i. eqb (getD f (len + 4 * n - 2 + i) 0) 0) ≡ paddingHolds f
+unfolding paddingHolds payloadDemanded
+padding-is f e = both _ _
+    (λ t. every-of (508 * n) _ (λ k l. by-cases (decLt k len) (λ q. or-l _ (lt-ltb k len q))
+    (λ q. or-r _ (ap (λ (x : ℕ). eqb (getD f x 0) 0) (place f n k w (omega arith) l) ∙ every-at (508 * n - len) _ t (k - len) (omega arith)))))
+    (λ t. every-of (508 * n - len) _ (λ i l. ⊎-elim (λ q. absurd (omega (arith, ltb-true (len + i) len q))) (λ q. ap (λ (x : ℕ). eqb (getD f x 0) 0) (spot i l) ∙ q)
+    (or-e (every-at (508 * n) _ t (len + i) (omega arith)))))
+  where
+    n : ℕ
+    n = length f / 512
+
+    len : ℕ
+    len = payloadDemanded f
+
+    w : Fitting f n
+    w = fitting f e
+
+    spot : (i : ℕ) → i < 508 * n - len → len + 4 * n - 2 + i ≡ 512 * ((len + i) / 508) + 2 + (len + i) % 508
+    spot i l = omega (arith, place f n (len + i) w (omega arith) (omega arith))
+
+-- ---- the order of the tests
+pub then-refused : (v w : Validity) (r : Refusal) → v ≡ Refused r → andThen v w ≡ Refused r
+unfolding andThen
+then-refused v w r e = rw e
+
+pub wrong-length-is : (f : List ℕ) → (length f ≡ demanded f → ⊥) → blocksValidity f ≡ Refused (refusal wrong-length 0 0 0)
+unfolding blocksValidity
+wrong-length-is f h = rw (not-i (ne-eqb (length f) (demanded f) h))
+
+-- ---- machines
+-- a machine whose arrays are filled from the front
+pub machine-is : (Q : List ℕ) (at n sets start : ℕ) (observations successors fairness : List ℕ) → n ≤ 64 → sets ≤ 8 → start ≡ numberAt 8 Q (at + n)
+    → observations ≡ front n (λ s. getD Q (at + s) 0) (replicate 64 0)
+    → successors ≡ front n (λ s. numberAt 8 Q (at + n + 8 + 8 * s)) (replicate 64 0)
+    → fairness ≡ front sets (λ k. numberAt 8 Q (at + 9 * n + 8 + 8 * k)) (replicate 8 0)
+    → record { states = n; sets = sets; start = start; observations = observations; successors = successors; fairness = fairness } ≡ machineAt Q at n sets
+unfolding machineAt
+machine-is Q at n sets start observations successors fairness h k a b c d =
+    rw (
+      a,
+      b ∙ front-zeros n 64 (λ s. getD Q (at + s) 0) h,
+      c ∙ front-zeros n 64 (λ s. numberAt 8 Q (at + n + 8 + 8 * s)) h,
+      d ∙ front-zeros sets 8 (λ k. numberAt 8 Q (at + 9 * n + 8 + 8 * k)) k,
+    )
+
+pub machine-cong : (Q R : List ℕ) → ((k : ℕ) → getD Q k 0 ≡ getD R k 0) → (at n sets : ℕ) → machineAt Q at n sets ≡ machineAt R at n sets
+unfolding machineAt
+machine-cong Q R same at n sets =
+    rw (
+      number-cong 8 Q R (at + n) (at + n) (λ i l. same (at + n + i)),
+      table-cong 64 (λ s. cond (ltb s n) (getD Q (at + s) 0) 0) (λ s. cond (ltb s n) (getD R (at + s) 0) 0) (λ s l. ap (λ (x : ℕ). cond (ltb s n) x 0) (same (at + s))),
+      masks 64 n (at + n + 8),
+      masks 8 sets (at + 9 * n + 8),
+    )
+  where
+    masks : (w count from : ℕ) → table w (λ k. cond (ltb k count) (numberAt 8 Q (from + 8 * k)) 0) ≡ table w (λ k. cond (ltb k count) (numberAt 8 R (from + 8 * k)) 0)
+    masks w count from = table-cong w _ _ (λ k l. ap (λ (x : ℕ). cond (ltb k count) x 0) (number-cong 8 Q R (from + 8 * k) (from + 8 * k) (λ i q. same (from + 8 * k + i))))
+
+-- ---- a file whose payload is loaded
+-- the counts of a header that is not refused
+pub record InRange (f : List ℕ) : Type 0 where
+  pub states-c : headerByte f 4 ≤ 64
+  pub states-a : headerByte f 5 ≤ 64
+  pub sets-c : headerByte f 6 ≤ 8
+  pub sets-a : headerByte f 7 ≤ 7
+
+pub in-range : (f : List ℕ) → countsHold f ≡ true → InRange f
+unfolding countsHold
+in-range f t =
+    let c = counts-at 8 _ _ (and-l _ _ t) in
+    let a = counts-at 7 _ _ (and-r _ _ t) in
+    record { states-c = c .1; states-a = a .1; sets-c = c .3; sets-a = a .3 }
+
+pub machines-fit : (f : List ℕ) → 32 + 9 * (headerByte f 4 + headerByte f 5) + 8 * (headerByte f 6 + headerByte f 7) ≤ payloadDemanded f
+unfolding payloadDemanded payloadLength
+machines-fit f = omega arith
+
+pub pair-is : (f Q : List ℕ) → Loaded f Q → let c = headerByte f 4 in let m = headerByte f 6 in
+    record { concrete = machineAt Q 16 c m; abstraction = machineAt Q (24 + 9 * c + 8 * m) (headerByte f 5) (headerByte f 7) } ≡ pairOf f
+unfolding pairOf
+pair-is f Q w =
+    rw (
+      machine-cong Q (payloadOf f (length f / 512)) (w .same) 16 (headerByte f 4) (headerByte f 6),
+      machine-cong Q (payloadOf f (length f / 512)) (w .same) (24 + 9 * headerByte f 4 + 8 * headerByte f 6) (headerByte f 5) (headerByte f 7),
+    )
+
+-- ---- the table of such a file
+-- its entries have room in a lent table
+pub entries-fit : (f : List ℕ) → countsHold f ≡ true → entriesCount f ≤ 28672
+entries-fit f t = let r = in-range f t in mul-bound (headerByte f 7) _ 7 4096 (r .sets-a) (mul-bound (headerByte f 4) (headerByte f 5) 64 64 (r .states-c) (r .states-a))
+
+-- and they end where the payload does
+pub entries-end : (f : List ℕ) → noteOf f ≡ true → entriesPlace f + 2 * entriesCount f ≡ payloadDemanded f
+unfolding payloadDemanded payloadLength
+entries-end f t = rw t (omega arith)
+
+pub table-is : (f Q T : List ℕ) → Loaded f Q
+    → front (entriesCount f) (λ e. numberAt 2 Q (entriesPlace f + 2 * e)) T ≡ entriesOf f ++ drop (length (entriesOf f)) T
+unfolding entriesOf pairOf machineAt
+table-is f Q T w =
+    let P = payloadOf f (length f / 512) in
+    rw (table-length (entriesCount f) (λ e. numberAt 2 P (entriesPlace f + 2 * e)))
+    (ap (λ (l : List ℕ). l ++ drop (entriesCount f) T)
+    (table-cong (entriesCount f) (λ e. numberAt 2 Q (entriesPlace f + 2 * e)) (λ e. numberAt 2 P (entriesPlace f + 2 * e)) (λ e l. number-cong 2 Q P _ _ (λ i q. w .same (entriesPlace f + 2 * e + i)))))
+
+-- ---- a file whose blocks hold
+-- what the later blocks and the padding give
+pub record BlocksValid (f : List ℕ) : Type 0 where
+  pub long : length f ≡ demanded f
+  pub blocks : (i : ℕ) → 0 < i → i < length f / 512 → blockHolds f i ≡ true
+  pub padding : paddingHolds f ≡ true
+
+good-until : (f : List ℕ) → length f / 512 ≤ badBlock f → (i : ℕ) → 0 < i → i < length f / 512 → blockHolds f i ≡ true
+unfolding badBlock
+good-until f h zero p l = absurd (omega arith)
+good-until f h (suc i) p l =
+    holds (first-before (length f / 512 - 1) (λ i. not (blockHolds f (suc i))) i (omega arith))
+
+pub blocks-valid : (f : List ℕ) → blocksValidity f ≡ Valid → BlocksValid f
+unfolding blocksValidity
+blocks-valid f e =
+    let a = valid-next _ _ _ e in
+    let b = valid-next _ _ _ (a .1) in
+    let c = valid-next _ _ _ (b .1) in
+    record { long = eqb-true _ _ (holds (a .0)); blocks = good-until f (ltb-false _ _ (b .0)); padding = holds (c .0) }
+
+-- the most that a payload takes
+payload-most : (f : List ℕ) → countsHold f ≡ true → payloadDemanded f ≤ 58648
+unfolding payloadDemanded payloadLength
+payload-most f t =
+    let r = in-range f t in
+    cond-cases (noteOf f) (λ x. 32 + 9 * (headerByte f 4 + headerByte f 5) + 8 * (headerByte f 6 + headerByte f 7) + x ≤ 58648) _ 0
+    (λ q. omega (arith, entries-fit f t)) (λ q. omega arith)
+
+-- and the blocks' payloads
+pub blocks-room : (f : List ℕ) → FirstValid f → length f ≡ demanded f → 508 * (length f / 512) ≤ 58928
+blocks-room f v e = let w = fitting f e in omega (arith, payload-most f (v .counts))
+
+pub loaded : (f Q : List ℕ) (w : ℕ) → FirstValid f → length f ≡ demanded f → 508 * (length f / 512) ≤ w
+    → Q ≡ front (508 * (length f / 512)) (payloadByte f) (replicate w 0) → Loaded f Q
+unfolding payloadOf
+loaded f Q w v e h q =
+    let n = 508 * (length f / 512) in
+    let fit = fitting f e in
+    let long : length Q ≡ w = ap length q ∙ front-length (payloadByte f) (replicate w 0) n (rw (length-replicate {A = ℕ} w 0) h) ∙ length-replicate w 0 in
+    record { long = v .long; counts = v .counts; room = omega arith; same = λ k. ap (λ (l : List ℕ). getD l k 0) q ∙ front-padded n w (payloadByte f) k }
+
+-- ---- the answer
+pub answer-refused : (v : Validity) (x : Read) (r : Refusal) → v ≡ Refused r → showFor (Read.refused r) ≡ showFor (takenUnless v x)
+unfolding takenUnless
+answer-refused v x r e = rw e
+
+pub answer-taken : (v : Validity) (p : Pair) (note : Bool) → v ≡ Valid → record { pair = p; reading = reading.Taken note } ≡ showFor (takenUnless v (taken p note))
+unfolding takenUnless showFor
+answer-taken v p note e = rw e
+
+pub table-refused : (v : Validity) (note : Bool) (read T : List ℕ) (r : Refusal) → v ≡ Refused r → T ≡ tableUnless v note read T
+unfolding tableUnless
+table-refused v note read T r e = rw e
+
+pub table-taken : (v : Validity) (note : Bool) (read T : List ℕ) → v ≡ Valid → note ≡ true → read ++ drop (length read) T ≡ tableUnless v note read T
+unfolding tableUnless
+table-taken v note read T e t = rw (e, t)
+
+pub table-left : (v : Validity) (note : Bool) (read T : List ℕ) → v ≡ Valid → note ≡ false → T ≡ tableUnless v note read T
+unfolding tableUnless
+table-left v note read T e t = rw (e, t)
+
+-- all the tests, in their order
+pub read-short : (f : List ℕ) (room : ℕ) → room < tableRoom → readValidity f room ≡ Refused (refusal short-buffer 0 0 0)
+unfolding readValidity
+read-short f room h = then-refused _ _ _ (buffer-short tableRoom room h)
+
+then-then : (u v w : Validity) → andThen u (andThen v w) ≡ andThen (andThen u v) w
+unfolding andThen
+then-then Valid v w = refl
+then-then (Refused r) v w = refl
+
+module _ (f : List ℕ) (room : ℕ) (h : tableRoom ≤ room) where
+  grouped : readValidity f room ≡ andThen (andThen (firstValidity f) (blocksValidity f)) (pairValidity (pairOf f))
+  unfolding readValidity
+  grouped = then-of _ _ (buffer-long tableRoom room h) ∙ then-then (firstValidity f) (blocksValidity f) (pairValidity (pairOf f))
+
+  pub read-refused : (r : Refusal) → andThen (firstValidity f) (blocksValidity f) ≡ Refused r → readValidity f room ≡ Refused r
+  read-refused r e = grouped ∙ then-refused _ _ r e
+
+  pub read-pair : andThen (firstValidity f) (blocksValidity f) ≡ Valid → readValidity f room ≡ pairValidity (pairOf f)
+  read-pair e = grouped ∙ then-of _ _ e

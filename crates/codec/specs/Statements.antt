@@ -1,0 +1,69 @@
+-- The file laws, as statements over the definitions that the calls' contracts cite. FileLaws.antt proves each.
+use mathlib.Core.Bool.{Bool, true, false, cond}
+use mathlib.Core.List.{List, _++_}
+use mathlib.Core.Path.{_≡_}
+use Prim.Native.Nat.{ℕ, _≤_, _<_, _^_}
+use lib.ListN.{length, getD, take, drop}
+use Rattle.mask.specs.Tables.{table}
+use Rattle.machine.specs.declared.Machine.{Machine}
+use Rattle.machine.specs.declared.Pair.{Pair}
+use Rattle.machine.specs.declared.Refusal.{Refusal}
+use Rattle.machine.specs.Table.{entries}
+use Rattle.machine.specs.Verdict.{tableRoom}
+use Rattle.machine.specs.WellFormed.{wellFormed}
+use Rattle.codec.specs.Format.{fileOf}
+use Rattle.codec.specs.Reader.{taken, firstValidity, demanded, entriesOf, readAnswer, readTable, sizeOf}
+use Rattle.codec.specs.Reader as R
+use Rattle.codec.specs.Writer.{fileRoom, writeAnswer, writeBuffer}
+
+-- what the types of the code give of a machine, whoever made it
+pub record RepresentableMachine (m : Machine) : Type 0 where
+  pub observations-length : length (m .observations) ≡ 64
+  pub successors-length : length (m .successors) ≡ 64
+  pub fairness-length : length (m .fairness) ≡ 8
+  pub observation-byte : (s : ℕ) → getD (m .observations) s 0 < 256
+  pub start-mask : m .start < 2 ^ 64
+  pub successors-mask : (s : ℕ) → getD (m .successors) s 0 < 2 ^ 64
+  pub fairness-mask : (k : ℕ) → getD (m .fairness) k 0 < 2 ^ 64
+
+pub record Representable (p : Pair) : Type 0 where
+  pub concrete : RepresentableMachine (p .concrete)
+  pub abstraction : RepresentableMachine (p .abstraction)
+
+-- and of a list of bytes, and of a table
+abbrev pub AreBytes : List ℕ → Type 0
+AreBytes f = (i : ℕ) → getD f i 0 < 256
+
+abbrev pub AreEntries : List ℕ → Type 0
+AreEntries T = (e : ℕ) → getD T e 0 < 65536
+
+-- what is written reads back: the machines, the note, and the table's entries, with the lent table's other entries as they were
+abbrev pub WriteRead : Type 0
+WriteRead = (p : Pair) (note : Bool) (T lent : List ℕ) → Representable p → wellFormed p ≡ true → AreEntries T → tableRoom ≤ length lent
+    → (readAnswer (fileOf p note T) lent ≡ taken p note)
+    × (readTable (fileOf p note T) lent ≡ cond note (table (entries p) (λ e. getD T e 0) ++ drop (entries p) lent) lent)
+
+-- each file that the reader takes, whoever made it, is the one that the writer makes from what was read
+abbrev pub ReadWrite : Type 0
+ReadWrite = (f lent : List ℕ) (p : Pair) (note : Bool) → AreBytes f → readAnswer f lent ≡ taken p note
+    → (f ≡ fileOf p note (entriesOf f)) × (f ≡ fileOf p note (readTable f lent))
+
+-- a file without a table takes nothing of one
+abbrev pub NoTable : Type 0
+NoTable = (p : Pair) (T U : List ℕ) → fileOf p false T ≡ fileOf p false U
+
+-- "refusals up to 6 rest on the first block and the length alone"
+abbrev pub FirstBlock : Type 0
+FirstBlock = (f g lent : List ℕ) → length f ≡ length g → take 512 f ≡ take 512 g
+    → (firstValidity f ≡ firstValidity g) × (demanded f ≡ demanded g) × (sizeOf f ≡ sizeOf g)
+    × ((r : Refusal) → r .number ≤ 6 → readAnswer f lent ≡ R.Read.refused r → readAnswer g lent ≡ R.Read.refused r)
+
+-- the same two laws of the calls: the writer's buffer, cut to the length that the writer gives, reads back
+abbrev pub WrittenReads : Type 0
+WrittenReads = (p : Pair) (note : Bool) (T buffer lent : List ℕ) (n : ℕ) → Representable p → AreEntries T → tableRoom ≤ length lent
+    → writeAnswer p note T buffer ≡ R.Sized.bytes n → readAnswer (take n (writeBuffer p note T buffer)) lent ≡ taken p note
+
+-- and a file that was taken is written again, to the byte, from the machines, the note and the table that were read
+abbrev pub ReadWrites : Type 0
+ReadWrites = (f lent buffer : List ℕ) (p : Pair) (note : Bool) → AreBytes f → fileRoom ≤ length buffer → readAnswer f lent ≡ taken p note
+    → (writeAnswer p note (readTable f lent) buffer ≡ R.Sized.bytes (length f)) × (writeBuffer p note (readTable f lent) buffer ≡ f ++ drop (length f) buffer)
