@@ -1,0 +1,11 @@
+use mathlib.Core.Path.{refl}
+use Rattle.solver.specs.Rows.{without}
+use Rattle.solver.proofs.fresh.Statement.{statement}
+use Rattle.solver.proofs.fresh.Tie as tie
+
+returns : tie.Need-returns
+unfolding without
+returns c = refl
+
+pub fresh-spec : {M : Type 1} → statement M
+fresh-spec = tie.close (tie.spec returns)

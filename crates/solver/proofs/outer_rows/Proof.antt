@@ -1,0 +1,76 @@
+use mathlib.Core.Bool.{cond}
+use mathlib.Core.Logic.{⊎-elim}
+use mathlib.Core.Path.{sym, _∙_}
+use Prim.Native.Nat.{_-_, _≤_}
+use native.Mathlib.Omega.{arith}
+use lib.ListN.{getD}
+use borrow.Author.Tests.{not-true, not-false}
+use borrow.Author.Needs.{needs}
+use Rattle.mask.specs.Bits.{hasBit}
+use Rattle.solver.specs.Rows.{outerRows}
+use Rattle.solver.specs.FillLaws.{Filled, filled-none, filled-more, filled-skip, filled-all}
+use Rattle.solver.proofs.outer_rows.Statement.{statement}
+use Rattle.solver.proofs.outer_rows.Tie as tie
+
+abbrev Inv-loop : tie.InvT-loop
+Inv-loop matched members out₀ c₀ out c = (c ≤ 64) × Filled 64 (λ k. cond (hasBit members k) 0 (getD matched k 0)) c out
+
+abbrev μ-loop : tie.MeasureT-loop
+μ-loop matched members out₀ c₀ out c = 64 - c
+
+loop-holds : tie.Need-loop-holds Inv-loop μ-loop
+loop-holds c = (omega arith, filled-none)
+
+has-requires : tie.Need-has-requires Inv-loop μ-loop
+has-requires c κs = search needs
+
+mul-out : tie.Need-mul-out Inv-loop μ-loop
+mul-out c = search needs
+
+element-copy-out-out : tie.Need-element-copy-out-out Inv-loop μ-loop
+element-copy-out-out c = search needs
+
+mul-out-2 : tie.Need-mul-out-2 Inv-loop μ-loop
+mul-out-2 c = search needs
+
+array-write-out : tie.Need-array-write-out Inv-loop μ-loop
+array-write-out c = search needs
+
+add-c : tie.Need-add-c Inv-loop μ-loop
+add-c c = search needs
+
+loop-less : tie.Need-loop-less Inv-loop μ-loop
+loop-less c = search needs
+
+loop-again : tie.Need-loop-again Inv-loop μ-loop
+loop-again c =
+    let x = c .before .before .before .before .args in
+    let l = c .before .before .before .loop in
+    let e = sym (c .before .has .ensures) in (
+      omega arith,
+      ⊎-elim
+          (λ w. rw (w .2) (filled-more {v = getD (x .matched .now) (l .c) 0} (omega arith) (rw (e ∙ not-true _ (w .0 .taken))) (l .inv .1)))
+          (λ w. rw (w .1) (filled-skip (rw (e ∙ not-false _ (w .0 .left))) (l .inv .1)))
+          (c .if1 .came),
+    )
+
+returns : tie.Need-returns Inv-loop μ-loop
+unfolding outerRows
+returns c = filled-all (omega arith) (c .before .loop .inv .1)
+
+pub outer-rows-spec : {M : Type 1} → statement M
+outer-rows-spec =
+    tie.close
+    (tie.spec
+    Inv-loop
+    μ-loop
+    loop-holds
+    has-requires
+    mul-out
+    element-copy-out-out
+    mul-out-2
+    array-write-out
+    add-c
+    loop-less
+    loop-again
+    returns)

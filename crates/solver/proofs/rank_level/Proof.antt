@@ -1,0 +1,120 @@
+use mathlib.Core.Path.{_≡_, ap, ap₂, _∙_}
+use Prim.Native.Nat.{_*_, _-_, _≤_}
+use native.Mathlib.Omega.{arith}
+use lib.ListN.{length}
+use borrow.Author.Needs.{needs}
+use Rattle.machine.specs.WellFormedLaws.{WellPair, well-pair, pairs-small}
+use Rattle.solver.specs.Rows.{unionRows, levelRows, rankRows}
+use Rattle.solver.specs.LevelRowsLaws.{level-rows-none, level-rows-more}
+use Rattle.solver.specs.RankRowsLaws.{rank-rows-none, rank-rows-more, rank-rows-length, ranked-length, x-small, ranked-next}
+use Rattle.solver.proofs.rank_level.Statement.{statement}
+use Rattle.solver.proofs.rank_level.Tie as tie
+
+abbrev Inv-loop : tie.InvT-loop
+Inv-loop matched goals below l part₀ nc na m concrete-moves abstract-moves sets base seen₀ k₀ part seen k =
+    (k ≤ m) × (seen ≡ levelRows nc na concrete-moves abstract-moves matched base sets seen₀ k)
+    × (part ≡ rankRows nc na concrete-moves abstract-moves matched base sets seen₀ (l * m) part₀ k)
+
+abbrev μ-loop : tie.MeasureT-loop
+μ-loop matched goals below l part₀ nc na m concrete-moves abstract-moves sets base seen₀ k₀ part seen k = m - k
+
+-- the entry, from where the loop begins
+abbrev entry : tie.After-union-rows Inv-loop μ-loop → tie.Start Inv-loop μ-loop
+entry c = c .before .before .before .before .before .before .before .before .before .before .before .before
+
+well : (c : tie.Start Inv-loop μ-loop) → WellPair (c .args .p)
+well c = well-pair (c .args .p) (c .pre .0 .well)
+
+step-rows-requires : tie.Need-step-rows-requires Inv-loop μ-loop
+step-rows-requires c κs = let w = well (c .before .before .before .before .before .before .before .before) in (w .concrete .states-high, w .abstraction .states-high)
+
+base-rows-requires : tie.Need-base-rows-requires Inv-loop μ-loop
+base-rows-requires c κs = search needs
+
+union-rows-requires : tie.Need-union-rows-requires Inv-loop μ-loop
+union-rows-requires c κs = search needs
+
+loop-holds : tie.Need-loop-holds Inv-loop μ-loop
+loop-holds c = (omega arith, level-rows-none _ _ _ _ _ _ _ _, rank-rows-none _ _ _ _ _ _ _ _ _ _)
+
+mul-x-rows : tie.Need-mul-x-rows Inv-loop μ-loop
+mul-x-rows c = omega (arith, c .before .before .before .loop-test .taken, well (entry (c .before .before .before .before .before)) .concrete .sets-high)
+
+array-read-x-rows : tie.Need-array-read-x-rows Inv-loop μ-loop
+array-read-x-rows c = omega (arith, c .before .before .before .loop-test .taken, well (entry (c .before .before .before .before .before)) .concrete .sets-high)
+
+x-rows-requires : tie.Need-x-rows-requires Inv-loop μ-loop
+x-rows-requires c κs = let w = well (entry (c .before .before .before .before .before)) in (w .concrete .states-high, w .abstraction .states-high)
+
+rank-of-requires : tie.Need-rank-of-requires Inv-loop μ-loop
+rank-of-requires c κs =
+    let s = entry (c .before .before .before .before .before .before) in
+    omega (arith, c .before .before .before .before .loop-test .taken, well s .concrete .sets-high, s .pre .1, pairs-small (s .args .p) (well s))
+
+long : (c : tie.At-loop Inv-loop μ-loop) → length (c .loop .part) ≡ length (entry (c .before) .args .part .now)
+long c = ap length (c .loop .inv .2) ∙ rank-rows-length _ _ _ _ _ _ _ _ _ _ (c .loop .k)
+
+stamp-requires : tie.Need-stamp-requires Inv-loop μ-loop
+stamp-requires c κs =
+    let h = c .before .before .before .before .before .before .before .before .before in
+    let s = entry (h .before) in
+    let w = well s in (
+      (w .concrete .states-high, w .abstraction .states-high),
+      (
+        long h ∙ ranked-length (s .pre .0),
+        λ i q. rw (c .before .before .before .before .x-rows .ensures)
+            (x-small (s .pre .0) (s .pre .1) (h .before .before .before .before .step-rows .ensures) (h .before .before .base-rows .ensures) (h .loop .k) i q),
+      ),
+    )
+
+union-rows-requires-2 : tie.Need-union-rows-requires-2 Inv-loop μ-loop
+union-rows-requires-2 c κs = search needs
+
+add-k : tie.Need-add-k Inv-loop μ-loop
+add-k c = omega (arith, c .before .before .before .before .before .before .before .before .before .before .before .before .before .before .loop-test .taken, well (entry (c .before .before .before .before .before .before .before .before .before .before .before .before .before .before .before .before)) .concrete .sets-high)
+
+loop-less : tie.Need-loop-less Inv-loop μ-loop
+loop-less c = omega (arith, c .before .before .before .before .before .before .before .before .before .before .before .before .before .before .loop-test .taken)
+
+loop-again : tie.Need-loop-again Inv-loop μ-loop
+loop-again c =
+    let h = c .before .before .before .before .before .before .before .before .before .before .before .before .before .before .before in
+    let x = c .before .before .before .before .before .before .before .before .before .before .x-rows in (
+      omega (arith, c .before .before .before .before .before .before .before .before .before .before .before .before .before .before .loop-test .taken),
+      c .union-rows2 .ensures ∙ ap₂ unionRows (x .ensures) (h .loop .inv .1) ∙ level-rows-more _ _ _ _ _ _ _ _ (h .loop .k),
+      c .before .before .before .before .before .stamp .ensures
+          ∙ rank-rows-more _ _ _ _ _ _ _ _ _ _ (h .loop .k) (x .ensures) (h .loop .inv .1) (c .before .before .before .before .before .before .before .before .before .rank-of .ensures) (h .loop .inv .2),
+    )
+
+same-length : tie.Need-same-length Inv-loop μ-loop
+same-length c = long (c .before)
+
+returns : tie.Need-returns Inv-loop μ-loop
+returns c =
+    let h = c .before in
+    let u = h .before in
+    let s = entry u in
+    rw (h .loop .inv .1, h .loop .inv .2)
+    (ranked-next (s .pre .0) (s .pre .1) (u .before .before .before .step-rows .ensures) (u .before .base-rows .ensures) (u .union-rows .ensures) (omega arith))
+
+pub rank-level-spec : {M : Type 1} → statement M
+rank-level-spec =
+    tie.close
+    (tie.spec
+    Inv-loop
+    μ-loop
+    step-rows-requires
+    base-rows-requires
+    union-rows-requires
+    loop-holds
+    mul-x-rows
+    array-read-x-rows
+    x-rows-requires
+    rank-of-requires
+    stamp-requires
+    union-rows-requires-2
+    add-k
+    loop-less
+    loop-again
+    same-length
+    returns)

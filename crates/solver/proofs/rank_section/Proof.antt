@@ -1,0 +1,120 @@
+use mathlib.Core.Path.{_≡_, refl, sym, ap, _∙_}
+use Prim.Native.Nat.{ℕ, _-_, _≤_}
+use native.Mathlib.Omega.{arith}
+use lib.ListN.{length}
+use borrow.Author.Needs.{needs}
+use Rattle.mask.specs.Tables.{table}
+use Rattle.mask.specs.TablesLaws.{table-length}
+use Rattle.machine.specs.Machines.{pairs}
+use Rattle.machine.specs.Table.{blank}
+use Rattle.machine.specs.WellFormedLaws.{WellPair, well-pair, pairs-small}
+use Rattle.solver.specs.Ranking.{LevelRanked}
+use Rattle.solver.specs.RankRowsLaws.{goal-small, ranked-start, ranked-length, ranked-stop, ranked-out, ranks-are}
+use Rattle.solver.proofs.rank_section.Statement.{statement}
+use Rattle.solver.proofs.rank_section.Tie as tie
+
+abbrev Inv-loop : tie.InvT-loop
+Inv-loop p matched largest j part₀ nc na g y₀ l₀ l-end part y l = (l-end ≡ pairs p) × (l ≤ l-end) × LevelRanked p matched g l y part
+
+abbrev μ-loop : tie.MeasureT-loop
+μ-loop p matched largest j part₀ nc na g y₀ l₀ l-end part y l = l-end - l
+
+well : (c : tie.Start Inv-loop μ-loop) → WellPair (c .args .p)
+well c = well-pair (c .args .p) (c .pre .0 .0)
+
+-- the entry from the head of a turn, and the head from where the next level is compared
+abbrev entry : tie.At-loop Inv-loop μ-loop → tie.Start Inv-loop μ-loop
+entry c = c .before .before .before .before .before .before .before .before .before .before .before .before .before .before .before
+
+abbrev head : tie.After-same-rows Inv-loop μ-loop → tie.At-loop Inv-loop μ-loop
+head c = c .before .before .before .before .before .before .before .before .before .before
+
+goals-requires : tie.Need-goals-requires Inv-loop μ-loop
+goals-requires c κs = let s = c .before .before .before in (s .pre .0 .0, (s .pre .0 .1, s .pre .1 .1 .0))
+
+clear-requires : tie.Need-clear-requires Inv-loop μ-loop
+clear-requires c κs = search needs
+
+-- the part, all blank
+blank-is : (c : tie.After-clear Inv-loop μ-loop) → c .clear .last .0 ≡ table (pairs (c .before .before .before .before .before .before .args .p)) (λ e. blank)
+blank-is c = c .clear .ensures ∙ ap (λ (n : ℕ). table n (λ e. blank)) (c .before .before .before .before .before .before .pre .1 .1 .1)
+
+stamp-requires : tie.Need-stamp-requires Inv-loop μ-loop
+stamp-requires c κs =
+    let s = c .before .before .before .before .before .before .before .before .before .before .before in
+    let w = well s in (
+      (w .concrete .states-high, w .abstraction .states-high),
+      (
+        ap length (blank-is (c .before .before .before .before .before)) ∙ table-length _ _,
+        goal-small (s .args .p) w (s .args .largest .now) (s .args .j) (s .pre .1 .0) (c .before .before .before .before .before .before .before .goals .ensures),
+      ),
+    )
+
+mul-l-end : tie.Need-mul-l-end Inv-loop μ-loop
+mul-l-end c = let s = c .before .before .before .before .before .before .before .before .before .before .before .before .before .before in omega (arith, pairs-small (s .args .p) (well s))
+
+loop-holds : tie.Need-loop-holds Inv-loop μ-loop
+loop-holds c =
+    let s = c .before .before .before .before .before .before .before .before .before .before .before .before .before .before in (
+      refl,
+      omega arith,
+      ranked-start (s .args .p) (well s) (s .args .largest .now) (s .args .j) (s .pre .1 .0) (c .before .before .before .before .before .before .before .before .before .before .goals .ensures)
+          (s .pre .0 .0) (s .pre .0 .1) (blank-is (c .before .before .before .before .before .before .before .before)) (c .before .before .stamp .ensures),
+    )
+
+rank-level-requires : tie.Need-rank-level-requires Inv-loop μ-loop
+rank-level-requires c κs = (c .before .before .before .before .loop .inv .2, c .before .before .before .loop-test .taken)
+
+same-rows-requires : tie.Need-same-rows-requires Inv-loop μ-loop
+same-rows-requires c κs = search needs
+
+same-length : tie.Need-same-length Inv-loop μ-loop
+same-length c = let b = c .before in ranked-length (b .before .before .before .before .before .rank-level .ensures) ∙ sym (entry (head b) .pre .1 .1 .1)
+
+returns : tie.Need-returns Inv-loop μ-loop
+returns c =
+    let b = c .before in
+    let h = head b in
+    let s = entry h in
+    ranked-stop (h .loop .inv .2) (b .before .before .before .before .before .before .before .before .before .loop-test .taken) (b .before .before .before .before .before .rank-level .ensures) (sym (b .same-rows .ensures) ∙ c .if1 .taken)
+    ∙ ranks-are (s .args .p) (well s) (s .args .largest .now) (s .args .j) (s .pre .1 .0) (h .before .before .before .before .before .before .before .before .before .before .before .goals .ensures)
+
+add-l : tie.Need-add-l Inv-loop μ-loop
+add-l c = let h = head (c .before) in omega (arith, h .loop .inv .0, c .before .before .before .before .before .before .before .before .before .before .loop-test .taken, pairs-small (entry h .args .p) (well (entry h)))
+
+loop-less : tie.Need-loop-less Inv-loop μ-loop
+loop-less c = omega (arith, c .before .before .before .before .before .before .before .before .before .before .loop-test .taken)
+
+loop-again : tie.Need-loop-again Inv-loop μ-loop
+loop-again c = let b = c .before in (refl, omega (arith, b .before .before .before .before .before .before .before .before .before .loop-test .taken), b .before .before .before .before .before .rank-level .ensures)
+
+same-length-2 : tie.Need-same-length-2 Inv-loop μ-loop
+same-length-2 c = let h = c .before in ranked-length (h .loop .inv .2) ∙ sym (entry h .pre .1 .1 .1)
+
+returns-2 : tie.Need-returns-2 Inv-loop μ-loop
+returns-2 c =
+    let h = c .before in
+    let s = entry h in
+    ranked-out (h .loop .inv .2) (omega (arith, h .loop .inv .0, h .loop .inv .1, c .loop-test .left))
+    ∙ ranks-are (s .args .p) (well s) (s .args .largest .now) (s .args .j) (s .pre .1 .0) (h .before .before .before .before .before .before .before .before .before .before .before .goals .ensures)
+
+pub rank-section-spec : {M : Type 1} → statement M
+rank-section-spec =
+    tie.close
+    (tie.spec
+    Inv-loop
+    μ-loop
+    goals-requires
+    clear-requires
+    stamp-requires
+    mul-l-end
+    loop-holds
+    rank-level-requires
+    same-rows-requires
+    same-length
+    returns
+    add-l
+    loop-less
+    loop-again
+    same-length-2
+    returns-2)

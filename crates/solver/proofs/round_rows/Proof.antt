@@ -1,0 +1,76 @@
+use mathlib.Core.Path.{refl}
+use Prim.Native.Nat.{_-_, _≤_}
+use native.Mathlib.Omega.{arith}
+use lib.ListN.{getD}
+use lib.Bits.{bitAnd, bitOr}
+use borrow.Author.Needs.{needs}
+use Rattle.solver.specs.Rows.{roundRows}
+use Rattle.solver.specs.FillLaws.{Filled, filled-none, filled-more, filled-all}
+use Rattle.solver.proofs.round_rows.Statement.{statement}
+use Rattle.solver.proofs.round_rows.Tie as tie
+
+abbrev Inv-loop : tie.InvT-loop
+Inv-loop base outer steps out₀ c₀ out c = (c ≤ 64) × Filled 64 (λ k. bitOr (getD base k 0) (bitAnd (getD outer k 0) (getD steps k 0))) c out
+
+abbrev μ-loop : tie.MeasureT-loop
+μ-loop base outer steps out₀ c₀ out c = 64 - c
+
+loop-holds : tie.Need-loop-holds Inv-loop μ-loop
+loop-holds c = (omega arith, filled-none)
+
+mul-out : tie.Need-mul-out Inv-loop μ-loop
+mul-out c = search needs
+
+element-copy-out-out : tie.Need-element-copy-out-out Inv-loop μ-loop
+element-copy-out-out c = search needs
+
+mul-out-2 : tie.Need-mul-out-2 Inv-loop μ-loop
+mul-out-2 c = search needs
+
+element-copy-out-out-2 : tie.Need-element-copy-out-out-2 Inv-loop μ-loop
+element-copy-out-out-2 c = search needs
+
+mul-out-3 : tie.Need-mul-out-3 Inv-loop μ-loop
+mul-out-3 c = search needs
+
+element-copy-out-out-3 : tie.Need-element-copy-out-out-3 Inv-loop μ-loop
+element-copy-out-out-3 c = search needs
+
+mul-out-4 : tie.Need-mul-out-4 Inv-loop μ-loop
+mul-out-4 c = search needs
+
+array-write-out : tie.Need-array-write-out Inv-loop μ-loop
+array-write-out c = search needs
+
+add-c : tie.Need-add-c Inv-loop μ-loop
+add-c c = search needs
+
+loop-less : tie.Need-loop-less Inv-loop μ-loop
+loop-less c = search needs
+
+loop-again : tie.Need-loop-again Inv-loop μ-loop
+loop-again c = let l = c .before .before .before .before .loop in (omega arith, filled-more (omega arith) refl (l .inv .1))
+
+returns : tie.Need-returns Inv-loop μ-loop
+unfolding roundRows
+returns c = filled-all (omega arith) (c .before .loop .inv .1)
+
+pub round-rows-spec : {M : Type 1} → statement M
+round-rows-spec =
+    tie.close
+    (tie.spec
+    Inv-loop
+    μ-loop
+    loop-holds
+    mul-out
+    element-copy-out-out
+    mul-out-2
+    element-copy-out-out-2
+    mul-out-3
+    element-copy-out-out-3
+    mul-out-4
+    array-write-out
+    add-c
+    loop-less
+    loop-again
+    returns)

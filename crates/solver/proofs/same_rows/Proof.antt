@@ -1,0 +1,67 @@
+use mathlib.Core.Path.{_≡_, sym}
+use Prim.Native.Nat.{ℕ, _-_, _≤_, _<_}
+use native.Mathlib.Omega.{arith}
+use lib.ListN.{getD}
+use borrow.Author.Count.{below-none, below-more}
+use borrow.Author.Needs.{needs}
+use Rattle.solver.specs.RowsLaws.{same-yes, same-no}
+use Rattle.solver.proofs.same_rows.Statement.{statement}
+use Rattle.solver.proofs.same_rows.Tie as tie
+
+abbrev Inv-loop : tie.InvT-loop
+Inv-loop x y c₀ c = (c ≤ 64) × ((k : ℕ) → k < c → getD x k 0 ≡ getD y k 0)
+
+abbrev μ-loop : tie.MeasureT-loop
+μ-loop x y c₀ c = 64 - c
+
+loop-holds : tie.Need-loop-holds Inv-loop μ-loop
+loop-holds c = (omega arith, below-none _)
+
+mul-if1 : tie.Need-mul-if1 Inv-loop μ-loop
+mul-if1 c = search needs
+
+element-copy-out-if1 : tie.Need-element-copy-out-if1 Inv-loop μ-loop
+element-copy-out-if1 c = search needs
+
+mul-if1-2 : tie.Need-mul-if1-2 Inv-loop μ-loop
+mul-if1-2 c = search needs
+
+element-copy-out-if1-2 : tie.Need-element-copy-out-if1-2 Inv-loop μ-loop
+element-copy-out-if1-2 c = search needs
+
+returns : tie.Need-returns Inv-loop μ-loop
+returns c =
+    let x = c .before .before .before .before .before .args in
+    let l = c .before .before .before .before .loop in
+    sym (same-no 64 (x .x .now) (x .y .now) (l .c) (omega arith) (c .if1 .taken))
+
+add-c : tie.Need-add-c Inv-loop μ-loop
+add-c c = search needs
+
+loop-less : tie.Need-loop-less Inv-loop μ-loop
+loop-less c = search needs
+
+loop-again : tie.Need-loop-again Inv-loop μ-loop
+loop-again c = (omega arith, below-more _ _ (c .before .before .before .before .loop .inv .1) (c .if1 .left))
+
+returns-2 : tie.Need-returns-2 Inv-loop μ-loop
+returns-2 c =
+    let x = c .before .before .args in
+    sym (same-yes 64 (x .x .now) (x .y .now) (λ k h. c .before .loop .inv .1 k (omega arith)))
+
+pub same-rows-spec : {M : Type 1} → statement M
+same-rows-spec =
+    tie.close
+    (tie.spec
+    Inv-loop
+    μ-loop
+    loop-holds
+    mul-if1
+    element-copy-out-if1
+    mul-if1-2
+    element-copy-out-if1-2
+    returns
+    add-c
+    loop-less
+    loop-again
+    returns-2)

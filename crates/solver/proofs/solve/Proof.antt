@@ -1,0 +1,53 @@
+use mathlib.Core.Path.{sym, _∙_}
+use lib.ListN.{length}
+use borrow.Author.Needs.{needs}
+use Rattle.machine.specs.WellFormedLaws.{valid-is-well}
+use Rattle.solver.specs.SolverLaws.{solve-short, solve-long, solved-refused, solved-valid}
+use Rattle.solver.proofs.solve.Statement.{statement}
+use Rattle.solver.proofs.solve.Tie as tie
+
+returns : tie.Need-returns
+returns c =
+    let s = c .before .before .args in
+    let e = solve-short (s .p) (length (s .table .now)) (c .if1 .taken) in
+    (sym e, solved-refused (s .p) (s .table .now) _ e)
+
+pair-validity-requires : tie.Need-pair-validity-requires
+pair-validity-requires c κs = search needs
+
+enum-known-validity : tie.Need-enum-known-validity
+enum-known-validity c = search needs
+
+enum-told : tie.Need-enum-told
+enum-told c = search needs
+
+rank-all-requires : tie.Need-rank-all-requires
+rank-all-requires c κs = (valid-is-well (c .before .before .before .before .before .before .args .p) (sym (c .before .before .before .pair-validity .ensures) ∙ c .before .enum-told .given .1), c .before .before .before .before .if1 .left)
+
+returns-2 : tie.Need-returns-2
+returns-2 c =
+    let s = c .before .before .before .before .before .before .args in
+    let e = solve-long (s .p) (length (s .table .now)) (c .before .before .before .before .if1 .left) ∙ sym (c .before .before .before .pair-validity .ensures) ∙ c .before .validity .given .1 in
+    (sym e, solved-refused (s .p) (s .table .now) _ e)
+
+same-length : tie.Need-same-length
+same-length c = search needs
+
+returns-3 : tie.Need-returns-3
+returns-3 c =
+    let s = c .before .before .before .before .before .before .before .before .before .args in
+    let e = solve-long (s .p) (length (s .table .now)) (c .before .before .before .before .before .before .before .if1 .left) ∙ sym (c .before .before .before .before .before .before .pair-validity .ensures) ∙ c .before .before .before .before .enum-told .given .1 in
+    (sym e, c .before .before .rank-all .ensures ∙ solved-valid (s .p) (s .table .now) e)
+
+pub solve-spec : {M : Type 1} → statement M
+solve-spec =
+    tie.close
+    (tie.spec
+    returns
+    pair-validity-requires
+    enum-known-validity
+    enum-told
+    rank-all-requires
+    returns-2
+    same-length
+    returns-3)

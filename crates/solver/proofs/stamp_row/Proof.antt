@@ -1,0 +1,58 @@
+use native.Mathlib.Omega.{arith}
+use borrow.Author.Needs.{needs}
+use Rattle.mask.specs.BitsLaws.{lowest-le, rest-lt}
+use Rattle.solver.specs.StampLaws.{Stamping, stamping-start, stamping-index, stamping-turn, stamping-done}
+use Rattle.solver.proofs.stamp_row.Statement.{statement}
+use Rattle.solver.proofs.stamp_row.Tie as tie
+
+abbrev Inv-loop : tie.InvT-loop
+Inv-loop row v part₀ left₀ part left = Stamping row v part₀ left part
+
+abbrev μ-loop : tie.MeasureT-loop
+μ-loop row v part₀ left₀ part left = left
+
+loop-holds : tie.Need-loop-holds Inv-loop μ-loop
+loop-holds c = stamping-start (omega arith)
+
+lowest-requires : tie.Need-lowest-requires Inv-loop μ-loop
+lowest-requires c κs = search needs
+
+mul-part : tie.Need-mul-part Inv-loop μ-loop
+mul-part c = omega (arith, c .lowest .ensures, lowest-le 64 (c .before .before .loop .left))
+
+slice-write-part : tie.Need-slice-write-part Inv-loop μ-loop
+slice-write-part c =
+    stamping-index (c .lowest .ensures) (c .before .loop-test .taken) (c .before .before .loop .inv) (c .before .before .before .before .pre)
+
+rest-requires : tie.Need-rest-requires Inv-loop μ-loop
+rest-requires c κs = search needs
+
+loop-less : tie.Need-loop-less Inv-loop μ-loop
+loop-less c = omega (arith, c .rest .ensures, rest-lt (c .before .before .before .loop .left) (omega (arith, c .before .before .loop-test .taken)))
+
+loop-again : tie.Need-loop-again Inv-loop μ-loop
+loop-again c =
+    let b = c .before in
+    rw (c .rest .ensures) (stamping-turn (b .lowest .ensures) (b .before .loop-test .taken) (b .before .before .loop .inv) (b .before .before .before .before .pre))
+
+same-length : tie.Need-same-length Inv-loop μ-loop
+same-length c = c .before .loop .inv .long
+
+returns : tie.Need-returns Inv-loop μ-loop
+returns c = stamping-done (c .loop-test .left) (c .before .loop .inv)
+
+pub stamp-row-spec : {M : Type 1} → statement M
+stamp-row-spec =
+    tie.close
+    (tie.spec
+    Inv-loop
+    μ-loop
+    loop-holds
+    lowest-requires
+    mul-part
+    slice-write-part
+    rest-requires
+    loop-less
+    loop-again
+    same-length
+    returns)

@@ -1,0 +1,171 @@
+-- Laws of families as rows: a section is taken out and put in, a family comes back from its rows, and the loop over turns.
+use mathlib.Core.Bool.{true, false}
+use mathlib.Core.List.{List, []}
+use mathlib.Core.Logic.{by-cases}
+use mathlib.Core.Path.{_≡_, refl, sym, ap, _∙_}
+use Prim.Native.Nat.{ℕ, _+_, _-_, _*_, _/_, _%_, _≤_, _<_}
+use native.Mathlib.Decide.{decLt, ℕ-discrete}
+use native.Mathlib.Omega.{arith}
+use lib.Arith.{digits-lt, digits-div, digits-mod}
+use lib.ListN.{length, getD, set, replicate, length-set}
+use lib.Seq.{getD-set-same, getD-set-other}
+use borrow.Author.Tests.{eq-eqb, ne-eqb}
+use Rattle.mask.specs.LogicLaws.{both}
+use Rattle.mask.specs.BoundedLaws.{every-at, every-of}
+use Rattle.mask.specs.Tables.{table}
+use Rattle.mask.specs.TablesLaws.{table-length, table-at, table-past, table-cong, fill-done}
+use Rattle.machine.specs.declared.Pair.{Pair}
+use Rattle.machine.specs.Machines.{fairSet, next, nC, nA, setsA, pairs}
+use Rattle.machine.specs.StepLaws.{next-lt}
+use Rattle.machine.specs.WellFormedLaws.{WellPair}
+use Rattle.machine.specs.Observed.{matchedMasks}
+use Rattle.machine.specs.Iteration.{iterate}
+use Rattle.machine.specs.Game.{sameSet, allMatched, goals, levels, turn, firstFamily, sameFamily, family}
+use Rattle.theory.specs.Fixpoint.{iterate-keeps}
+use Rattle.theory.specs.GameLaws.{set-canonical, Within-refl, same-of, same-within, same-holds}
+use Rattle.theory.specs.FamilyLaws.{Tabled, family-ext, turn-tabled, first-tabled}
+use Rattle.solver.specs.Rows.{rowsOf, pairsIn, flatOf, sectionOf, familyIn, putSection, stepRows, goalRows, sameRows}
+use Rattle.solver.specs.FillLaws.{zeros-at}
+use Rattle.solver.specs.FixLaws.{Following, following-start, following-turn, following-stop, following-out}
+use Rattle.solver.specs.RowsLaws.{same-yes, same-at}
+use Rattle.solver.specs.SetRowsLaws.{rows-at, set-back, matched-rows, goals-is}
+
+-- ---- a set is put into section j, row by row
+pub record Put (F : List ℕ) (j : ℕ) (S : List ℕ) (c : ℕ) (l : List ℕ) : Type 0 where
+  pub long : length l ≡ 448
+  pub put : (i : ℕ) → i < c → getD l (j * 64 + i) 0 ≡ getD S i 0
+  pub before : (e : ℕ) → e < j * 64 → getD l e 0 ≡ getD F e 0
+  pub after : (e : ℕ) → j * 64 + c ≤ e → getD l e 0 ≡ getD F e 0
+
+module _ {F : List ℕ} {j : ℕ} {S : List ℕ} where
+  pub put-none : length F ≡ 448 → Put F j S 0 F
+  put-none h = record { long = h; put = λ i l. absurd (omega arith); before = λ e l. refl; after = λ e l. refl }
+
+  pub put-more : {c : ℕ} {l : List ℕ} → j < 7 → c < 64 → Put F j S c l → Put F j S (c + 1) (set l (j * 64 + c) (getD S c 0))
+  put-more {c} {l} hj hc d = record {
+    long = length-set l _ _ ∙ d .long;
+    put = λ i q. by-cases (ℕ-discrete i c)
+        (λ e. rw e (getD-set-same l (j * 64 + c) (getD S c 0) 0 (omega (arith, d .long))))
+        (λ e. getD-set-other l (j * 64 + c) (j * 64 + i) (getD S c 0) 0 (omega arith) ∙ d .put i (omega arith));
+    before = λ e q. getD-set-other l (j * 64 + c) e (getD S c 0) 0 (omega arith) ∙ d .before e q;
+    after = λ e q. getD-set-other l (j * 64 + c) e (getD S c 0) 0 (omega arith) ∙ d .after e (omega arith);
+  }
+
+  pub put-done : {c : ℕ} {l : List ℕ} → c ≡ 64 → Put F j S c l → l ≡ putSection F j S
+  unfolding putSection
+  put-done {c} {l} z d = fill-done 0 448 l _ (d .long) (λ e h. by-cases (ℕ-discrete (e / 64) j)
+      (λ q. let s : e ≡ j * 64 + e % 64 = omega arith in
+      rw (eq-eqb (e / 64) j q) (ap (λ (n : ℕ). getD l n 0) s ∙ d .put (e % 64) (omega arith)))
+      (λ q. rw (ne-eqb (e / 64) j q) (by-cases (decLt e (j * 64)) (λ k. d .before e k) (λ k. d .after e (omega arith)))))
+
+-- ---- the rows of a family, and back
+pub flat-at : (Z : List (List ℕ)) (j c : ℕ) → j < 7 → c < 64 → getD (flatOf Z) (j * 64 + c) 0 ≡ getD (getD Z j []) c 0
+unfolding flatOf
+flat-at Z j c hj hc =
+    table-at 448 (λ e. getD (getD Z (e / 64) []) (e % 64) 0) (j * 64 + c) 0 (digits-lt hj hc) ∙ rw (digits-div j hc, digits-mod j hc)
+
+pub flat-length : (Z : List (List ℕ)) → length (flatOf Z) ≡ 448
+unfolding flatOf
+flat-length Z = table-length 448 _
+
+section-flat : (Z : List (List ℕ)) (j : ℕ) → j < 7 → sectionOf (flatOf Z) j ≡ rowsOf (getD Z j [])
+unfolding sectionOf rowsOf
+section-flat Z j h = table-cong 64 _ _ (λ c l. flat-at Z j c h l)
+
+section-same : (x y : List ℕ) → sameRows 448 x y ≡ true → (j : ℕ) → j < 7 → sectionOf x j ≡ sectionOf y j
+unfolding sectionOf
+section-same x y t j h = table-cong 64 _ _ (λ c l. same-at 448 x y t (j * 64 + c) (digits-lt h l))
+
+-- the first j sections, and one more
+pub flat-none : (f : ℕ → List ℕ) → replicate 448 0 ≡ flatOf (table 0 f)
+unfolding flatOf table
+flat-none f = fill-done 0 448 (replicate 448 0) _ refl (λ e h. zeros-at 448 e)
+
+pub flat-more : (f : ℕ → List ℕ) (j : ℕ) (S : List ℕ) → j < 7 → ((c : ℕ) → c < 64 → getD S c 0 ≡ getD (f j) c 0)
+    → putSection (flatOf (table j f)) j S ≡ flatOf (table (j + 1) f)
+unfolding putSection flatOf
+flat-more f j S h s = table-cong 448 _ _ (λ e l. by-cases (ℕ-discrete (e / 64) j)
+    (λ q. rw (eq-eqb (e / 64) j q, q, table-at (j + 1) f j [] (omega arith)) (s (e % 64) (omega arith)))
+    (λ q. rw (ne-eqb (e / 64) j q, table-at 448 (λ i. getD (getD (table j f) (i / 64) []) (i % 64) 0) e 0 l)
+    (ap (λ (R : List ℕ). getD R (e % 64) 0) (by-cases (decLt (e / 64) j)
+    (λ k. table-at j f (e / 64) [] k ∙ sym (table-at (j + 1) f (e / 64) [] (omega arith)))
+    (λ k. table-past j f (e / 64) [] (omega arith) ∙ sym (table-past (j + 1) f (e / 64) [] (omega arith)))))))
+
+-- the loop over turns: after i of at most n turns it holds the family after i turns
+abbrev pub Falling : Pair → ℕ → ℕ → List ℕ → Type 0
+Falling p = Following flatOf (sameFamily p) (turn p) (firstFamily p)
+
+module _ (p : Pair) (w : WellPair p) where
+  few : (j : ℕ) → j < setsA p → j < 7
+  few j h = omega (arith, w .abstraction .sets-high)
+
+  pub section-in : (F : List ℕ) (j : ℕ) → j < setsA p → pairsIn p (sectionOf F j) ≡ getD (familyIn p F) j []
+  unfolding familyIn
+  section-in F j h = sym (table-at (setsA p) (λ i. pairsIn p (sectionOf F i)) j [] h)
+
+  pub family-back : (Z : List (List ℕ)) → Tabled p Z → familyIn p (flatOf Z) ≡ Z
+  unfolding familyIn
+  family-back Z q =
+      table-cong (setsA p) _ _ (λ j h. ap (pairsIn p) (section-flat Z j (few j h)) ∙ set-back p w (getD Z j []) (q .canonical j h)) ∙ sym (q .listed)
+
+  -- two families have the same rows exactly if they are the same
+  pub flat-same : (Z W : List (List ℕ)) → Tabled p Z → Tabled p W → sameRows 448 (flatOf Z) (flatOf W) ≡ sameFamily p Z W
+  unfolding sameFamily
+  flat-same Z W qz qw = both _ _
+      (λ t. every-of (setsA p) (λ j. sameSet p (getD Z j []) (getD W j [])) (λ j h. rw (equal t j h) (same-of p (getD W j []) (getD W j []) (Within-refl p _) (Within-refl p _))))
+      (λ t. rw (family-ext p Z W qz qw
+      (λ j h. same-within p _ _ (every-at (setsA p) _ t j h)) (λ j h. same-holds p _ _ (every-at (setsA p) _ t j h)))
+      (same-yes 448 (flatOf W) (flatOf W) (λ e h. refl)))
+    where
+      equal : sameRows 448 (flatOf Z) (flatOf W) ≡ true → (j : ℕ) → j < setsA p → getD Z j [] ≡ getD W j []
+      equal t j h =
+          sym (set-back p w (getD Z j []) (qz .canonical j h))
+          ∙ ap (pairsIn p) (sym (section-flat Z j (few j h)) ∙ section-same (flatOf Z) (flatOf W) t j (few j h) ∙ section-flat W j (few j h))
+          ∙ set-back p w (getD W j []) (qw .canonical j h)
+
+  -- all matched pairs in every section
+  pub first-is : {matched : List ℕ} → matched ≡ matchedMasks p → flatOf (table (setsA p) (λ j. matched)) ≡ flatOf (firstFamily p)
+  unfolding flatOf firstFamily
+  first-is {matched} e = table-cong 448 _ _ (λ i h. by-cases (decLt (i / 64) (setsA p))
+      (λ l. rw (table-at (setsA p) (λ j. matched) (i / 64) [] l, table-at (setsA p) (λ j. allMatched p) (i / 64) [] l)
+      (ap (λ (S : List ℕ). getD S (i % 64) 0) (e ∙ matched-rows p w) ∙ rows-at (allMatched p) (i % 64) (omega arith)))
+      (λ l. rw (table-past (setsA p) (λ j. matched) (i / 64) [] (omega arith), table-past (setsA p) (λ j. allMatched p) (i / 64) [] (omega arith))))
+
+  -- ---- a turn, section by section
+  module _ (F : List ℕ) where
+    pub goals-done : {matched set steps : List ℕ} {i : ℕ} (j : ℕ) → j < setsA p → matched ≡ matchedMasks p → i ≡ next (setsA p) j → set ≡ sectionOf F i
+        → steps ≡ stepRows (nC p) (nA p) (p .concrete .successors) (p .abstraction .successors) set
+        → goalRows matched (getD (p .abstraction .fairness) j 0) steps ≡ rowsOf (goals p (familyIn p F) j)
+    unfolding fairSet
+    goals-done j h em ei es et =
+        rw (et, es, ei, em) (goals-is p w (familyIn p F) j (sectionOf F (next (setsA p) j)) (section-in F (next (setsA p) j) (next-lt (setsA p) j h)))
+
+    pub turn-more : {g S : List ℕ} (j : ℕ) → j < setsA p → g ≡ rowsOf (goals p (familyIn p F) j) → S ≡ rowsOf (levels p (pairsIn p g))
+        → putSection (flatOf (table j (λ i. levels p (goals p (familyIn p F) i)))) j S ≡ flatOf (table (j + 1) (λ i. levels p (goals p (familyIn p F) i)))
+    unfolding goals
+    turn-more j h eg es = flat-more _ j _ (few j h) (λ c l.
+        ap (λ (R : List ℕ). getD R c 0) (es ∙ ap (λ (G : List ℕ). rowsOf (levels p G)) (ap (pairsIn p) eg ∙ set-back p w (goals p (familyIn p F) j) (set-canonical p _)))
+        ∙ rows-at _ c l)
+
+    pub turn-all : {j : ℕ} → j ≡ setsA p → flatOf (table j (λ i. levels p (goals p (familyIn p F) i))) ≡ flatOf (turn p (familyIn p F))
+    unfolding turn
+    turn-all e = rw e
+
+  -- ---- the turns
+  pub falling-start : {n : ℕ} {y : List ℕ} → y ≡ flatOf (firstFamily p) → Falling p n 0 y
+  falling-start e = following-start (Tabled p) flatOf (sameFamily p) (sameRows 448) (turn p) (firstFamily p) (λ Z q. turn-tabled p Z) (first-tabled p) flat-same e
+
+  module _ {n i : ℕ} {y next : List ℕ} (d : Falling p n i y) (e : next ≡ flatOf (turn p (familyIn p y))) where
+    step : next ≡ flatOf (turn p (iterate i (turn p) (firstFamily p)))
+    step = e ∙ ap (λ (Z : List (List ℕ)). flatOf (turn p Z)) (ap (familyIn p) (d .shown) ∙ family-back _ (iterate-keeps (turn p) (Tabled p) (λ Z q. turn-tabled p Z) i (firstFamily p) (first-tabled p)))
+
+    pub falling-turn : i < n → sameRows 448 y next ≡ false → Falling p n (i + 1) next
+    falling-turn h t = following-turn (Tabled p) flatOf (sameFamily p) (sameRows 448) (turn p) (firstFamily p) (λ Z q. turn-tabled p Z) (first-tabled p) flat-same d h step t
+
+    pub falling-stop : n ≡ setsA p * pairs p → sameRows 448 y next ≡ true → y ≡ flatOf (family p)
+    unfolding family
+    falling-stop z t = rw (← z) (following-stop (Tabled p) flatOf (sameFamily p) (sameRows 448) (turn p) (firstFamily p) (λ Z q. turn-tabled p Z) (first-tabled p) flat-same d step t)
+
+  pub falling-out : {n i : ℕ} {y : List ℕ} → Falling p n i y → n ≡ setsA p * pairs p → n ≤ i → y ≡ flatOf (family p)
+  unfolding family
+  falling-out d z h = rw (← z) (following-out (Tabled p) flatOf (sameFamily p) (sameRows 448) (turn p) (firstFamily p) (λ Z q. turn-tabled p Z) (first-tabled p) flat-same d h)

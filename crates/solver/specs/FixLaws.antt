@@ -1,0 +1,92 @@
+-- Laws of a loop that applies F until nothing changes, and of two such loops side by side.
+use mathlib.Core.Bool.{Bool, true, false, cond}
+use mathlib.Core.Path.{_≡_, refl, sym, ap, ap₂, _∙_}
+use Prim.Native.Nat.{ℕ, zero, suc, _+_, _-_, _≤_, _<_}
+use native.Mathlib.Numerals.{add-one}
+use native.Mathlib.Omega.{arith}
+use Rattle.machine.specs.Iteration.{iterate, settle}
+use Rattle.theory.specs.Fixpoint.{iterate-keeps}
+
+module _ {X : Type 0} (same : X → X → Bool) (F : X → X) where
+  settle-stop : (n : ℕ) (s : X) → same s (F s) ≡ true → settle same n F s ≡ s
+  unfolding settle
+  settle-stop zero s t = refl
+  settle-stop (suc n) s t = rw t
+
+  settle-go : (n : ℕ) (s : X) → same s (F s) ≡ false → settle same (suc n) F s ≡ settle same n F (F s)
+  unfolding settle
+  settle-go n s t = rw t
+
+  settle-out : (s : X) → settle same 0 F s ≡ s
+  unfolding settle
+  settle-out s = refl
+
+  -- after i turns of at most n, the loop has come from s₀ to s
+  pub record Settling (n : ℕ) (s₀ : X) (i : ℕ) (s : X) : Type 0 where
+    pub within : i ≤ n
+    pub later : settle same n F s₀ ≡ settle same (n - i) F s
+
+  module _ {n : ℕ} {s₀ : X} where
+    pub settling-start : Settling n s₀ 0 s₀
+    settling-start = record { within = omega arith; later = ap (λ (m : ℕ). settle same m F s₀) (omega arith) }
+
+    module _ {i : ℕ} {s : X} (d : Settling n s₀ i s) where
+      pub settling-turn : i < n → same s (F s) ≡ false → Settling n s₀ (i + 1) (F s)
+      settling-turn h t = record {
+        within = omega arith;
+        later = d .later ∙ ap (λ (m : ℕ). settle same m F s) (omega arith) ∙ settle-go (n - (i + 1)) s t;
+      }
+
+      pub settling-stop : same s (F s) ≡ true → settle same n F s₀ ≡ s
+      settling-stop t = d .later ∙ settle-stop (n - i) s t
+
+      pub settling-out : n ≤ i → settle same n F s₀ ≡ s
+      settling-out h = d .later ∙ ap (λ (m : ℕ). settle same m F s) (omega arith) ∙ settle-out s
+
+-- F on values that are kept by P, and G on their images: they come to the same
+module _ {X Y : Type 0} (P : X → Type 0) (h : X → Y) (same : X → X → Bool) (alike : Y → Y → Bool) (F : X → X) (G : Y → Y)
+    (keeps : (x : X) → P x → P (F x))
+    (follows : (x : X) → P x → G (h x) ≡ h (F x))
+    (agrees : (x y : X) → P x → P y → alike (h x) (h y) ≡ same x y) where
+  pub settle-along : (n : ℕ) (s : X) → P s → settle alike n G (h s) ≡ h (settle same n F s)
+  unfolding settle
+  settle-along zero s q = refl
+  settle-along (suc n) s q =
+      rw (follows s q, agrees s (F s) q (keeps s q), settle-along n (F s) (keeps s q)) (pull (same s (F s)))
+    where
+      pull : (b : Bool) → cond b (h s) (h (settle same n F (F s))) ≡ h (cond b s (settle same n F (F s)))
+      pull true = refl
+      pull false = refl
+
+-- a loop that holds the image of what F has made of s₀ after i turns
+pub record Following {X Y : Type 0} (h : X → Y) (same : X → X → Bool) (F : X → X) (s₀ : X) (n i : ℕ) (y : Y) : Type 0 where
+  pub shown : y ≡ h (iterate i F s₀)
+  pub settling : Settling same F n s₀ i (iterate i F s₀)
+
+module _ {X Y : Type 0} (P : X → Type 0) (h : X → Y) (same : X → X → Bool) (alike : Y → Y → Bool) (F : X → X) (s₀ : X)
+    (keeps : (x : X) → P x → P (F x))
+    (starts : P s₀)
+    (agrees : (x y : X) → P x → P y → alike (h x) (h y) ≡ same x y) where
+  pub following-start : {n : ℕ} {y : Y} → y ≡ h s₀ → Following h same F s₀ n 0 y
+  unfolding iterate
+  following-start e = record { shown = e; settling = settling-start same F }
+
+  module _ {n i : ℕ} {y : Y} (d : Following h same F s₀ n i y) where
+    pub kept : P (iterate i F s₀)
+    kept = iterate-keeps F P keeps i s₀ starts
+
+    tested : {next : Y} → next ≡ h (F (iterate i F s₀)) → alike y next ≡ same (iterate i F s₀) (F (iterate i F s₀))
+    tested e = ap₂ alike (d .shown) e ∙ agrees _ _ kept (keeps _ kept)
+
+    pub following-turn : {next : Y} → i < n → next ≡ h (F (iterate i F s₀)) → alike y next ≡ false → Following h same F s₀ n (i + 1) next
+    unfolding iterate
+    following-turn l e t = record {
+      shown = rw add-one e;
+      settling = rw add-one (rw add-one at (settling-turn same F (d .settling) l (sym (tested e) ∙ t)));
+    }
+
+    pub following-stop : {next : Y} → next ≡ h (F (iterate i F s₀)) → alike y next ≡ true → y ≡ h (settle same n F s₀)
+    following-stop e t = d .shown ∙ ap h (sym (settling-stop same F (d .settling) (sym (tested e) ∙ t)))
+
+    pub following-out : n ≤ i → y ≡ h (settle same n F s₀)
+    following-out l = d .shown ∙ ap h (sym (settling-out same F (d .settling) l))
