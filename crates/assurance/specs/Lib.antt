@@ -1,0 +1,2 @@
+pub mod Statements
+pub mod Theorems
