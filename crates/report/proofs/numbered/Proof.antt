@@ -1,0 +1,62 @@
+use mathlib.Core.Path.{_≡_, ap}
+use lib.ListN.{length}
+use Prim.Native.Nat.{_≤_}
+use native.Mathlib.Omega.{arith}
+use Rattle.decimal.specs.declared.Digits.{Digits}
+use Rattle.decimal.specs.DigitsLaws.{digits-start}
+use Rattle.report.specs.LineLaws.{numbered-line}
+use borrow.Author.Needs.{needs}
+use Rattle.report.proofs.numbered.Statement.{statement}
+use Rattle.report.proofs.numbered.Tie as tie
+
+digits-of-requires : tie.Need-digits-of-requires
+digits-of-requires c κs = search needs
+
+slice-aggregate-put : tie.Need-slice-aggregate-put
+slice-aggregate-put c = search needs
+
+start-low : (c : tie.After-digits-of) → c .digits-of .result .start ≤ 20
+start-low c = omega (arith, ap (λ (x : Digits). x .start) (c .digits-of .ensures), digits-start (c .before .before .args .n))
+
+sub-put : tie.Need-sub-put
+sub-put c = start-low (c .before .before)
+
+part-put-start : tie.Need-part-put-start
+part-put-start c = start-low (c .before .before .before)
+
+part-put-end : tie.Need-part-put-end
+part-put-end c = let full : length (c .before .before .before .digits-of .result .bytes) ≡ 20 = search needs in omega (arith, full)
+
+put-requires : tie.Need-put-requires
+put-requires c κs = search needs
+
+sub-end : tie.Need-sub-end
+sub-end c = start-low (c .before .before .before .before .before .before)
+
+add-end : tie.Need-add-end
+add-end c = search needs
+
+array-write-text : tie.Need-array-write-text
+array-write-text c = search needs
+
+add-t15 : tie.Need-add-t15
+add-t15 c = search needs
+
+returns : tie.Need-returns
+returns c = (λ s e. numbered-line _ _ (c .before .before .before .before .before .before .digits-of .ensures) _ s _ _ (c .before .before .before .before .before .before .before .before .pre) e (c .before .put .ensures), omega arith)
+
+pub numbered-spec : {M : Type 1} → statement M
+numbered-spec =
+    tie.close
+    (tie.spec
+    digits-of-requires
+    slice-aggregate-put
+    sub-put
+    part-put-start
+    part-put-end
+    put-requires
+    sub-end
+    add-end
+    array-write-text
+    add-t15
+    returns)

@@ -1,0 +1,53 @@
+-- Document 01, "Console and program": the line that `shelf` writes, as ASCII.
+use mathlib.Core.Bool.{true, false}
+use mathlib.Core.List.{List, [], _∷_, _++_}
+use Prim.Native.Nat.{ℕ}
+use lib.ListN.{take}
+use Rattle.decimal.specs.Decimal.{decimal}
+use Rattle.machine.specs.declared.Refusal.{Refusal}
+use Rattle.machine.specs.Verdict.{Verdict, carried, notCarried, refused}
+use Rattle.verdict.specs.Outcomes.{Outcome, says, noTable, fileOutcome}
+
+abbrev pub blankSpace : List ℕ
+blankSpace = 32 ∷ []
+
+abbrev pub lineFeed : List ℕ
+lineFeed = 10 ∷ []
+
+-- "carried "
+abbrev pub carriedText : List ℕ
+carriedText = 99 ∷ 97 ∷ 114 ∷ 114 ∷ 105 ∷ 101 ∷ 100 ∷ 32 ∷ []
+
+-- "not carried "
+abbrev pub notCarriedText : List ℕ
+notCarriedText = 110 ∷ 111 ∷ 116 ∷ 32 ∷ 99 ∷ 97 ∷ 114 ∷ 114 ∷ 105 ∷ 101 ∷ 100 ∷ 32 ∷ []
+
+-- "no table" and a line feed
+abbrev pub noTableText : List ℕ
+noTableText = 110 ∷ 111 ∷ 32 ∷ 116 ∷ 97 ∷ 98 ∷ 108 ∷ 101 ∷ 10 ∷ []
+
+-- "refused "
+abbrev pub refusedText : List ℕ
+refusedText = 114 ∷ 101 ∷ 102 ∷ 117 ∷ 115 ∷ 101 ∷ 100 ∷ 32 ∷ []
+
+-- "refused NUMBER P Q R"
+unfoldable pub refusalLine : Refusal → List ℕ
+refusalLine r =
+    refusedText ++ (decimal (r .number) ++ (blankSpace ++ (decimal (r .first) ++ (blankSpace ++ (decimal (r .second) ++ (blankSpace ++ (decimal (r .third) ++ lineFeed)))))))
+
+-- "carried COUNT", "not carried C COUNT", or a refusal's line
+unfoldable pub verdictLine : Verdict → List ℕ
+verdictLine (carried n) = carriedText ++ (decimal n ++ lineFeed)
+verdictLine (notCarried c n) = notCarriedText ++ (decimal c ++ (blankSpace ++ (decimal n ++ lineFeed)))
+verdictLine (refused r) = refusalLine r
+
+unfoldable pub outcomeLine : Outcome → List ℕ
+outcomeLine (says v) = verdictLine v
+outcomeLine noTable = noTableText
+
+-- "It takes the first 59,904 bytes of longer input as the file."
+abbrev pub inputRoom : ℕ
+inputRoom = 59904
+
+unfoldable pub shelfLine : List ℕ → List ℕ
+shelfLine input = outcomeLine (fileOutcome (take inputRoom input))
