@@ -1,0 +1,86 @@
+#!/bin/sh
+# Builds the programs in C from the archives. Holds `console` to the number of each sample and of damaged copies, and `restore` to the
+# samples whose table is the solver's.
+set -eu
+cd "$(dirname "$0")/.."
+work=$(mktemp -d)
+trap 'rm -rf "$work"' EXIT
+for name in console filesolver; do
+    rt staticlib "$name" >"$work/log" 2>&1 || { tail -n 20 "$work/log"; exit 1; }
+done
+flags='-std=c11 -O2 -Wall -Wextra -Werror'
+cc $flags -o "$work/console" clients/console.c target/staticlib/libconsole.a
+cc $flags -o "$work/restore" clients/restore.c target/staticlib/libfilesolver.a target/staticlib/libconsole.a
+
+failed=0
+tried=0
+# same WHAT EXPECTED SAID
+same() {
+    tried=$((tried + 1))
+    [ "$2" = "$3" ] || { echo "$1: expected '$2', and it says '$3'"; failed=1; }
+}
+# expect NUMBER FILE
+expect() {
+    same "console $2" "$1" "$("$work/console" "$2")"
+}
+# restores FILE NUMBER SAMPLE: restored, the file is the sample and has the number
+restores() {
+    same "restore $1" "$2" "$("$work/restore" "$1" "$work/new")"
+    cmp -s "$work/new" "$3" || { echo "restore $1: not $3"; failed=1; }
+}
+# from NAME SAMPLE: a copy to damage
+from() {
+    file=$work/$1
+    cat "samples/$2.dom" >"$file"
+}
+# byte OFFSET VALUE: changes one byte of the copy
+byte() {
+    printf "\\$(printf %03o "$2")" | dd of="$file" bs=1 seek="$1" conv=notrunc 2>/dev/null
+}
+# seal: makes the check of block 0 right again
+seal() {
+    sum=$(od -An -v -tu1 -N510 "$file" | awk '{ for (i = 1; i <= NF; i++) { n++; s = (s + n * $i) % 65521 } } END { print s }')
+    byte 510 $((sum % 256))
+    byte 511 $((sum / 256))
+}
+
+# the shelf examples, a large show, and a show that has lost its table
+for n in 01 03 05 06 10 12; do expect 100 "samples/case-$n.dom"; done
+for n in 02 04 09 11; do expect 200 "samples/case-$n.dom"; done
+for n in 07 08; do expect 12 "samples/case-$n.dom"; done
+expect 100 samples/large.dom
+expect 101 samples/lost.dom
+
+# each refusal of the reader
+: >"$work/empty"; expect 2 "$work/empty"
+head -c 511 samples/case-05.dom >"$work/short"; expect 2 "$work/short"
+from check case-05; byte 100 1; expect 3 "$file"
+from number case-05; byte 0 1; seal; expect 3 "$file"
+from letters case-05; byte 2 100; seal; expect 4 "$file"
+from zero case-05; byte 10 1; seal; expect 4 "$file"
+from table-byte case-05; byte 11 2; seal; expect 4 "$file"
+from no-states case-05; byte 6 0; seal; expect 5 "$file"
+from eight-sets case-05; byte 9 8; seal; expect 5 "$file"
+from long case-05; head -c 512 /dev/zero >>"$file"; expect 6 "$file"
+head -c 58880 samples/large.dom >"$work/cut"; expect 6 "$work/cut"
+from later large; byte 2000 77; expect 7 "$file"
+from padding case-05; byte 509 1; seal; expect 8 "$file"
+from beyond case-05; byte 19 3; seal; expect 9 "$file"
+from no-start case-05; byte 19 0; seal; expect 10 "$file"
+from stuck case-05; byte 61 0; seal; expect 11 "$file"
+
+# another entry, and a start state of the rig that lacks a partner
+from entry case-05; byte 77 3; seal; expect 12 "$file"
+from lacking large; byte 82 8; seal; expect 203 "$file"
+
+# a lost table and other tables, and shows that have the solver's table already
+for name in lost case-06 case-07 case-08 case-09; do restores "samples/$name.dom" 100 samples/case-05.dom; done
+for n in 01 03 05 10 12; do restores "samples/case-$n.dom" 100 "samples/case-$n.dom"; done
+for n in 02 04 11; do restores "samples/case-$n.dom" 200 "samples/case-$n.dom"; done
+restores samples/large.dom 100 samples/large.dom
+same 'restore later' 'refused 7 3 0 0' "$("$work/restore" "$work/later" "$work/none")"
+same 'restore stuck' 'refused 11 1 1 0' "$("$work/restore" "$work/stuck" "$work/none")"
+[ ! -e "$work/none" ] || { echo 'restore: a refusal wrote a file'; failed=1; }
+
+[ "$failed" = 0 ] || exit 1
+echo "clients/check.sh: $tried calls, each as expected"
