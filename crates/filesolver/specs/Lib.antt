@@ -1,0 +1,4 @@
+-- definitions
+pub mod Solving
+-- laws
+pub mod SolvingLaws

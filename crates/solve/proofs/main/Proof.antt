@@ -1,0 +1,93 @@
+use mathlib.Core.Path.{_≡_, sym, _∙_}
+use Prim.Native.Nat.{ℕ, _≤_}
+use native.Mathlib.Omega.{arith}
+use lib.ListN.{length, length-replicate}
+use lib.Seq.{length-take-le}
+use Rattle.filesolver.specs.SolvingLaws.{size-bytes, solved-small}
+use borrow.Author.Needs.{needs}
+use Rattle.solve.proofs.main.Statement.{statement}
+use Rattle.solve.proofs.main.Tie as tie
+
+slice-aggregate-read-full : tie.Need-slice-aggregate-read-full
+slice-aggregate-read-full c = search needs
+
+read-full-requires : tie.Need-read-full-requires
+read-full-requires c κs = search needs
+
+array-share-prefix-input : tie.Need-array-share-prefix-input
+array-share-prefix-input c = search needs
+
+slice-aggregate-solve-bytes : tie.Need-slice-aggregate-solve-bytes
+slice-aggregate-solve-bytes c = search needs
+
+slice-aggregate-solve-bytes-2 : tie.Need-slice-aggregate-solve-bytes-2
+slice-aggregate-solve-bytes-2 c = search needs
+
+solve-bytes-requires : tie.Need-solve-bytes-requires
+solve-bytes-requires c κs = search needs
+
+enum-known-size : tie.Need-enum-known-size
+enum-known-size c = search needs
+
+-- the file lies within the buffer
+fits : (c : tie.After-known-told) → c .before .size .given .0 .0 ≤ length (c .before .before .before .before .solve-bytes .last .1 .0)
+fits c =
+    let made = c .before .before .before .before .solve-bytes in
+    let small = solved-small _ _ _ (size-bytes _ _ (sym (made .ensures .0) ∙ c .before .size .given .1)) in
+    omega (arith, small, made .kept .1 .0 ∙ length-replicate {A = ℕ} 59392 0)
+
+array-share-prefix-out : tie.Need-array-share-prefix-out
+array-share-prefix-out c = fits c
+
+slice-aggregate-write-all : tie.Need-slice-aggregate-write-all
+slice-aggregate-write-all c = sym (length-take-le _ _ (fits (c .before)))
+
+write-all-requires : tie.Need-write-all-requires
+write-all-requires c κs = search needs
+
+enum-known-size-2 : tie.Need-enum-known-size-2
+enum-known-size-2 c = search needs
+
+refusal-line-requires : tie.Need-refusal-line-requires
+refusal-line-requires c κs = search needs
+
+-- the line lies within its array
+within : (c : tie.After-refusal-line) → c .refusal-line .result .length ≤ length (c .refusal-line .result .text)
+within c = let full : length (c .refusal-line .result .text) ≡ 128 = search needs in omega (arith, full, c .refusal-line .ensures .1)
+
+array-share-prefix-text : tie.Need-array-share-prefix-text
+array-share-prefix-text c = within (c .before)
+
+slice-aggregate-write-all-2 : tie.Need-slice-aggregate-write-all-2
+slice-aggregate-write-all-2 c = sym (length-take-le _ _ (within (c .before .before)))
+
+write-all-requires-2 : tie.Need-write-all-requires-2
+write-all-requires-2 c κs = search needs
+
+returns : tie.Need-returns
+returns c = search needs
+
+returns-2 : tie.Need-returns-2
+returns-2 c = search needs
+
+pub main-spec : {M : Type 1} → statement M
+main-spec =
+    tie.close
+    (tie.spec
+    slice-aggregate-read-full
+    read-full-requires
+    array-share-prefix-input
+    slice-aggregate-solve-bytes
+    slice-aggregate-solve-bytes-2
+    solve-bytes-requires
+    enum-known-size
+    array-share-prefix-out
+    slice-aggregate-write-all
+    write-all-requires
+    enum-known-size-2
+    refusal-line-requires
+    array-share-prefix-text
+    slice-aggregate-write-all-2
+    write-all-requires-2
+    returns
+    returns-2)
