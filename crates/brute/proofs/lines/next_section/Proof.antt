@@ -1,0 +1,21 @@
+use mathlib.Core.Path.{sym}
+use native.Mathlib.Omega.{arith}
+use borrow.Author.Needs.{needs}
+use Rattle.machine.specs.StepLaws.{next-step, next-wrap}
+use Rattle.brute.proofs.lines.next_section.Statement.{statement}
+use Rattle.brute.proofs.lines.next_section.Tie as tie
+
+add-if1 : tie.Need-add-if1
+add-if1 c = search needs
+
+add-result : tie.Need-add-result
+add-result c = search needs
+
+returns : tie.Need-returns
+returns c = let x = c .before .args in omega (arith, next-step (x .n) (x .j) (omega arith))
+
+returns-2 : tie.Need-returns-2
+returns-2 c = let x = c .before .args in sym (next-wrap (x .n) (x .j) (omega arith))
+
+pub next-section-spec : {M : Type 1} → statement M
+next-section-spec = tie.close (tie.spec add-if1 add-result returns returns-2)

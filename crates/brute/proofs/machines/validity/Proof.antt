@@ -1,0 +1,72 @@
+use mathlib.Core.Bool.{true}
+use mathlib.Core.Path.{_∙_, _≡_, sym}
+use borrow.Author.Needs.{needs}
+use Rattle.mask.specs.LogicLaws.{and-false-l, and-false-r, and-i}
+use Rattle.machine.specs.Refusals.{andThen}
+use Rattle.machine.specs.WellFormed.{countsOk, pairValidity}
+use borrow.Author.Tests.{not-true, not-false}
+use Rattle.brute.proofs.machines.validity.Statement.{statement}
+use Rattle.brute.proofs.machines.validity.Tie as tie
+
+concrete-counts : (c : tie.Else1) → let m = c .before .before .before .before .args .p .concrete in countsOk 8 (m .states) (m .sets) ≡ true
+concrete-counts c = sym (c .before .has-counts .ensures) ∙ not-false _ (c .if1 .left)
+
+abstract-counts : (c : tie.Else2) → let m = c .before .before .before .before .before .before .args .p .abstraction in countsOk 7 (m .states) (m .sets) ≡ true
+abstract-counts c = sym (c .before .has-counts2 .ensures) ∙ not-false _ (c .if2 .left)
+
+has-counts-requires : tie.Need-has-counts-requires
+has-counts-requires c κs = search needs
+
+refused-requires : tie.Need-refused-requires
+refused-requires c κs = search needs
+
+returns : tie.Need-returns
+unfolding pairValidity
+returns c = rw (and-false-l _ (sym (c .before .before .has-counts .ensures) ∙ not-true _ (c .before .if1 .taken))) (c .refused .ensures)
+
+has-counts-requires-2 : tie.Need-has-counts-requires-2
+has-counts-requires-2 c κs = search needs
+
+refused-requires-2 : tie.Need-refused-requires-2
+refused-requires-2 c κs = search needs
+
+returns-2 : tie.Need-returns-2
+unfolding pairValidity
+returns-2 c = rw (and-false-r _ (sym (c .before .before .has-counts2 .ensures) ∙ not-true _ (c .before .if2 .taken))) (c .refused2 .ensures)
+
+content-requires : tie.Need-content-requires
+content-requires c κs = search needs
+
+enum-known-first : tie.Need-enum-known-first
+enum-known-first c = search needs
+
+enum-told : tie.Need-enum-told
+enum-told c = search needs
+
+content-requires-2 : tie.Need-content-requires-2
+content-requires-2 c κs = search needs
+
+returns-3 : tie.Need-returns-3
+unfolding pairValidity andThen
+returns-3 c = rw (and-i (concrete-counts (c .before .before .before .before .before .before)) (abstract-counts (c .before .before .before .before)), ← c .before .before .before .content .ensures, c .before .first .given .1)
+
+returns-4 : tie.Need-returns-4
+unfolding pairValidity andThen
+returns-4 c = rw (and-i (concrete-counts (c .before .before .before .before .before .before)) (abstract-counts (c .before .before .before .before)), ← c .before .before .before .content .ensures, c .before .enum-told .given .1) (c .content2 .ensures)
+
+pub validity-spec : {M : Type 1} → statement M
+validity-spec =
+    tie.close
+    (tie.spec
+    has-counts-requires
+    refused-requires
+    returns
+    has-counts-requires-2
+    refused-requires-2
+    returns-2
+    content-requires
+    enum-known-first
+    enum-told
+    content-requires-2
+    returns-3
+    returns-4)

@@ -1,0 +1,64 @@
+use mathlib.Core.Bool.{cond}
+use mathlib.Core.Logic.{⊎-elim}
+use mathlib.Core.Path.{_∙_, _≡_, sym}
+use Prim.Native.Nat.{_-_}
+use native.Mathlib.Omega.{arith}
+use lib.ListN.{length}
+use borrow.Author.Needs.{needs}
+use Rattle.mask.specs.Bits.{hasBit}
+use Rattle.brute.specs.FillLaws.{Filling, filling-done, filling-start, filling-step}
+use Rattle.brute.proofs.numbers.put_bits.Statement.{statement}
+use Rattle.brute.proofs.numbers.put_bits.Tie as tie
+
+abbrev Inv-loop : tie.InvT-loop
+Inv-loop m out₀ s₀ s-end out s = Filling (length out₀) (λ k. cond (hasBit m k) 1 0) s out
+
+abbrev μ-loop : tie.MeasureT-loop
+μ-loop m out₀ s₀ s-end out s = s-end - s
+
+-- what a turn stores
+bit : (c : tie.Joined1 Inv-loop μ-loop)
+    → let l = c .before .before .before in
+    c .if1 .v ≡ cond (hasBit (l .before .before .args .m) (l .loop .s)) 1 0
+bit c =
+    let e = sym (c .before .has .ensures) in
+    ⊎-elim (λ w. w .1 ∙ rw (e ∙ w .0 .taken)) (λ w. w .1 ∙ rw (e ∙ w .0 .left)) (c .if1 .came)
+
+loop-holds : tie.Need-loop-holds Inv-loop μ-loop
+loop-holds c = filling-start _ _
+
+has-requires : tie.Need-has-requires Inv-loop μ-loop
+has-requires c κs = search needs
+
+slice-write-out : tie.Need-slice-write-out Inv-loop μ-loop
+slice-write-out c = omega (arith, c .before .before .before .loop .inv .size)
+
+add-s : tie.Need-add-s Inv-loop μ-loop
+add-s c = search needs
+
+loop-less : tie.Need-loop-less Inv-loop μ-loop
+loop-less c = search needs
+
+loop-again : tie.Need-loop-again Inv-loop μ-loop
+loop-again c = filling-step _ (c .before .before .before .loop .inv) (omega arith) (bit c)
+
+same-length : tie.Need-same-length Inv-loop μ-loop
+same-length c = c .before .loop .inv .size
+
+returns : tie.Need-returns Inv-loop μ-loop
+returns c = filling-done (c .before .loop .inv) (omega arith)
+
+pub put-bits-spec : {M : Type 1} → statement M
+put-bits-spec =
+    tie.close
+    (tie.spec
+    Inv-loop
+    μ-loop
+    loop-holds
+    has-requires
+    slice-write-out
+    add-s
+    loop-less
+    loop-again
+    same-length
+    returns)

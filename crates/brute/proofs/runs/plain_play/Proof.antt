@@ -1,0 +1,168 @@
+use mathlib.Core.Path.{_∙_, _≡_, ap, sym}
+use Prim.Native.Nat.{_*_, _+_, _-_, _≤_}
+use native.Mathlib.Omega.{arith}
+use lib.ListN.{length}
+use borrow.Author.Needs.{needs}
+use Rattle.mask.specs.BoundedLaws.{first-le}
+use Rattle.machine.specs.Lassos.{moment}
+use Rattle.machine.specs.Lines.{linesValidity}
+use Rattle.machine.specs.Player.{lassoValidity, lastRound, startPartner}
+use Rattle.machine.specs.WellFormed.{pairValidity}
+use Rattle.machine.specs.WellFormedLaws.{valid-is-well}
+use Rattle.machine.specs.declared.Validity.the-variants.{Valid}
+use Rattle.brute.specs.Runs.{lassoOf, playedOf}
+use Rattle.brute.specs.ScanLaws.{played-alone, played-fail, played-ill, played-run, played-unfit, valid-length}
+use Rattle.brute.specs.TargetLaws.{mul-bound}
+use Rattle.brute.proofs.runs.plain_play.Statement.{statement}
+use Rattle.brute.proofs.runs.plain_play.Tie as tie
+
+valid : (c : tie.After-enum-told) → pairValidity (c .before .before .before .before .before .before .before .args .p) ≡ Valid
+valid c = sym (c .before .before .validity .ensures) ∙ c .enum-told .given .1
+
+passed : (c : tie.After-enum-told2) → linesValidity (c .before .before .before .before .before .before .before .before .before .before .args .p) (c .before .before .before .before .before .before .before .before .before .before .args .table .now) ≡ Valid
+passed c = sym (c .before .before .lines .ensures) ∙ c .enum-told2 .given .1
+
+fits : (c : tie.After-enum-told3) → let x = c .before .before .before .before .before .before .before .before .before .before .before .before .before .args in lassoValidity (x .p .concrete) (lassoOf (x .stem .now) (x .cycle .now)) ≡ Valid
+fits c = sym (c .before .before .lasso-fits .ensures) ∙ c .enum-told3 .given .1
+
+start : (c : tie.After-least-partner)
+    → let x = c .before .before .before .before .before .before .before .before .before .before .before .before .before .before .before .args in
+    c .least-partner .result ≡ startPartner (x .p) (x .table .now) (moment (lassoOf (x .stem .now) (x .cycle .now)) 0)
+unfolding startPartner
+start c = c .least-partner .ensures ∙ ap (startPartner (c .before .before .before .before .before .before .before .before .before .before .before .before .before .before .before .args .p) (c .before .before .before .before .before .before .before .before .before .before .before .before .before .before .before .args .table .now)) (c .before .moment-at .ensures)
+
+-- the rounds and the lasso's length are small numbers
+room : (c : tie.After-earlier-round)
+    → let x = c .before .before .before .before .before .before .before .before .before .before .before .before .before .before .before .before .before .before .before .args in
+    (c .before .last-round .result ≤ 449) × (c .earlier-round .result ≤ c .before .last-round .result)
+    × (length (x .stem .now) + length (x .cycle .now) ≤ 64)
+    × (c .earlier-round .result * length (x .cycle .now) ≤ 28736)
+    × ((c .before .last-round .result - c .earlier-round .result) * length (x .cycle .now) ≤ 28736)
+unfolding lastRound
+room c =
+    let x = c .before .before .before .before .before .before .before .before .before .before .before .before .before .before .before .before .before .before .before .args in
+    let a : c .before .last-round .result ≤ 449 = rw (c .before .last-round .ensures) (first-le 449 _) in
+    let b : c .earlier-round .result ≤ c .before .last-round .result = rw (c .earlier-round .ensures) (first-le _ _) in
+    let n = valid-length _ _ (fits (c .before .before .before .before .before .before)) in
+    (a, b, n, mul-bound _ _ 449 64 (omega arith) (omega arith), mul-bound _ _ 449 64 (omega arith) (omega arith))
+
+validity-requires : tie.Need-validity-requires
+validity-requires c κs = search needs
+
+enum-known-valid : tie.Need-enum-known-valid
+enum-known-valid c = search needs
+
+returns : tie.Need-returns
+unfolding playedOf
+returns c =
+    let x = c .before .before .before .before .before .before .before .before .args in
+    sym (played-ill (x .p) (x .table .now) (lassoOf (x .stem .now) (x .cycle .now)) _ (sym (c .before .before .before .validity .ensures) ∙ c .before .valid .given .1))
+
+enum-told : tie.Need-enum-told
+enum-told c = search needs
+
+lines-requires : tie.Need-lines-requires
+lines-requires c κs = valid-is-well _ (valid c)
+
+enum-known-passed : tie.Need-enum-known-passed
+enum-known-passed c = search needs
+
+returns-2 : tie.Need-returns-2
+unfolding playedOf
+returns-2 c =
+    let x = c .before .before .before .before .before .before .before .before .before .before .before .args in
+    sym (played-fail (x .p) (x .table .now) (lassoOf (x .stem .now) (x .cycle .now)) (valid (c .before .before .before .before)) _ (sym (c .before .before .before .lines .ensures) ∙ c .before .passed .given .1))
+
+enum-told-2 : tie.Need-enum-told-2
+enum-told-2 c = search needs
+
+lasso-fits-requires : tie.Need-lasso-fits-requires
+lasso-fits-requires c κs = search needs
+
+enum-known-fits : tie.Need-enum-known-fits
+enum-known-fits c = search needs
+
+returns-3 : tie.Need-returns-3
+unfolding playedOf
+returns-3 c =
+    let x = c .before .before .before .before .before .before .before .before .before .before .before .before .before .before .args in
+    sym (played-unfit (x .p) (x .table .now) (lassoOf (x .stem .now) (x .cycle .now)) (valid (c .before .before .before .before .before .before .before)) (passed (c .before .before .before .before)) _ (sym (c .before .before .before .lasso-fits .ensures) ∙ c .before .fits2 .given .1))
+
+enum-told-3 : tie.Need-enum-told-3
+enum-told-3 c = search needs
+
+moment-at-requires : tie.Need-moment-at-requires
+moment-at-requires c κs = search needs
+
+cast-least-partner : tie.Need-cast-least-partner
+cast-least-partner c = search needs
+
+least-partner-requires : tie.Need-least-partner-requires
+least-partner-requires c κs = (valid-is-well _ (valid (c .before .before .before .before .before .before .before)), omega (arith, c .moment-at .ok))
+
+enum-told-4 : tie.Need-enum-told-4
+enum-told-4 c = search needs
+
+returns-4 : tie.Need-returns-4
+unfolding playedOf
+returns-4 c =
+    let x = c .before .before .before .before .before .before .before .before .before .before .before .before .before .before .before .before .before .args in
+    sym (played-alone (x .p) (x .table .now) (lassoOf (x .stem .now) (x .cycle .now)) (valid (c .before .before .before .before .before .before .before .before .before .before)) (passed (c .before .before .before .before .before .before .before)) (fits (c .before .before .before .before)) (sym (start (c .before .before)) ∙ c .enum-told4 .given .1))
+
+enum-told-5 : tie.Need-enum-told-5
+enum-told-5 c = search needs
+
+last-round-requires : tie.Need-last-round-requires
+last-round-requires c κs = (valid-is-well _ (valid (c .before .before .before .before .before .before .before .before .before .before)), valid-length _ _ (fits (c .before .before .before .before)))
+
+earlier-round-requires : tie.Need-earlier-round-requires
+unfolding lastRound
+earlier-round-requires c κs = (valid-is-well _ (valid (c .before .before .before .before .before .before .before .before .before .before .before)), (valid-length _ _ (fits (c .before .before .before .before .before)), rw (c .last-round .ensures) (first-le 449 _)))
+
+mul-t19 : tie.Need-mul-t19
+mul-t19 c = omega (arith, room c)
+
+add-t20 : tie.Need-add-t20
+add-t20 c = omega (arith, room c)
+
+sub-t21 : tie.Need-sub-t21
+sub-t21 c = room c .1
+
+mul-t23 : tie.Need-mul-t23
+mul-t23 c = omega (arith, room c)
+
+returns-5 : tie.Need-returns-5
+unfolding playedOf
+returns-5 c =
+    let x = c .before .before .before .before .before .before .before .before .before .before .before .before .before .before .before .before .before .before .before .args in
+    sym (played-run (x .p) (x .table .now) (lassoOf (x .stem .now) (x .cycle .now)) (valid (c .before .before .before .before .before .before .before .before .before .before .before .before)) (passed (c .before .before .before .before .before .before .before .before .before)) (fits (c .before .before .before .before .before .before)) _ _ _ (sym (start (c .before .before .before .before)) ∙ c .before .before .enum-told5 .given .1) (c .before .last-round .ensures) (c .earlier-round .ensures))
+
+pub plain-play-spec : {M : Type 1} → statement M
+plain-play-spec =
+    tie.close
+    (tie.spec
+    validity-requires
+    enum-known-valid
+    returns
+    enum-told
+    lines-requires
+    enum-known-passed
+    returns-2
+    enum-told-2
+    lasso-fits-requires
+    enum-known-fits
+    returns-3
+    enum-told-3
+    moment-at-requires
+    cast-least-partner
+    least-partner-requires
+    enum-told-4
+    returns-4
+    enum-told-5
+    last-round-requires
+    earlier-round-requires
+    mul-t19
+    add-t20
+    sub-t21
+    mul-t23
+    returns-5)

@@ -1,0 +1,11 @@
+-- definitions
+pub mod Numbers
+pub mod Lines
+pub mod Runs
+-- laws
+pub mod FillLaws
+pub mod NumbersLaws
+pub mod MachineLaws
+pub mod TargetLaws
+pub mod RunLaws
+pub mod ScanLaws

@@ -1,0 +1,180 @@
+-- Laws of a scan of all states that keeps the best one so far, and of the player's places.
+use mathlib.Core.Bool.{Bool, false, true}
+use mathlib.Core.List.{List}
+use mathlib.Core.Logic.{by-cases, ⊎-elim}
+use mathlib.Core.Path.{_∙_, _≡_, refl}
+use Prim.Native.Nat.{_*_, _+_, _-_, _<_, _≤_, suc, zero, ℕ}
+use native.Mathlib.Decide.{decLt}
+use native.Mathlib.Nat.{le-of-lt}
+use native.Mathlib.Numerals.{add-one}
+use native.Mathlib.Omega.{arith}
+use lib.Dec.{T, eqb}
+use lib.ListN.{getD, length}
+use borrow.Author.Tests.{eq-eqb, le-ltb, lt-ltb, ltb-false, ne-eqb}
+use Rattle.mask.specs.Bounded.{first, some}
+use Rattle.mask.specs.BoundedLaws.{first-before, first-has, first-is, first-none, some-none, some-of}
+use Rattle.mask.specs.LogicLaws.{and-false-l, and-true-l, cond-cases, dec, or-none}
+use Rattle.machine.specs.Lassos.{Lasso, lassoLength, moment}
+use Rattle.machine.specs.Lines.{linesValidity, nonBlank}
+use Rattle.machine.specs.LinesLaws.{covers-at}
+use Rattle.machine.specs.Machines.{moves, nA, nC, setsA, successors}
+use Rattle.machine.specs.PartnerLaws.{least-miss, least-step, limitOf, partner-view}
+use Rattle.machine.specs.Player.{Place, badLength, earlierRound, follow, lassoValidity, lastRound, loopLength, loopStart, placeAt, playValidity, playedUnless, samePlace, sectionAfter, startPartner, startValidity, stemLength, stepTo}
+use Rattle.machine.specs.Refusals.{andThen, no-start-partner, refusal}
+use Rattle.machine.specs.Step.{better, found, least, partner, stateOf}
+use Rattle.machine.specs.StepLaws.{next-lt}
+use Rattle.machine.specs.Table.{blank, covers, entry, entryIndex}
+use Rattle.machine.specs.WellFormed.{pairValidity}
+use Rattle.machine.specs.WellFormedLaws.{valid-next}
+use Rattle.machine.specs.declared.Machine.{Machine}
+use Rattle.machine.specs.declared.Pair.{Pair}
+use Rattle.machine.specs.declared.Partner.{Partner}
+use Rattle.machine.specs.declared.Partner.the-variants.{Nobody, State}
+use Rattle.machine.specs.declared.Refusal.{Refusal}
+use Rattle.machine.specs.declared.Validity.the-variants.{Refused, Valid}
+use Rattle.brute.specs.Runs.{playedPlain}
+use Rattle.machine.specs.Player.{Played, played, refused}
+
+-- the best of the states below n that pass q, and what a later one has to stay below
+pub record Scanned (q : ℕ → Bool) (key : ℕ → ℕ) (n : ℕ) (best : Partner) (limit : ℕ) : Type 0 where
+  pub best-is : least n q key ≡ best
+  pub limit-is : limit ≡ limitOf key 65534 best
+  pub limit-le : limit ≤ blank
+
+module _ (q : ℕ → Bool) (key : ℕ → ℕ) where
+  pub scan-start : Scanned q key 0 Nobody 65535
+  unfolding least limitOf
+  scan-start = record { best-is = refl; limit-is = refl; limit-le = omega arith }
+
+  better-below : (n : ℕ) (best : Partner) → key n < limitOf key 65534 best → better key n best ≡ true
+  unfolding better limitOf
+  better-below n (State b) h = lt-ltb _ _ h
+  better-below n Nobody h = refl
+
+  better-above : (n : ℕ) (best : Partner) → key n < blank → limitOf key 65534 best ≤ key n → better key n best ≡ false
+  unfolding better limitOf
+  better-above n (State b) s h = le-ltb _ _ h
+  better-above n Nobody s h = absurd (omega arith)
+
+  module _ (n : ℕ) (best : Partner) (limit : ℕ) (d : Scanned q key n best limit) where
+    pub scan-take : q n ≡ true → key n < limit → Scanned q key (n + 1) (State n) (key n)
+    unfolding limitOf
+    scan-take t h = record {
+      best-is = rw add-one (least-step q key n best (d .best-is) t ∙ rw (better-below n best (rw (d .limit-is) at h)));
+      limit-is = refl;
+      limit-le = omega (arith, d .limit-le);
+    }
+
+    pub scan-miss : q n ≡ false → Scanned q key (n + 1) best limit
+    scan-miss t = record { best-is = rw add-one (least-miss q key n t ∙ d .best-is); limit-is = d .limit-is; limit-le = d .limit-le }
+
+    pub scan-keep : (q n ≡ true → key n < blank) → limit ≤ key n → Scanned q key (n + 1) best limit
+    scan-keep s h = ⊎-elim
+        (λ t. record {
+          best-is = rw add-one (least-step q key n best (d .best-is) t ∙ rw (better-above n best (s t) (rw (d .limit-is) at h)));
+          limit-is = d .limit-is;
+          limit-le = d .limit-le;
+        })
+        (λ t. scan-miss t) (dec (q n))
+
+-- what is not blank is below it
+module _ (p : Pair) (T : List ℕ) (small : (i : ℕ) → getD T i 0 < 65536) where
+  pub entry-below : (j c a : ℕ) → covers p T j c a ≡ true → entry p T j c a < blank
+  unfolding entry
+  entry-below j c a t = let h = covers-at p T j c a t in let s = small (entryIndex (nC p) (nA p) j c a) in below _ s h
+    where
+      below : (e : ℕ) → e < 65536 → (e ≡ blank → ⊥) → e < blank
+      below e s h = by-cases (decLt e blank) (λ l. l) (λ l. absurd (h (omega arith)))
+
+-- ---- places stay within the abstract machine's 64 states and its sections
+pub state-small : (moves : ℕ) (S : ℕ → Bool) (key : ℕ → ℕ) → stateOf (partner moves S key) < 64
+unfolding stateOf
+state-small moves S key = ⊎-elim (λ v. rw (v .1) (v .2 .below)) (λ v. rw (v .0) (omega arith)) (partner-view moves S key)
+
+module _ (p : Pair) (T : List ℕ) where
+  pub record Placed (at : Place) : Type 0 where
+    pub state-in : at .state ≤ 64
+    pub section-in : at .section < setsA p
+
+  pub section-small : (c : ℕ) (at : Place) → at .section < setsA p → sectionAfter p T c at < setsA p
+  unfolding sectionAfter
+  section-small c at h = cond-cases (eqb (entry p T (at .section) c (at .state)) 0) (λ j. j < setsA p) _ _ (λ t. next-lt (setsA p) (at .section) h) (λ t. h)
+
+  pub step-is : (c d moves : ℕ) (at : Place) (found : Partner) (j : ℕ) → j ≡ sectionAfter p T c at → moves ≡ successors (p .abstraction) (at .state)
+      → found ≡ partner moves (nonBlank p T j d) (entry p T j d) → record { state = stateOf found; section = j } ≡ stepTo p T c at d
+  unfolding stepTo follow
+  step-is c d moves at found j ej em ef = rw (ef, em, ej)
+
+  pub step-placed : (c d : ℕ) (at : Place) → Placed at → Placed (stepTo p T c at d)
+  unfolding stepTo follow
+  step-placed c d at h = record { state-in = le-of-lt (state-small _ _ _); section-in = section-small c at (h .section-in) }
+
+  module _ (l : Lasso) where
+    pub place-start : (found : Partner) → found ≡ startPartner p T (moment l 0) → record { state = stateOf found; section = 0 } ≡ placeAt p T l 0
+    unfolding placeAt
+    place-start found e = rw e
+
+    pub place-next : (t : ℕ) (at : Place) → at ≡ placeAt p T l t → stepTo p T (moment l t) at (moment l (suc t)) ≡ placeAt p T l (suc t)
+    unfolding placeAt
+    place-next t at e = rw e
+
+    pub placed : 0 < setsA p → (t : ℕ) → Placed (placeAt p T l t)
+    unfolding placeAt startPartner
+    placed h zero = record { state-in = le-of-lt (state-small _ _ _); section-in = h }
+    placed h (suc t) = step-placed (moment l t) (moment l (suc t)) (placeAt p T l t) (placed h t)
+
+-- ---- rounds
+module _ (p : Pair) (T : List ℕ) (l : Lasso) where
+  module _ (x y : ℕ) (u v : Place) (eu : u ≡ placeAt p T l (loopStart p T l x)) (ev : v ≡ placeAt p T l (loopStart p T l y)) where
+    pub place-other : (u .state ≡ v .state → ⊥) → samePlace p T l x y ≡ false
+    unfolding samePlace
+    place-other h = rw (← eu, ← ev) (and-false-l _ (ne-eqb _ _ h))
+
+    pub place-same : u .state ≡ v .state → samePlace p T l x y ≡ eqb (u .section) (v .section)
+    unfolding samePlace
+    place-same h = rw (← eu, ← ev) (and-true-l _ (eq-eqb _ _ h))
+
+  -- a search among the earlier rounds
+  pub round-found : (y : ℕ) → first y (λ x. samePlace p T l x y) < y → some y (λ x. samePlace p T l x y) ≡ true
+  round-found y h = some-of y _ _ h (first-has y _ h)
+
+  pub round-none : (y : ℕ) → y ≤ first y (λ x. samePlace p T l x y) → some y (λ x. samePlace p T l x y) ≡ false
+  round-none y h = some-none y _ (λ x k. first-before y (λ x. samePlace p T l x y) x (omega arith))
+
+  pub last-is : (y : ℕ) → y < 449 → some y (λ x. samePlace p T l x y) ≡ true → ((k : ℕ) → k < y → some k (λ x. samePlace p T l x k) ≡ false) → lastRound p T l ≡ y
+  unfolding lastRound
+  last-is y h t b = first-is 449 _ y h t b
+
+  pub last-none : ((k : ℕ) → k < 449 → some k (λ x. samePlace p T l x k) ≡ false) → lastRound p T l ≡ 449
+  unfolding lastRound
+  last-none b = first-none 449 _ b
+
+-- ---- the answer, case by case
+pub valid-length : (m : Machine) (l : Lasso) → lassoValidity m l ≡ Valid → lassoLength l ≤ 64
+unfolding lassoValidity badLength
+valid-length m l e = ltb-false 64 _ (or-none _ _ (valid-next _ _ _ e .0) .1)
+
+module _ (p : Pair) (T : List ℕ) (l : Lasso) where
+  pub played-ill : (r : Refusal) → pairValidity p ≡ Refused r → playedPlain p T l ≡ refused r
+  unfolding playedPlain playValidity andThen playedUnless
+  played-ill r e = rw e
+
+  module _ (v : pairValidity p ≡ Valid) where
+    pub played-fail : (r : Refusal) → linesValidity p T ≡ Refused r → playedPlain p T l ≡ refused r
+    unfolding playedPlain playValidity andThen playedUnless
+    played-fail r e = rw (v, e)
+
+    module _ (t : linesValidity p T ≡ Valid) where
+      pub played-unfit : (r : Refusal) → lassoValidity (p .concrete) l ≡ Refused r → playedPlain p T l ≡ refused r
+      unfolding playedPlain playValidity andThen playedUnless
+      played-unfit r e = rw (v, t, e)
+
+      module _ (f : lassoValidity (p .concrete) l ≡ Valid) where
+        pub played-alone : startPartner p T (moment l 0) ≡ Nobody → playedPlain p T l ≡ refused (refusal no-start-partner 0 0 0)
+        unfolding playedPlain playValidity startValidity andThen playedUnless found
+        played-alone e = rw (v, t, f, e)
+
+        pub played-run : (a x y : ℕ) → startPartner p T (moment l 0) ≡ State a → y ≡ lastRound p T l → x ≡ first y (λ x. samePlace p T l x y)
+            → playedPlain p T l ≡ played (loopStart p T l x) ((y - x) * length (l .loop))
+        unfolding playedPlain playValidity startValidity andThen playedUnless found stemLength loopLength earlierRound
+        played-run a x y e ey ex = rw (v, t, f, e, ← ey, ← ex)

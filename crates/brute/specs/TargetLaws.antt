@@ -1,0 +1,204 @@
+-- Laws of an entry's l and k as they are counted down, of the place of an entry, and of the sets that a line steps into.
+use mathlib.Core.Bool.{Bool, false, true}
+use mathlib.Core.List.{List}
+use mathlib.Core.Path.{_∙_, _≡_, ap, refl, sym}
+use Prim.Native.Nat.{_*_, _+_, _-_, _/_, _<_, _≤_, ℕ}
+use native.Mathlib.Nat.{add-mod-right, div-eq-of-lt, div-eq-sub-div, le-trans, mod-eq-of-lt, mul-le-mul-left, mul-le-mul-right}
+use native.Mathlib.Numerals.{add-one}
+use native.Mathlib.Omega.{arith}
+use lib.Dec.{T}
+use lib.ListN.{length}
+use borrow.Author.Tests.{eq-eqb, le-leb, le-ltb, lt-leb, lt-ltb, ne-eqb}
+use Rattle.mask.specs.Bits.{hasBit}
+use Rattle.mask.specs.Bounded.{every, first, someIn}
+use Rattle.mask.specs.BoundedLaws.{every-not, every-of, everyIn-at, everyIn-of, first-before, first-has, someIn-at, someIn-of}
+use Rattle.mask.specs.Logic.{not}
+use Rattle.mask.specs.LogicLaws.{and-false-l, and-true-l, clash, not-e, not-f, not-false, or-false-l, or-l, refute}
+use Rattle.machine.specs.Lines.{atMost, goalLine, linesValidity, lower, nonBlank, passes, rankLine}
+use Rattle.machine.specs.Machines.{inFairSet, matched, moves, nA, nC, next, pairs, setsA, setsC, starts, successors}
+use Rattle.machine.specs.Ranks.{levelOf, setOf}
+use Rattle.machine.specs.Refusals.{andThen, failing-entry, refusal, short-buffer}
+use Rattle.machine.specs.Step.{steps}
+use Rattle.machine.specs.Table.{blank, covers, entry}
+use Rattle.machine.specs.Verdict.{bufferValidity, checkVerdict, linesVerdict, orElse, refused, startCovered, startVerdict, tableRoom}
+use Rattle.machine.specs.WellFormed.{pairValidity}
+use Rattle.machine.specs.WellFormedLaws.{WellPair}
+use Rattle.machine.specs.declared.Pair.{Pair}
+use Rattle.machine.specs.declared.Refusal.{Refusal}
+use Rattle.machine.specs.declared.Validity.the-variants.{Refused, Valid}
+use Rattle.brute.specs.Lines.{hit, inTarget}
+use Rattle.brute.specs.declared.lines.Target.{Target}
+use Rattle.brute.specs.declared.lines.Target.the-variants.{AtMost, Lower, NonBlank}
+
+-- ---- l and k
+-- (l − 1) × m + k, counted down by m
+pub level-down : (m r : ℕ) → 0 < m → m < r → levelOf m r ≡ levelOf m (r - m) + 1
+unfolding levelOf
+level-down m r h k =
+    let e : r - 1 - m ≡ r - m - 1 = omega arith in
+    omega (arith, div-eq-sub-div {m = m} {n = r - 1} h (omega arith), ap (λ (x : ℕ). x / m) e)
+
+pub set-down : (m r : ℕ) → m < r → setOf m r ≡ setOf m (r - m)
+unfolding setOf
+set-down m r k =
+    let e : r - 1 ≡ (r - m - 1) + m = omega arith in
+    rw e (add-mod-right (r - m - 1) m)
+
+-- the first m entries have l = 1
+pub level-one : (m r : ℕ) → 0 < r → r ≤ m → levelOf m r ≡ 1
+unfolding levelOf
+level-one m r h k = omega (arith, div-eq-of-lt {n = r - 1} {m = m} (omega arith))
+
+pub set-one : (m r : ℕ) → 0 < r → r ≤ m → setOf m r ≡ r - 1
+unfolding setOf
+set-one m r h k = mod-eq-of-lt (omega arith)
+
+-- ---- the place of an entry
+pub mul-bound : (a b m n : ℕ) → a ≤ m → b ≤ n → a * b ≤ m * n
+mul-bound a b m n p q = le-trans (mul-le-mul-right b p) (mul-le-mul-left m q)
+
+pub place-small : (p : Pair) → WellPair p → (j c : ℕ) → j < 7 → c < 256 → (j * nC p ≤ 384) × ((j * nC p + c) * nA p ≤ 40896)
+place-small p w j c hj hc =
+    let s : j * nC p ≤ 6 * 64 = mul-bound j (nC p) 6 64 (omega arith) (w .concrete .states-high) in
+    (omega arith, mul-bound (j * nC p + c) (nA p) 639 64 (omega arith) (w .abstraction .states-high))
+
+-- ---- what a line steps into
+module _ (p : Pair) (T : List ℕ) where
+  pub target-nonBlank : (j c a : ℕ) → steps p (inTarget p T NonBlank j) c a ≡ steps p (nonBlank p T j) c a
+  unfolding inTarget hit nonBlank covers
+  target-nonBlank j c a = refl
+
+  pub target-lower : (j l c a : ℕ) → steps p (inTarget p T (Lower l) j) c a ≡ steps p (lower p T j l) c a
+  unfolding inTarget hit lower
+  target-lower j l c a = refl
+
+  pub target-atMost : (j r c a : ℕ) → steps p (inTarget p T (AtMost r) j) c a ≡ steps p (atMost p T j r) c a
+  unfolding inTarget hit atMost
+  target-atMost j r c a = refl
+
+  pub target-in : (t : Target) (j c a : ℕ) {b : Bool} {e : ℕ} → matched p c a ≡ true → e ≡ entry p T j c a → hit t (setsC p) e ≡ b → inTarget p T t j c a ≡ b
+  unfolding inTarget
+  target-in t j c a m e h = and-true-l _ m ∙ rw (← e) h
+
+  pub target-out : (t : Target) (j c a : ℕ) → matched p c a ≡ false → inTarget p T t j c a ≡ false
+  unfolding inTarget
+  target-out t j c a m = and-false-l _ m
+
+-- ---- the first that fails
+pub first-some : (n : ℕ) (q : ℕ → Bool) → first n (λ i. not (q i)) < n → every n q ≡ false
+first-some n q h = every-not n q _ h (not-e _ (first-has n (λ i. not (q i)) h))
+
+pub first-all : (n : ℕ) (q : ℕ → Bool) → n ≤ first n (λ i. not (q i)) → every n q ≡ true
+first-all n q h = every-of n q (λ i l. not-false _ (first-before n (λ i. not (q i)) i (omega arith)))
+
+-- ---- searches among successors and start states, as a loop over all states goes
+pub someIn-none : (w m : ℕ) (q : ℕ → Bool) → ((k : ℕ) → k < w → hasBit m k ≡ true → q k ≡ false) → someIn w m q ≡ false
+someIn-none w m q h = refute _ (λ t. let r = someIn-at w m q t in clash (h (r .0) (r .1) (r .2)) (r .3))
+
+module _ (p : Pair) where
+  module _ (S : ℕ → Bool) (a : ℕ) where
+    pub partner-some : (b : ℕ) → b < nA p → moves (p .abstraction) a b ≡ true → S b ≡ true → someIn (nA p) (successors (p .abstraction) a) S ≡ true
+    unfolding moves
+    partner-some b h t s = someIn-of (nA p) _ S b h t s
+
+    pub partner-no : ((b : ℕ) → b < nA p → moves (p .abstraction) a b ≡ true → S b ≡ false) → someIn (nA p) (successors (p .abstraction) a) S ≡ false
+    unfolding moves
+    partner-no h = someIn-none (nA p) _ S h
+
+  module _ (S : ℕ → ℕ → Bool) (c a : ℕ) where
+    pub steps-not : (d : ℕ) → d < nC p → moves (p .concrete) c d ≡ true → someIn (nA p) (successors (p .abstraction) a) (S d) ≡ false → steps p S c a ≡ false
+    unfolding steps moves
+    steps-not d h t s = refute _ (λ u. clash s (everyIn-at (nC p) _ _ u d h t))
+
+    pub steps-all : ((d : ℕ) → d < nC p → moves (p .concrete) c d ≡ true → someIn (nA p) (successors (p .abstraction) a) (S d) ≡ true) → steps p S c a ≡ true
+    unfolding steps moves
+    steps-all h = everyIn-of (nC p) _ _ h
+
+  module _ (T : List ℕ) (c : ℕ) where
+    pub start-some : (a : ℕ) → a < nA p → starts (p .abstraction) a ≡ true → covers p T 0 c a ≡ true → startCovered p T c ≡ true
+    unfolding startCovered starts
+    start-some a h t s = someIn-of (nA p) _ _ a h t s
+
+    pub start-no : ((a : ℕ) → a < nA p → starts (p .abstraction) a ≡ true → covers p T 0 c a ≡ false) → startCovered p T c ≡ false
+    unfolding startCovered starts
+    start-no h = someIn-none (nA p) _ _ h
+
+    pub covers-not : (j a : ℕ) → entry p T j c a ≡ blank → covers p T j c a ≡ false
+    unfolding covers
+    covers-not j a e = not-f (eq-eqb _ _ e)
+
+-- ---- the lines, case by case
+module _ (p : Pair) (T : List ℕ) (j c a : ℕ) where
+  pub goal-not : inFairSet (p .abstraction) j a ≡ false → goalLine p T j c a ≡ false
+  unfolding goalLine
+  goal-not t = and-false-l _ t
+
+  pub goal-is : inFairSet (p .abstraction) j a ≡ true → goalLine p T j c a ≡ steps p (inTarget p T NonBlank (next (setsA p) j)) c a
+  unfolding goalLine
+  goal-is t = and-true-l _ t ∙ sym (target-nonBlank p T (next (setsA p) j) c a)
+
+  module _ (r : ℕ) where
+    pub rank-inside : inFairSet (p .concrete) (setOf (setsC p) r) c ≡ true → rankLine p T j r c a ≡ steps p (inTarget p T (Lower (levelOf (setsC p) r)) j) c a
+    unfolding rankLine
+    rank-inside t = rw t (sym (target-lower p T j (levelOf (setsC p) r) c a))
+
+    pub rank-outside : inFairSet (p .concrete) (setOf (setsC p) r) c ≡ false → rankLine p T j r c a ≡ steps p (inTarget p T (AtMost r) j) c a
+    unfolding rankLine
+    rank-outside t = rw t (sym (target-atMost p T j r c a))
+
+  pub pass-blank : entry p T j c a ≡ blank → passes p T j c a ≡ true
+  unfolding passes
+  pass-blank e = or-l _ (eq-eqb _ _ e)
+
+  module _ (h : entry p T j c a ≡ blank → ⊥) where
+    pub pass-unmatched : matched p c a ≡ false → passes p T j c a ≡ false
+    unfolding passes
+    pass-unmatched t = or-false-l _ (ne-eqb _ _ h) ∙ and-false-l _ t
+
+    module _ (t : matched p c a ≡ true) where
+      pub pass-above : setsC p * pairs p < entry p T j c a → passes p T j c a ≡ false
+      unfolding passes
+      pass-above l = or-false-l _ (ne-eqb _ _ h) ∙ and-true-l _ t ∙ and-false-l _ (lt-leb _ _ l)
+
+      pub pass-goal : entry p T j c a ≡ 0 → passes p T j c a ≡ goalLine p T j c a
+      unfolding passes
+      pass-goal e = or-false-l _ (ne-eqb _ _ h) ∙ and-true-l _ t ∙ and-true-l _ (le-leb (entry p T j c a) (setsC p * pairs p) (omega arith)) ∙ rw (eq-eqb _ _ e)
+
+      pub pass-rank : entry p T j c a ≤ setsC p * pairs p → (entry p T j c a ≡ 0 → ⊥) → passes p T j c a ≡ rankLine p T j (entry p T j c a) c a
+      unfolding passes
+      pass-rank l z = or-false-l _ (ne-eqb _ _ h) ∙ and-true-l _ t ∙ and-true-l _ (le-leb _ _ l) ∙ rw (ne-eqb _ _ z)
+
+-- ---- the first entry that fails, as nested searches find it
+module _ (p : Pair) (T : List ℕ) (j : ℕ) (ej : j ≡ first (setsA p) (λ j. not (every (nC p) (λ c. every (nA p) (passes p T j c))))) where
+  pub lines-at : (c a : ℕ) → c ≡ first (nC p) (λ c. not (every (nA p) (passes p T j c))) → a ≡ first (nA p) (λ a. not (passes p T j c a))
+      → j < setsA p → linesValidity p T ≡ Refused (refusal failing-entry (j + 1) c a)
+  unfolding linesValidity
+  lines-at c a ec ea h = rw (← ej, ← ec, ← ea, lt-ltb j (setsA p) h, add-one)
+
+  pub lines-none : setsA p ≤ j → linesValidity p T ≡ Valid
+  unfolding linesValidity
+  lines-none h = rw (← ej, le-ltb j (setsA p) h)
+
+-- ---- the answer, case by case
+module _ (p : Pair) (T : List ℕ) where
+  pub verdict-short : length T < tableRoom → checkVerdict p T ≡ refused (refusal short-buffer 0 0 0)
+  unfolding checkVerdict bufferValidity orElse
+  verdict-short h = rw (lt-ltb _ _ h)
+
+  module _ (h : tableRoom ≤ length T) where
+    room-valid : bufferValidity tableRoom (length T) ≡ Valid
+    unfolding bufferValidity
+    room-valid = rw (le-ltb _ _ h)
+
+    pub verdict-ill : (r : Refusal) → pairValidity p ≡ Refused r → checkVerdict p T ≡ refused r
+    unfolding checkVerdict linesVerdict orElse andThen
+    verdict-ill r e = rw (room-valid, e)
+
+    module _ (v : pairValidity p ≡ Valid) where
+      pub verdict-fail : (r : Refusal) → linesValidity p T ≡ Refused r → checkVerdict p T ≡ refused r
+      unfolding checkVerdict linesVerdict orElse andThen
+      verdict-fail r e = rw (room-valid, v, e)
+
+      pub verdict-pass : linesValidity p T ≡ Valid → checkVerdict p T ≡ startVerdict p T
+      unfolding checkVerdict linesVerdict orElse andThen
+      verdict-pass e = rw (room-valid, v, e)

@@ -1,0 +1,216 @@
+// The plain reading of machines: every question is asked of a state by its number.
+ghost use mathlib.Core.Path.{_≡_};
+ghost use Rattle.mask.specs.Bounded.{some};
+ghost use Rattle.machine.specs.Machines.{observation, successors, moves, starts, fairSet, inFairSet, matched};
+ghost use Rattle.machine.specs.Refusals.{refusal};
+ghost use Rattle.machine.specs.WellFormed.{countsOk, beyond, stateBeyond, setBeyond, beyondCounts, stuckState, contentValidity, pairValidity};
+use machine::Machine;
+use machine::Pair;
+use machine::Refusal;
+use machine::Validity;
+
+// The successor mask of state s; a machine has 64, and past these an empty one.
+pub fn successors_of(m: Machine, s: usize) -> u64
+    ensures { λ r. ⌜ r ≡ successors m s ⌝ }
+{
+    let masks = m.successors;
+    if s < 64 { masks[s] } else { 0 }
+}
+
+// Whether t is a successor of s.
+pub fn has_move(m: Machine, s: usize, t: usize) -> bool
+    ensures { λ r. ⌜ r ≡ moves m s t ⌝ }
+{
+    mask::has(successors_of(m, s), t)
+}
+
+// Whether s is a start state.
+pub fn has_start(m: Machine, s: usize) -> bool
+    ensures { λ r. ⌜ r ≡ starts m s ⌝ }
+{
+    mask::has(m.start, s)
+}
+
+// The mask of set k; a machine has 8, and past these an empty one.
+pub fn set_of(m: Machine, k: usize) -> u64
+    ensures { λ r. ⌜ r ≡ fairSet m k ⌝ }
+{
+    let masks = m.fairness;
+    if k < 8 { masks[k] } else { 0 }
+}
+
+// Whether s is in set k.
+pub fn in_set(m: Machine, k: usize, s: usize) -> bool
+    ensures { λ r. ⌜ r ≡ inFairSet m k s ⌝ }
+{
+    mask::has(set_of(m, k), s)
+}
+
+// The observation of state s; past the 64 of a machine it is 0.
+pub fn observed(m: Machine, s: usize) -> u8
+    ensures { λ r. ⌜ r ≡ observation m s ⌝ }
+{
+    let bytes = m.observations;
+    if s < 64 { bytes[s] } else { 0 }
+}
+
+// Whether (c, a) is matched.
+pub fn is_matched(p: Pair, c: usize, a: usize) -> bool
+    ensures { λ r. ⌜ r ≡ matched p c a ⌝ }
+{
+    machine::same_observation(observed(p.concrete, c), observed(p.abstraction, a))
+}
+
+// ---- Well-formedness
+
+// Whether a machine has 1 to 64 states and 1 to `limit` sets.
+fn has_counts(limit: usize, m: Machine) -> bool
+    ensures { λ r. ⌜ r ≡ countsOk limit (m .states) (m .sets) ⌝ }
+{
+    if m.states == 0 {
+        return false;
+    }
+    if m.states > 64 {
+        return false;
+    }
+    if m.sets == 0 {
+        return false;
+    }
+    m.sets <= limit
+}
+
+// Whether a mask has a state at or past n.
+fn has_past(n: usize, m: u64) -> bool
+    ensures { λ r. ⌜ r ≡ beyond n m ⌝ }
+{
+    for s in 0..64 {
+        if mask::has(m, s) {
+            if n <= s {
+                return true;
+            }
+        }
+    }
+    false
+}
+
+// Whether state s has something beyond the counts: a successor, or anything at all where the machine has no such state.
+fn state_past(m: Machine, s: usize) -> bool
+    ensures { λ r. ⌜ r ≡ stateBeyond (m .states) (m .observations) (m .successors) s ⌝ }
+{
+    if s < m.states {
+        return has_past(m.states, successors_of(m, s));
+    }
+    if observed(m, s) != 0 {
+        return true;
+    }
+    successors_of(m, s) != 0
+}
+
+// Whether some state has something beyond the counts.
+fn states_past(m: Machine) -> bool
+    ensures { λ r. ⌜ r ≡ some 64 (stateBeyond (m .states) (m .observations) (m .successors)) ⌝ }
+{
+    for s in 0..64 {
+        if state_past(m, s) {
+            return true;
+        }
+    }
+    false
+}
+
+// Whether set k has something beyond the counts: a state, or anything at all where the machine has no such set.
+fn set_past(m: Machine, k: usize) -> bool
+    ensures { λ r. ⌜ r ≡ setBeyond (m .states) (m .sets) (m .fairness) k ⌝ }
+{
+    if k < m.sets {
+        return has_past(m.states, set_of(m, k));
+    }
+    set_of(m, k) != 0
+}
+
+// Whether some set has something beyond the counts.
+fn sets_past(m: Machine) -> bool
+    ensures { λ r. ⌜ r ≡ some 8 (setBeyond (m .states) (m .sets) (m .fairness)) ⌝ }
+{
+    for k in 0..8 {
+        if set_past(m, k) {
+            return true;
+        }
+    }
+    false
+}
+
+// Whether a bit or an entry of a machine lies beyond its counts.
+fn is_past(m: Machine) -> bool
+    ensures { λ r. ⌜ r ≡ beyondCounts m ⌝ }
+{
+    if has_past(m.states, m.start) {
+        return true;
+    }
+    if states_past(m) {
+        return true;
+    }
+    sets_past(m)
+}
+
+// The lowest state without a successor, 64 where there is none.
+fn stuck(m: Machine) -> usize
+    ensures { λ r. ⌜ r ≡ stuckState (m .states) (m .successors) ⌝ }
+{
+    for s in 0..64 {
+        if s < m.states {
+            if successors_of(m, s) == 0 {
+                return s;
+            }
+        }
+    }
+    64
+}
+
+// A refusal whose spot is two numbers.
+fn refused(number: u32, first: usize, second: usize) -> Validity
+    ensures { λ r. ⌜ r ≡ Validity.Refused (refusal number first second 0) ⌝ }
+{
+    Validity::Refused(Refusal {
+        number: number,
+        first: first,
+        second: second,
+        third: 0,
+    })
+}
+
+// 9, 10 and 11 of machine number i of a pair.
+fn content(i: usize, m: Machine) -> Validity
+    ensures { λ r. ⌜ r ≡ contentValidity i m ⌝ }
+{
+    if is_past(m) {
+        return refused(machine::BEYOND_COUNTS, i, 0);
+    }
+    if m.start == 0 {
+        return refused(machine::NO_START, i, 0);
+    }
+    let s = stuck(m);
+    if s < 64 {
+        return refused(machine::NO_SUCCESSOR, i, s);
+    }
+    Validity::Valid
+}
+
+// 5, 9, 10 and 11 of a pair.
+pub fn validity(p: Pair) -> Validity
+    ensures { λ r. ⌜ r ≡ pairValidity p ⌝ }
+{
+    let c = p.concrete;
+    let a = p.abstraction;
+    if !has_counts(8, c) {
+        return refused(machine::BAD_COUNTS, 0, 0);
+    }
+    if !has_counts(7, a) {
+        return refused(machine::BAD_COUNTS, 0, 0);
+    }
+    let first = content(0, c);
+    match first {
+        Validity::Refused(r) => Validity::Refused(r),
+        Validity::Valid => content(1, a),
+    }
+}
