@@ -1,0 +1,8 @@
+// The archives that `rt staticlib` writes are linked from the repository's target folder.
+fn main() {
+    let dir = std::env::var("CARGO_MANIFEST_DIR").unwrap();
+    println!("cargo:rustc-link-search=native={dir}/../target/staticlib");
+    println!("cargo:rustc-link-lib=static=console");
+    println!("cargo:rustc-link-lib=static=filesolver");
+    println!("cargo:rerun-if-changed={dir}/../target/staticlib");
+}

@@ -1,0 +1,416 @@
+//! A plain implementation of reader, writer, check and solver, from the documents alone. It is the measure for speed and the other opinion on results.
+
+#[derive(Clone, Copy, PartialEq, Eq, Debug)]
+pub struct Machine {
+    pub states: usize,
+    pub sets: usize,
+    pub start: u64,
+    pub observations: [u8; 64],
+    pub successors: [u64; 64],
+    pub fairness: [u64; 8],
+}
+
+pub const EMPTY: Machine = Machine { states: 0, sets: 0, start: 0, observations: [0; 64], successors: [0; 64], fairness: [0; 8] };
+pub const ROOM: usize = 28672;
+pub const BLANK: u16 = 65535;
+pub const FILE_ROOM: usize = 59392;
+
+#[derive(Clone, Copy, PartialEq, Eq, Debug)]
+pub struct Refusal(pub u32, pub usize, pub usize, pub usize);
+
+#[derive(Clone, Copy, PartialEq, Eq, Debug)]
+pub enum Answer {
+    Carried(usize),
+    NotCarried(usize, usize),
+    NoTable,
+    Refused(Refusal),
+}
+
+impl Answer {
+    pub fn number(self) -> u32 {
+        match self {
+            Answer::Carried(_) => 100,
+            Answer::NoTable => 101,
+            Answer::NotCarried(c, _) => 200 + c as u32,
+            Answer::Refused(r) => r.0,
+        }
+    }
+}
+
+pub fn bits(mut m: u64) -> impl Iterator<Item = usize> {
+    std::iter::from_fn(move || {
+        if m == 0 {
+            return None;
+        }
+        let i = m.trailing_zeros() as usize;
+        m &= m - 1;
+        Some(i)
+    })
+}
+
+fn full(n: usize) -> u64 {
+    if n >= 64 { u64::MAX } else { (1 << n) - 1 }
+}
+
+// ---- well-formedness
+
+fn counts_ok(limit: usize, states: usize, sets: usize) -> bool {
+    (1..=64).contains(&states) && (1..=limit).contains(&sets)
+}
+
+fn content(index: usize, m: &Machine) -> Result<(), Refusal> {
+    let beyond = !full(m.states);
+    let mut bad = m.start & beyond != 0;
+    for s in 0..64 {
+        bad |= if s < m.states { m.successors[s] & beyond != 0 } else { m.observations[s] != 0 || m.successors[s] != 0 };
+    }
+    for k in 0..8 {
+        bad |= if k < m.sets { m.fairness[k] & beyond != 0 } else { m.fairness[k] != 0 };
+    }
+    if bad {
+        return Err(Refusal(9, index, 0, 0));
+    }
+    if m.start == 0 {
+        return Err(Refusal(10, index, 0, 0));
+    }
+    for s in 0..m.states {
+        if m.successors[s] == 0 {
+            return Err(Refusal(11, index, s, 0));
+        }
+    }
+    Ok(())
+}
+
+// ---- files
+
+fn check_of(block: &[u8]) -> u32 {
+    let mut sum: u32 = 0;
+    for i in 0..510 {
+        sum += (i as u32 + 1) * block[i] as u32;
+    }
+    sum % 65521
+}
+
+fn block_holds(bytes: &[u8], i: usize) -> bool {
+    let b = &bytes[512 * i..512 * i + 512];
+    u32::from(u16::from_le_bytes([b[510], b[511]])) == check_of(b) && u16::from_le_bytes([b[0], b[1]]) as usize == i
+}
+
+fn payload_len(nc: usize, na: usize, m: usize, n: usize, table: bool) -> usize {
+    32 + 9 * (nc + na) + 8 * (m + n) + if table { 2 * n * nc * na } else { 0 }
+}
+
+fn mask_at(q: &[u8], at: usize) -> u64 {
+    u64::from_le_bytes(q[at..at + 8].try_into().unwrap())
+}
+
+fn machine_at(q: &[u8], at: usize, states: usize, sets: usize) -> Machine {
+    let mut m = EMPTY;
+    m.states = states;
+    m.sets = sets;
+    m.observations[..states].copy_from_slice(&q[at..at + states]);
+    m.start = mask_at(q, at + states);
+    for s in 0..states {
+        m.successors[s] = mask_at(q, at + states + 8 + 8 * s);
+    }
+    for k in 0..sets {
+        m.fairness[k] = mask_at(q, at + 9 * states + 8 + 8 * k);
+    }
+    m
+}
+
+pub fn read(bytes: &[u8], table: &mut [u16]) -> Result<(Machine, Machine, bool), Refusal> {
+    let refuse = |n| Err(Refusal(n, 0, 0, 0));
+    if table.len() < ROOM {
+        return refuse(1);
+    }
+    if bytes.is_empty() || bytes.len() % 512 != 0 {
+        return refuse(2);
+    }
+    if !block_holds(bytes, 0) {
+        return refuse(3);
+    }
+    let h = &bytes[2..18];
+    if &h[0..4] != b"DOM1" || h[8] != 0 || h[9] > 1 || h[10..16].iter().any(|&x| x != 0) {
+        return refuse(4);
+    }
+    let (nc, na, m, n, note) = (h[4] as usize, h[5] as usize, h[6] as usize, h[7] as usize, h[9] == 1);
+    if !counts_ok(8, nc, m) || !counts_ok(7, na, n) {
+        return refuse(5);
+    }
+    let len = payload_len(nc, na, m, n, note);
+    let blocks = (len + 507) / 508;
+    if bytes.len() != 512 * blocks {
+        return refuse(6);
+    }
+    for i in 1..blocks {
+        if !block_holds(bytes, i) {
+            return Err(Refusal(7, i, 0, 0));
+        }
+    }
+    let mut q = [0u8; 116 * 508];
+    for i in 0..blocks {
+        q[508 * i..508 * i + 508].copy_from_slice(&bytes[512 * i + 2..512 * i + 510]);
+    }
+    if q[len..508 * blocks].iter().any(|&x| x != 0) {
+        return refuse(8);
+    }
+    let c = machine_at(&q, 16, nc, m);
+    let a = machine_at(&q, 24 + 9 * nc + 8 * m, na, n);
+    content(0, &c)?;
+    content(1, &a)?;
+    if note {
+        let at = payload_len(nc, na, m, n, false);
+        for e in 0..n * nc * na {
+            table[e] = u16::from_le_bytes([q[at + 2 * e], q[at + 2 * e + 1]]);
+        }
+    }
+    Ok((c, a, note))
+}
+
+fn put_machine(q: &mut Vec<u8>, m: &Machine) {
+    q.extend_from_slice(&m.observations[..m.states]);
+    q.extend_from_slice(&m.start.to_le_bytes());
+    for s in 0..m.states {
+        q.extend_from_slice(&m.successors[s].to_le_bytes());
+    }
+    for k in 0..m.sets {
+        q.extend_from_slice(&m.fairness[k].to_le_bytes());
+    }
+}
+
+pub fn write(c: &Machine, a: &Machine, table: Option<&[u16]>, out: &mut [u8]) -> usize {
+    let mut q = Vec::with_capacity(FILE_ROOM);
+    q.extend_from_slice(b"DOM1");
+    q.extend_from_slice(&[c.states as u8, a.states as u8, c.sets as u8, a.sets as u8, 0, table.is_some() as u8, 0, 0, 0, 0, 0, 0]);
+    put_machine(&mut q, c);
+    put_machine(&mut q, a);
+    if let Some(t) = table {
+        for e in 0..a.sets * c.states * a.states {
+            q.extend_from_slice(&t[e].to_le_bytes());
+        }
+    }
+    let blocks = (q.len() + 507) / 508;
+    q.resize(508 * blocks, 0);
+    for i in 0..blocks {
+        let b = &mut out[512 * i..512 * i + 512];
+        b[0..2].copy_from_slice(&(i as u16).to_le_bytes());
+        b[2..510].copy_from_slice(&q[508 * i..508 * i + 508]);
+        let s = check_of(b) as u16;
+        b[510..512].copy_from_slice(&s.to_le_bytes());
+    }
+    512 * blocks
+}
+
+// ---- the check
+
+fn matched(c: &Machine, a: &Machine) -> [u64; 64] {
+    let mut out = [0u64; 64];
+    for s in 0..c.states {
+        for t in 0..a.states {
+            if c.observations[s] == a.observations[t] {
+                out[s] |= 1 << t;
+            }
+        }
+    }
+    out
+}
+
+#[inline(always)]
+fn has_partner(moves: u64, matched: u64, row: &[u16], bound: u16) -> bool {
+    let mut m = moves & matched;
+    while m != 0 {
+        let a = m.trailing_zeros() as usize;
+        if a < row.len() && row[a] <= bound {
+            return true;
+        }
+        m &= m - 1;
+    }
+    false
+}
+
+fn first_failing(c: &Machine, a: &Machine, t: &[u16]) -> Option<Refusal> {
+    let mt = matched(c, a);
+    let (nc, na, m, n) = (c.states, a.states, c.sets, a.sets);
+    for j in 0..n {
+        for s in 0..nc {
+            for u in 0..na {
+                let e = t[(j * nc + s) * na + u];
+                if e == BLANK {
+                    continue;
+                }
+                let fails = Some(Refusal(12, j + 1, s, u));
+                if mt[s] >> u & 1 == 0 || e as usize > m * nc * na {
+                    return fails;
+                }
+                let (section, bound) = if e == 0 {
+                    if a.fairness[j] >> u & 1 == 0 {
+                        return fails;
+                    }
+                    (if j + 1 == n { 0 } else { j + 1 }, BLANK - 1)
+                } else {
+                    let r = e as usize - 1;
+                    if c.fairness[r % m] >> s & 1 == 1 { (j, (r / m * m) as u16) } else { (j, e) }
+                };
+                for d in bits(c.successors[s]) {
+                    let from = (section * nc + d) * na;
+                    if !has_partner(a.successors[u], mt[d], &t[from..from + na], bound) {
+                        return fails;
+                    }
+                }
+            }
+        }
+    }
+    None
+}
+
+pub fn check(c: &Machine, a: &Machine, t: &[u16]) -> Answer {
+    if let Some(r) = first_failing(c, a, t) {
+        return Answer::Refused(r);
+    }
+    let count = t[..a.sets * c.states * a.states].iter().filter(|&&e| e != BLANK).count();
+    for s in bits(c.start) {
+        if !bits(a.start).any(|u| t[s * a.states + u] != BLANK) {
+            return Answer::NotCarried(s, count);
+        }
+    }
+    Answer::Carried(count)
+}
+
+pub fn verdict(bytes: &[u8]) -> Answer {
+    let mut t = [0u16; ROOM];
+    match read(bytes, &mut t) {
+        Err(r) => Answer::Refused(r),
+        Ok((_, _, false)) => Answer::NoTable,
+        Ok((c, a, true)) => check(&c, &a, &t),
+    }
+}
+
+// ---- the solver
+
+type Set = [u64; 64];
+
+struct Game<'a> {
+    c: &'a Machine,
+    a: &'a Machine,
+    matched: Set,
+}
+
+impl Game<'_> {
+    #[inline(always)]
+    fn steps(&self, s: &Set) -> Set {
+        let mut part = [0u64; 64];
+        for d in 0..self.c.states {
+            let mut m = 0;
+            for u in 0..self.a.states {
+                if self.a.successors[u] & s[d] != 0 {
+                    m |= 1 << u;
+                }
+            }
+            part[d] = m;
+        }
+        let mut out = [0u64; 64];
+        for x in 0..self.c.states {
+            let mut m = full(self.a.states);
+            for d in bits(self.c.successors[x]) {
+                m &= part[d];
+            }
+            out[x] = m;
+        }
+        out
+    }
+
+    fn goals(&self, j: usize, next: &Set) -> Set {
+        let s = self.steps(next);
+        let mut out = [0u64; 64];
+        for x in 0..self.c.states {
+            out[x] = self.matched[x] & self.a.fairness[j] & s[x];
+        }
+        out
+    }
+
+    fn x(&self, k: usize, base: &Set) -> Set {
+        let mut x = self.matched;
+        loop {
+            let s = self.steps(&x);
+            let mut y = [0u64; 64];
+            for c in 0..self.c.states {
+                let stay = if self.c.fairness[k] >> c & 1 == 0 { s[c] } else { 0 };
+                y[c] = self.matched[c] & (base[c] | stay);
+            }
+            if y == x {
+                return x;
+            }
+            x = y;
+        }
+    }
+
+    fn levels(&self, goals: &Set, mut visit: impl FnMut(usize, usize, &Set)) -> Set {
+        let mut below = [0u64; 64];
+        let mut l = 1;
+        loop {
+            let mut base = self.steps(&below);
+            for c in 0..64 {
+                base[c] |= goals[c];
+            }
+            let mut next = [0u64; 64];
+            for k in 0..self.c.sets {
+                let x = self.x(k, &base);
+                visit(l, k, &x);
+                for c in 0..64 {
+                    next[c] |= x[c];
+                }
+            }
+            if next == below {
+                return below;
+            }
+            below = next;
+            l += 1;
+        }
+    }
+}
+
+pub fn solve(c: &Machine, a: &Machine, t: &mut [u16]) {
+    let g = Game { c, a, matched: matched(c, a) };
+    let n = a.sets;
+    let mut z = [g.matched; 7];
+    loop {
+        let mut w = z;
+        for j in 0..n {
+            let goals = g.goals(j, &z[(j + 1) % n]);
+            w[j] = g.levels(&goals, |_, _, _| ());
+        }
+        if w == z {
+            break;
+        }
+        z = w;
+    }
+    for j in 0..n {
+        let goals = g.goals(j, &z[(j + 1) % n]);
+        let mut rank = [[BLANK; 64]; 64];
+        for s in 0..c.states {
+            for u in bits(goals[s]) {
+                rank[s][u] = 0;
+            }
+        }
+        let mut done = goals;
+        g.levels(&goals, |l, k, x| {
+            for s in 0..c.states {
+                for u in bits(x[s] & !done[s]) {
+                    rank[s][u] = ((l - 1) * c.sets + k + 1) as u16;
+                }
+                done[s] |= x[s];
+            }
+        });
+        for s in 0..c.states {
+            t[(j * c.states + s) * a.states..(j * c.states + s + 1) * a.states].copy_from_slice(&rank[s][..a.states]);
+        }
+    }
+}
+
+pub fn solve_file(bytes: &[u8], out: &mut [u8]) -> Result<usize, Refusal> {
+    let mut t = [0u16; ROOM];
+    let (c, a, _) = read(bytes, &mut t)?;
+    solve(&c, &a, &mut t);
+    Ok(write(&c, &a, Some(&t), out))
+}
