@@ -15,18 +15,16 @@ use Rattle.mask.specs.BoundedLaws.{every-at, every-of}
 use Rattle.mask.specs.Tables.{table}
 use Rattle.mask.specs.TablesLaws.{table-length, table-at, table-past, table-cong, fill-done}
 use Rattle.machine.specs.declared.Pair.{Pair}
-use Rattle.machine.specs.Machines.{fairSet, next, nC, nA, setsA, pairs}
+use Rattle.machine.specs.Machines.{fairSet, next, setsA, pairs}
 use Rattle.machine.specs.StepLaws.{next-lt}
 use Rattle.machine.specs.WellFormedLaws.{WellPair}
 use Rattle.machine.specs.Observed.{matchedMasks}
-use Rattle.machine.specs.Iteration.{iterate}
 use Rattle.machine.specs.Game.{sameSet, allMatched, goals, levels, turn, firstFamily, sameFamily, family}
-use Rattle.theory.specs.Fixpoint.{iterate-keeps}
 use Rattle.theory.specs.GameLaws.{set-canonical, Within-refl, same-of, same-within, same-holds}
 use Rattle.theory.specs.FamilyLaws.{Tabled, family-ext, turn-tabled, first-tabled}
-use Rattle.solver.specs.Rows.{rowsOf, pairsIn, flatOf, sectionOf, familyIn, putSection, stepRows, goalRows, sameRows}
+use Rattle.solver.specs.Rows.{rowsOf, pairsIn, flatOf, sectionOf, familyIn, putSection, goalRows, sameRows, stepsOf}
 use Rattle.solver.specs.FillLaws.{zeros-at}
-use Rattle.solver.specs.FixLaws.{Following, following-start, following-turn, following-stop, following-out}
+use Rattle.solver.specs.FixLaws.{Images, Following, following-turn, following-stop, following-out}
 use Rattle.solver.specs.RowsLaws.{same-yes, same-at}
 use Rattle.solver.specs.SetRowsLaws.{rows-at, set-back, matched-rows, goals-is}
 
@@ -134,7 +132,7 @@ module _ (p : Pair) (w : WellPair p) where
   -- ---- a turn, section by section
   module _ (F : List ℕ) where
     pub goals-done : {matched set steps : List ℕ} {i : ℕ} (j : ℕ) → j < setsA p → matched ≡ matchedMasks p → i ≡ next (setsA p) j → set ≡ sectionOf F i
-        → steps ≡ stepRows (nC p) (nA p) (p .concrete .successors) (p .abstraction .successors) set
+        → steps ≡ stepsOf p set
         → goalRows matched (getD (p .abstraction .fairness) j 0) steps ≡ rowsOf (goals p (familyIn p F) j)
     unfolding fairSet
     goals-done j h em ei es et =
@@ -152,20 +150,20 @@ module _ (p : Pair) (w : WellPair p) where
     turn-all e = rw e
 
   -- ---- the turns
-  pub falling-start : {n : ℕ} {y : List ℕ} → y ≡ flatOf (firstFamily p) → Falling p n 0 y
-  falling-start e = following-start (Tabled p) flatOf (sameFamily p) (sameRows 448) (turn p) (firstFamily p) (λ Z q. turn-tabled p Z) (first-tabled p) flat-same e
+  flat-images : Images (Tabled p) flatOf (familyIn p) (sameFamily p) (sameRows 448)
+  flat-images = record { reads = family-back; agrees = flat-same }
 
-  module _ {n i : ℕ} {y next : List ℕ} (d : Falling p n i y) (e : next ≡ flatOf (turn p (familyIn p y))) where
-    step : next ≡ flatOf (turn p (iterate i (turn p) (firstFamily p)))
-    step = e ∙ ap (λ (Z : List (List ℕ)). flatOf (turn p Z)) (ap (familyIn p) (d .shown) ∙ family-back _ (iterate-keeps (turn p) (Tabled p) (λ Z q. turn-tabled p Z) i (firstFamily p) (first-tabled p)))
+  keeps : (Z : List (List ℕ)) → Tabled p Z → Tabled p (turn p Z)
+  keeps Z q = turn-tabled p Z
 
-    pub falling-turn : i < n → sameRows 448 y next ≡ false → Falling p n (i + 1) next
-    falling-turn h t = following-turn (Tabled p) flatOf (sameFamily p) (sameRows 448) (turn p) (firstFamily p) (λ Z q. turn-tabled p Z) (first-tabled p) flat-same d h step t
+  module _ {n i : ℕ} {y : List ℕ} (d : Falling p n i y) where
+    pub falling-turn : {next : List ℕ} → next ≡ flatOf (turn p (familyIn p y)) → i < n → sameRows 448 y next ≡ false → Falling p n (i + 1) next
+    falling-turn e h t = following-turn flat-images (turn p) keeps (first-tabled p) d e h t
 
-    pub falling-stop : n ≡ setsA p * pairs p → sameRows 448 y next ≡ true → y ≡ flatOf (family p)
+    pub falling-stop : {next : List ℕ} → next ≡ flatOf (turn p (familyIn p y)) → n ≡ setsA p * pairs p → sameRows 448 y next ≡ true → y ≡ flatOf (family p)
     unfolding family
-    falling-stop z t = rw (← z) (following-stop (Tabled p) flatOf (sameFamily p) (sameRows 448) (turn p) (firstFamily p) (λ Z q. turn-tabled p Z) (first-tabled p) flat-same d step t)
+    falling-stop e z t = rw (← z) (following-stop flat-images (turn p) keeps (first-tabled p) d e t)
 
-  pub falling-out : {n i : ℕ} {y : List ℕ} → Falling p n i y → n ≡ setsA p * pairs p → n ≤ i → y ≡ flatOf (family p)
-  unfolding family
-  falling-out d z h = rw (← z) (following-out (Tabled p) flatOf (sameFamily p) (sameRows 448) (turn p) (firstFamily p) (λ Z q. turn-tabled p Z) (first-tabled p) flat-same d h)
+    pub falling-out : n ≡ setsA p * pairs p → n ≤ i → y ≡ flatOf (family p)
+    unfolding family
+    falling-out z h = rw (← z) (following-out flat-images (turn p) keeps (first-tabled p) d h)

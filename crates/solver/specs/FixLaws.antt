@@ -43,50 +43,54 @@ module _ {X : Type 0} (same : X → X → Bool) (F : X → X) where
       pub settling-out : n ≤ i → settle same n F s₀ ≡ s
       settling-out h = d .later ∙ ap (λ (m : ℕ). settle same m F s) (omega arith) ∙ settle-out s
 
--- F on values that are kept by P, and G on their images: they come to the same
-module _ {X Y : Type 0} (P : X → Type 0) (h : X → Y) (same : X → X → Bool) (alike : Y → Y → Bool) (F : X → X) (G : Y → Y)
-    (keeps : (x : X) → P x → P (F x))
-    (follows : (x : X) → P x → G (h x) ≡ h (F x))
-    (agrees : (x y : X) → P x → P y → alike (h x) (h y) ≡ same x y) where
-  pub settle-along : (n : ℕ) (s : X) → P s → settle alike n G (h s) ≡ h (settle same n F s)
-  unfolding settle
-  settle-along zero s q = refl
-  settle-along (suc n) s q =
-      rw (follows s q, agrees s (F s) q (keeps s q), settle-along n (F s) (keeps s q)) (pull (same s (F s)))
-    where
-      pull : (b : Bool) → cond b (h s) (h (settle same n F (F s))) ≡ h (cond b s (settle same n F (F s)))
-      pull true = refl
-      pull false = refl
+-- values that pass P, as a program holds them: h shows a value, back reads it again, and alike tells whether two are the same
+pub record Images {X Y : Type 0} (P : X → Type 0) (h : X → Y) (back : Y → X) (same : X → X → Bool) (alike : Y → Y → Bool) : Type 0 where
+  pub reads : (x : X) → P x → back (h x) ≡ x
+  pub agrees : (x y : X) → P x → P y → alike (h x) (h y) ≡ same x y
 
 -- a loop that holds the image of what F has made of s₀ after i turns
 pub record Following {X Y : Type 0} (h : X → Y) (same : X → X → Bool) (F : X → X) (s₀ : X) (n i : ℕ) (y : Y) : Type 0 where
   pub shown : y ≡ h (iterate i F s₀)
   pub settling : Settling same F n s₀ i (iterate i F s₀)
 
-module _ {X Y : Type 0} (P : X → Type 0) (h : X → Y) (same : X → X → Bool) (alike : Y → Y → Bool) (F : X → X) (s₀ : X)
-    (keeps : (x : X) → P x → P (F x))
-    (starts : P s₀)
-    (agrees : (x y : X) → P x → P y → alike (h x) (h y) ≡ same x y) where
-  pub following-start : {n : ℕ} {y : Y} → y ≡ h s₀ → Following h same F s₀ n 0 y
-  unfolding iterate
-  following-start e = record { shown = e; settling = settling-start same F }
+pub following-start : {X Y : Type 0} {h : X → Y} {same : X → X → Bool} {F : X → X} {s₀ : X} {n : ℕ} {y : Y} → y ≡ h s₀ → Following h same F s₀ n 0 y
+unfolding iterate
+following-start {same} {F} e = record { shown = e; settling = settling-start same F }
 
-  module _ {n i : ℕ} {y : Y} (d : Following h same F s₀ n i y) where
-    pub kept : P (iterate i F s₀)
-    kept = iterate-keeps F P keeps i s₀ starts
+module _ {X Y : Type 0} {P : X → Type 0} {h : X → Y} {back : Y → X} {same : X → X → Bool} {alike : Y → Y → Bool} (I : Images P h back same alike)
+    (F : X → X) (keeps : (x : X) → P x → P (F x)) where
+  -- F on values and G on their images come to the same
+  pub settle-along : (G : Y → Y) → ((x : X) → P x → G (h x) ≡ h (F x)) → (n : ℕ) (s : X) → P s → settle alike n G (h s) ≡ h (settle same n F s)
+  unfolding settle
+  settle-along G follows zero s q = refl
+  settle-along G follows (suc n) s q =
+      rw (follows s q, I .agrees s (F s) q (keeps s q), settle-along G follows n (F s) (keeps s q)) (pull (same s (F s)))
+    where
+      pull : (b : Bool) → cond b (h s) (h (settle same n F (F s))) ≡ h (cond b s (settle same n F (F s)))
+      pull true = refl
+      pull false = refl
 
-    tested : {next : Y} → next ≡ h (F (iterate i F s₀)) → alike y next ≡ same (iterate i F s₀) (F (iterate i F s₀))
-    tested e = ap₂ alike (d .shown) e ∙ agrees _ _ kept (keeps _ kept)
-
-    pub following-turn : {next : Y} → i < n → next ≡ h (F (iterate i F s₀)) → alike y next ≡ false → Following h same F s₀ n (i + 1) next
-    unfolding iterate
-    following-turn l e t = record {
-      shown = rw add-one e;
-      settling = rw add-one (rw add-one at (settling-turn same F (d .settling) l (sym (tested e) ∙ t)));
-    }
-
-    pub following-stop : {next : Y} → next ≡ h (F (iterate i F s₀)) → alike y next ≡ true → y ≡ h (settle same n F s₀)
-    following-stop e t = d .shown ∙ ap h (sym (settling-stop same F (d .settling) (sym (tested e) ∙ t)))
-
+  module _ {s₀ : X} (starts : P s₀) {n i : ℕ} {y : Y} (d : Following h same F s₀ n i y) where
     pub following-out : n ≤ i → y ≡ h (settle same n F s₀)
     following-out l = d .shown ∙ ap h (sym (settling-out same F (d .settling) l))
+
+    -- a turn makes the next value of the one that is held
+    module _ {next : Y} (e : next ≡ h (F (back y))) where
+      kept : P (iterate i F s₀)
+      kept = iterate-keeps F P keeps i s₀ starts
+
+      made : next ≡ h (F (iterate i F s₀))
+      made = e ∙ ap (λ (x : X). h (F x)) (ap back (d .shown) ∙ I .reads _ kept)
+
+      tested : alike y next ≡ same (iterate i F s₀) (F (iterate i F s₀))
+      tested = ap₂ alike (d .shown) made ∙ I .agrees _ _ kept (keeps _ kept)
+
+      pub following-turn : i < n → alike y next ≡ false → Following h same F s₀ n (i + 1) next
+      unfolding iterate
+      following-turn l t = record {
+        shown = rw add-one made;
+        settling = rw add-one (rw add-one at (settling-turn same F (d .settling) l (sym tested ∙ t)));
+      }
+
+      pub following-stop : alike y next ≡ true → y ≡ h (settle same n F s₀)
+      following-stop t = d .shown ∙ ap h (sym (settling-stop same F (d .settling) (sym tested ∙ t)))

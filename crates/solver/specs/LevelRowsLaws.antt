@@ -9,16 +9,14 @@ use Rattle.mask.specs.Bounded.{some}
 use Rattle.mask.specs.BoundedLaws.{some-cong}
 use Rattle.mask.specs.TablesLaws.{table-at}
 use Rattle.machine.specs.declared.Pair.{Pair}
-use Rattle.machine.specs.Machines.{fairSet, nC, nA, setsC, pairs}
+use Rattle.machine.specs.Machines.{nC, nA, setsC, pairs}
 use Rattle.machine.specs.WellFormedLaws.{WellPair}
 use Rattle.machine.specs.Observed.{matchedMasks}
-use Rattle.machine.specs.Iteration.{iterate}
 use Rattle.machine.specs.Game.{pairSet, mem, sameSet, none, xOver, xsOver, union, levelOver, levels}
-use Rattle.theory.specs.Fixpoint.{iterate-keeps}
 use Rattle.theory.specs.GameLaws.{Canonical, pairSet-cong, set-canonical, xOver-canonical}
-use Rattle.solver.specs.Rows.{rowsOf, pairsIn, stepRows, baseRows, unionRows, sameRows, xRows, levelRows}
+use Rattle.solver.specs.Rows.{rowsOf, pairsIn, baseRows, unionRows, sameRows, xRows, levelRows, stepsOf, joinedOf}
 use Rattle.solver.specs.FixLaws.{Following, following-start, following-turn, following-stop, following-out}
-use Rattle.solver.specs.SetRowsLaws.{set-back, rows-same, x-rows-is, union-is, no-rows}
+use Rattle.solver.specs.SetRowsLaws.{rows-images, x-rows-is, union-is, no-rows}
 
 -- the union of X(l, 1) .. X(l, k), over goals G and level l − 1
 unfoldable pub unionUpto : Pair → List ℕ → List ℕ → ℕ → List ℕ
@@ -54,8 +52,7 @@ module _ (p : Pair) (w : WellPair p) where
     B = pairsIn p below
 
     abbrev Level : ℕ → List ℕ
-    Level = levelRows (nC p) (nA p) (p .concrete .successors) (p .abstraction .successors) (matchedMasks p)
-        (baseRows (matchedMasks p) goals (stepRows (nC p) (nA p) (p .concrete .successors) (p .abstraction .successors) below)) (p .concrete .fairness) (replicate 64 0)
+    Level = joinedOf p (matchedMasks p) (baseRows (matchedMasks p) goals (stepsOf p below)) (replicate 64 0)
 
     union-more : (k : ℕ) → unionRows (rowsOf (xOver p G B k)) (rowsOf (unionUpto p G B k)) ≡ rowsOf (unionUpto p G B (suc k))
     unfolding unionUpto some
@@ -64,7 +61,7 @@ module _ (p : Pair) (w : WellPair p) where
         ∙ union-is p w (mem p (xOver p G B k)) (λ c a. some k (λ i. mem p (xOver p G B i) c a))
 
     level-upto : (k : ℕ) → Level k ≡ rowsOf (unionUpto p G B k)
-    unfolding levelRows unionUpto some fairSet
+    unfolding levelRows unionUpto some
     level-upto zero = no-rows p w _ (λ c a hc ha. refl)
     level-upto (suc k) = ap₂ unionRows (x-rows-is p w goals below k) (level-upto k) ∙ union-more k
 
@@ -79,13 +76,16 @@ module _ (p : Pair) (w : WellPair p) where
 
     -- what the loop leaves is the next level
     pub level-done : {matched steps base : List ℕ} {k : ℕ} → matched ≡ matchedMasks p
-        → steps ≡ stepRows (nC p) (nA p) (p .concrete .successors) (p .abstraction .successors) below → base ≡ baseRows matched goals steps → k ≡ setsC p
-        → levelRows (nC p) (nA p) (p .concrete .successors) (p .abstraction .successors) matched base (p .concrete .fairness) (replicate 64 0) k ≡ rowsOf (levelOver p G B)
+        → steps ≡ stepsOf p below → base ≡ baseRows matched goals steps → k ≡ setsC p
+        → joinedOf p matched base (replicate 64 0) k ≡ rowsOf (levelOver p G B)
     level-done em es eb ek = rw (ek, eb, es, em) level-is
 
   -- ---- the levels, one turn after the other
   module _ (goals : List ℕ) where
-    keeps : (S : List ℕ) → Canonical p S → Canonical p (levelOver p (pairsIn p goals) S)
+    abbrev Next : List ℕ → List ℕ
+    Next = levelOver p (pairsIn p goals)
+
+    keeps : (S : List ℕ) → Canonical p S → Canonical p (Next S)
     unfolding levelOver union
     keeps S q = set-canonical p _
 
@@ -94,19 +94,16 @@ module _ (p : Pair) (w : WellPair p) where
     starts = set-canonical p _
 
     pub rising-start : {n : ℕ} → Rising p goals n 0 (replicate 64 0)
-    rising-start = following-start (Canonical p) rowsOf (sameSet p) (sameRows 64) (levelOver p (pairsIn p goals)) (none p) keeps starts (rows-same p w) none-rows
+    rising-start = following-start none-rows
 
-    module _ {n i : ℕ} {y next : List ℕ} (d : Rising p goals n i y) (e : next ≡ rowsOf (levelOver p (pairsIn p goals) (pairsIn p y))) where
-      step : next ≡ rowsOf (levelOver p (pairsIn p goals) (iterate i (levelOver p (pairsIn p goals)) (none p)))
-      step = e ∙ ap (λ (S : List ℕ). rowsOf (levelOver p (pairsIn p goals) S)) (ap (pairsIn p) (d .shown) ∙ set-back p w _ (iterate-keeps _ (Canonical p) keeps i (none p) starts))
+    module _ {n i : ℕ} {y : List ℕ} (d : Rising p goals n i y) where
+      pub rising-turn : {next : List ℕ} → next ≡ rowsOf (Next (pairsIn p y)) → i < n → sameRows 64 y next ≡ false → Rising p goals n (i + 1) next
+      rising-turn e h t = following-turn (rows-images p w) Next keeps starts d e h t
 
-      pub rising-turn : i < n → sameRows 64 y next ≡ false → Rising p goals n (i + 1) next
-      rising-turn h t = following-turn (Canonical p) rowsOf (sameSet p) (sameRows 64) (levelOver p (pairsIn p goals)) (none p) keeps starts (rows-same p w) d h step t
-
-      pub rising-stop : n ≡ pairs p → sameRows 64 y next ≡ true → y ≡ rowsOf (levels p (pairsIn p goals))
+      pub rising-stop : {next : List ℕ} → next ≡ rowsOf (Next (pairsIn p y)) → n ≡ pairs p → sameRows 64 y next ≡ true → y ≡ rowsOf (levels p (pairsIn p goals))
       unfolding levels
-      rising-stop z t = rw (← z) (following-stop (Canonical p) rowsOf (sameSet p) (sameRows 64) (levelOver p (pairsIn p goals)) (none p) keeps starts (rows-same p w) d step t)
+      rising-stop e z t = rw (← z) (following-stop (rows-images p w) Next keeps starts d e t)
 
-    pub rising-out : {n i : ℕ} {y : List ℕ} → Rising p goals n i y → n ≡ pairs p → n ≤ i → y ≡ rowsOf (levels p (pairsIn p goals))
-    unfolding levels
-    rising-out d z h = rw (← z) (following-out (Canonical p) rowsOf (sameSet p) (sameRows 64) (levelOver p (pairsIn p goals)) (none p) keeps starts (rows-same p w) d h)
+      pub rising-out : n ≡ pairs p → n ≤ i → y ≡ rowsOf (levels p (pairsIn p goals))
+      unfolding levels
+      rising-out z h = rw (← z) (following-out (rows-images p w) Next keeps starts d h)

@@ -29,7 +29,7 @@ use Rattle.theory.specs.Statements.{Within}
 use Rattle.theory.specs.GameLaws.{Canonical, mem-pairSet, of-set, in-set, set-canonical, set-ext, pairSet-cong, same-holds, none-empty, goal, xOver-is, xOver-canonical, level-zero, level-suc, level-later, level-levels, level-canonical, levels-is}
 use Rattle.theory.specs.FamilyLaws.{family-tabled}
 use Rattle.theory.specs.TowerLaws.{x-is, level-x, x-level, tower-length, tower-at}
-use Rattle.solver.specs.Rows.{rowsOf, pairsIn, flatOf, familyIn, sameRows, stepRows, baseRows, unionRows, xRows, levelRows, without, stampRows, rankRows}
+use Rattle.solver.specs.Rows.{rowsOf, pairsIn, flatOf, familyIn, sameRows, baseRows, unionRows, xRows, levelRows, without, stampRows, rankRows, stepsOf, xOf, joinedOf, enteredOf}
 use Rattle.solver.specs.Ranking.{rankUpto, sectionUpto, seenUpto, sectionRanks, Holds, LevelRanked}
 use Rattle.solver.specs.SetRowsLaws.{rows-at, rows-small, rows-same, set-back, x-rows-is, union-is}
 use Rattle.solver.specs.LevelRowsLaws.{none-rows}
@@ -213,12 +213,12 @@ module _ (p : Pair) (w : WellPair p) (G : List ℕ) (q : Canonical p G) where
   -- ---- one level: its sets in turn
   module _ (l : ℕ) (hl : l < pairs p) (goals below : List ℕ) (eg : goals ≡ rowsOf G) (eb : below ≡ rowsOf (level p G l)) where
     abbrev Base : List ℕ
-    Base = baseRows (matchedMasks p) goals (stepRows (nC p) (nA p) (p .concrete .successors) (p .abstraction .successors) below)
+    Base = baseRows (matchedMasks p) goals (stepsOf p below)
 
     abbrev X : ℕ → List ℕ
     X = xOver p G (level p G l)
 
-    pub x-at : (k : ℕ) → xRows (nC p) (nA p) (p .concrete .successors) (p .abstraction .successors) (matchedMasks p) Base (getD (p .concrete .fairness) k 0) ≡ rowsOf (X k)
+    pub x-at : (k : ℕ) → xOf p (matchedMasks p) Base k ≡ rowsOf (X k)
     unfolding fairSet
     x-at k =
         x-rows-is p w goals below k
@@ -232,10 +232,10 @@ module _ (p : Pair) (w : WellPair p) (G : List ℕ) (q : Canonical p G) where
     in-matched k c a hc ha t = xOver-is p G (level p G l) k .at c a hc ha t .0
 
     abbrev Joined : ℕ → List ℕ
-    Joined = levelRows (nC p) (nA p) (p .concrete .successors) (p .abstraction .successors) (matchedMasks p) Base (p .concrete .fairness) (unionRows goals below)
+    Joined = joinedOf p (matchedMasks p) Base (unionRows goals below)
 
     abbrev Entered : ℕ → List ℕ
-    Entered = rankRows (nC p) (nA p) (p .concrete .successors) (p .abstraction .successors) (matchedMasks p) Base (p .concrete .fairness)
+    Entered = enteredOf p (matchedMasks p) Base
         (unionRows goals below) (l * setsC p) (sectionUpto p G (l * setsC p))
 
     joined-is : (k : ℕ) → k ≤ setsC p → Joined k ≡ rowsOf (seenUpto p G (l * setsC p + k))
@@ -302,27 +302,24 @@ module _ {p : Pair} {matched goals : List ℕ} {l : ℕ} {below part : List ℕ}
   abbrev W : WellPair p
   W = well-pair p (d .well)
 
-  abbrev Steps : List ℕ → List ℕ
-  Steps = stepRows (nC p) (nA p) (p .concrete .successors) (p .abstraction .successors)
-
   pub ranked-length : length part ≡ pairs p
   unfolding sectionUpto
   ranked-length = ap length (d .entries-are) ∙ table-length _ _
 
-  module _ (hl : l < pairs p) {steps base : List ℕ} (es : steps ≡ Steps below) (eb : base ≡ baseRows matched goals steps) where
-    base-is : base ≡ baseRows (matchedMasks p) goals (Steps below)
+  module _ (hl : l < pairs p) {steps base : List ℕ} (es : steps ≡ stepsOf p below) (eb : base ≡ baseRows matched goals steps) where
+    base-is : base ≡ baseRows (matchedMasks p) goals (stepsOf p below)
     base-is = eb ∙ rw (d .all-matched, es)
 
     pub x-small : (k c : ℕ) → c < nC p
-        → getD (xRows (nC p) (nA p) (p .concrete .successors) (p .abstraction .successors) matched base (getD (p .concrete .fairness) k 0)) c 0 < 2 ^ nA p
+        → getD (xOf p matched base k) c 0 < 2 ^ nA p
     x-small k c h =
         rw (base-is, d .all-matched, x-at p W (pairsIn p goals) (d .held .only-matched) l hl goals below (d .held .only-rows) (d .level-is) k)
         (rows-small p W _ (xOver-canonical p (pairsIn p goals) (level p (pairsIn p goals) l) k) c h)
 
     pub ranked-next : {start : List ℕ} {k : ℕ} → start ≡ unionRows goals below → k ≡ setsC p
         → LevelRanked p matched goals (l + 1)
-        (levelRows (nC p) (nA p) (p .concrete .successors) (p .abstraction .successors) matched base (p .concrete .fairness) start k)
-        (rankRows (nC p) (nA p) (p .concrete .successors) (p .abstraction .successors) matched base (p .concrete .fairness) start (l * setsC p) part k)
+        (joinedOf p matched base start k)
+        (enteredOf p matched base start (l * setsC p) part k)
     ranked-next eu ek = record {
       well = d .well;
       all-matched = d .all-matched;

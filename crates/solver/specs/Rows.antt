@@ -9,7 +9,7 @@ use Rattle.mask.specs.Bits.{hasBit}
 use Rattle.mask.specs.Bounded.{every, everyIn}
 use Rattle.mask.specs.Tables.{maskOf, table}
 use Rattle.machine.specs.declared.Pair.{Pair}
-use Rattle.machine.specs.Machines.{nC, setsA}
+use Rattle.machine.specs.Machines.{nC, nA, setsA}
 use Rattle.machine.specs.Step.{partner, found, alike}
 use Rattle.machine.specs.Iteration.{settle}
 
@@ -115,3 +115,20 @@ rankRows nC nA concrete abstraction matched base sets start first part zero = pa
 rankRows nC nA concrete abstraction matched base sets start first part (suc k) =
     stampRows nA (xRows nC nA concrete abstraction matched base (getD sets k 0)) (levelRows nC nA concrete abstraction matched base sets start k) (first + k + 1)
     (rankRows nC nA concrete abstraction matched base sets start first part k)
+
+-- ---- the same, of the machines of a pair
+module _ (p : Pair) where
+  abbrev pub stepsOf : List ℕ → List ℕ
+  stepsOf = stepRows (nC p) (nA p) (p .concrete .successors) (p .abstraction .successors)
+
+  abbrev pub roundOf : List ℕ → List ℕ → List ℕ → List ℕ
+  roundOf = xRound (nC p) (nA p) (p .concrete .successors) (p .abstraction .successors)
+
+  abbrev pub xOf : List ℕ → List ℕ → ℕ → List ℕ
+  xOf matched base k = xRows (nC p) (nA p) (p .concrete .successors) (p .abstraction .successors) matched base (getD (p .concrete .fairness) k 0)
+
+  abbrev pub joinedOf : List ℕ → List ℕ → List ℕ → ℕ → List ℕ
+  joinedOf matched base = levelRows (nC p) (nA p) (p .concrete .successors) (p .abstraction .successors) matched base (p .concrete .fairness)
+
+  abbrev pub enteredOf : List ℕ → List ℕ → List ℕ → ℕ → List ℕ → ℕ → List ℕ
+  enteredOf matched base = rankRows (nC p) (nA p) (p .concrete .successors) (p .abstraction .successors) matched base (p .concrete .fairness)

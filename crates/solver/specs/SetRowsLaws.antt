@@ -12,7 +12,7 @@ use lib.Bits.{bitAnd, bitOr, and-le-l, or-lt}
 use lib.Pow.{pow-pos}
 use borrow.Author.Tests.{lt-ltb}
 use Rattle.mask.specs.Logic.{not, and, or}
-use Rattle.mask.specs.LogicLaws.{both, cond-cases, and-true-l, and-true-r, and-false-r}
+use Rattle.mask.specs.LogicLaws.{both, cond-cases, and-true-l, and-true-r, and-false-r, not-i, not-f}
 use Rattle.mask.specs.Bits.{hasBit}
 use Rattle.mask.specs.BitsLaws.{has-and, has-or, has-none}
 use Rattle.mask.specs.Bounded.{everyIn, someIn}
@@ -29,9 +29,9 @@ use Rattle.machine.specs.ObservedLaws.{matched-length, matched-at, row-out, has
 use Rattle.machine.specs.WellFormedLaws.{WellPair}
 use Rattle.machine.specs.Game.{pairSet, mem, sameSet, allMatched, goals, inX, roundX, xOver}
 use Rattle.theory.specs.GameLaws.{Canonical, set-canonical, set-ext, same-of, same-within, same-holds}
-use Rattle.solver.specs.Rows.{rowsOf, pairsIn, partnersOf, partnerRows, meetOf, stepRows, goalRows, baseRows, outerRows, roundRows, unionRows, sameRows, xRound, xRows}
+use Rattle.solver.specs.Rows.{rowsOf, pairsIn, partnersOf, partnerRows, meetOf, stepRows, goalRows, baseRows, outerRows, roundRows, unionRows, sameRows, xRound, xRows, stepsOf, roundOf, xOf}
 use Rattle.solver.specs.FillLaws.{zeros-at}
-use Rattle.solver.specs.FixLaws.{settle-along}
+use Rattle.solver.specs.FixLaws.{Images, settle-along}
 use Rattle.solver.specs.RowsLaws.{same-yes, same-at}
 
 -- ---- a mask whose states lie below w, read at a larger width
@@ -46,14 +46,13 @@ module _ (v w m : ℕ) (f g : ℕ → Bool) (wide : w ≤ v) (fits : (i : ℕ) �
       (λ t. let r = someIn-at v m f t in let q : r .0 < w = fits (r .0) (r .1) (r .2) in someIn-of w m g (r .0) q (r .2) (sym (alike (r .0) q) ∙ r .3))
       (λ t. let r = someIn-at w m g t in someIn-of v m f (r .0) (omega (arith, r .1)) (r .2) (alike (r .0) (r .1) ∙ r .3))
 
-factor : (m g s h x : Bool) → or (and m (or g s)) (and (and h m) x) ≡ and m (or g (or s (and h x)))
+factor : (m g s h x : Bool) → or (and m (or g s)) (and (and m h) x) ≡ and m (or g (or s (and h x)))
 unfolding and or
 factor true true s h x = refl
 factor true false true h x = refl
 factor true false false true x = refl
 factor true false false false x = refl
-factor false g s true x = refl
-factor false g s false x = refl
+factor false g s h x = refl
 
 and-or : (m a b : Bool) → and m (or a b) ≡ or (and m a) (and m b)
 unfolding and or
@@ -101,11 +100,18 @@ module _ (p : Pair) where
         (λ l. maskOf-is (nA p) (g c) _ (low c l) (λ a q. bits c a l q) ∙ sym (set-row f c l))
         (λ l. past c (omega arith) h ∙ sym (set-past f c (omega arith))))
 
+    -- the rows of a set: their states, their size, and what lies beyond
+    row-bit : (f : ℕ → ℕ → Bool) (c a : ℕ) → c < nC p → a < nA p → hasBit (getD (rowsOf (pairSet p f)) c 0) a ≡ and (matched p c a) (f c a)
+    row-bit f c a hc ha = ap (λ (m : ℕ). hasBit m a) (rows-at (pairSet p f) c (wide c hc) ∙ set-row f c hc) ∙ has-maskOf-at (nA p) _ a ha
+
+    row-small : (f : ℕ → ℕ → Bool) (c : ℕ) → c < nC p → getD (rowsOf (pairSet p f)) c 0 < 2 ^ nA p
+    row-small f c h = rw (rows-at (pairSet p f) c (wide c h), set-row f c h) (maskOf-lt (nA p) _)
+
+    row-past : (f : ℕ → ℕ → Bool) (c : ℕ) → nC p ≤ c → c < 64 → getD (rowsOf (pairSet p f)) c 0 ≡ 0
+    row-past f c h l = rows-at (pairSet p f) c l ∙ set-past f c h
+
     pub rows-small : (S : List ℕ) → Canonical p S → (c : ℕ) → c < nC p → getD (rowsOf S) c 0 < 2 ^ nA p
-    rows-small S q c h =
-        let e : getD (rowsOf S) c 0 ≡ maskOf (nA p) (λ a. and (matched p c a) (mem p S c a)) =
-        rows-at S c (wide c h) ∙ ap (λ (l : List ℕ). getD l c 0) q ∙ set-row (mem p S) c h in
-        rw e (maskOf-lt (nA p) _)
+    rows-small S q c h = rw q (row-small (mem p S) c h)
 
     -- two sets have the same rows exactly if they are the same
     pub rows-same : (S R : List ℕ) → Canonical p S → Canonical p R → sameRows 64 (rowsOf S) (rowsOf R) ≡ sameSet p S R
@@ -116,6 +122,9 @@ module _ (p : Pair) where
       where
         equal : sameRows 64 (rowsOf S) (rowsOf R) ≡ true → (c : ℕ) → c < nC p → getD S c 0 ≡ getD R c 0
         equal t c h = sym (rows-at S c (wide c h)) ∙ same-at 64 (rowsOf S) (rowsOf R) t c (wide c h) ∙ rows-at R c (wide c h)
+
+    pub rows-images : Images (Canonical p) rowsOf (pairsIn p) (sameSet p) (sameRows 64)
+    rows-images = record { reads = set-back; agrees = rows-same }
 
     -- ---- all matched pairs
     abbrev M : List ℕ
@@ -134,9 +143,6 @@ module _ (p : Pair) where
         ∙ rows-is (λ c. getD M c 0) _ (λ c h. matched-small p w c h) (λ c a hc ha. has-M c a hc ha ∙ sym (and-true-r _ refl)) M-past
 
     -- ---- the pairs that step into the set that rows hold
-    abbrev Steps : List ℕ → List ℕ
-    Steps rows = stepRows (nC p) (nA p) (p .concrete .successors) (p .abstraction .successors) rows
-
     partner-row : (rows : List ℕ) (d : ℕ) → d < nC p
         → getD (partnerRows (nC p) (nA p) (p .abstraction .successors) rows) d 0 ≡ partnersOf (nA p) (p .abstraction .successors) (getD rows d 0)
     unfolding partnerRows
@@ -144,7 +150,7 @@ module _ (p : Pair) where
         table-at 64 (λ i. cond (ltb i (nC p)) (partnersOf (nA p) (p .abstraction .successors) (getD rows i 0)) 0) d 0 (wide d h) ∙ rw (lt-ltb d (nC p) h)
 
     step-row : (rows : List ℕ) (c : ℕ) → c < nC p
-        → getD (Steps rows) c 0 ≡ meetOf (nA p) (getD (p .concrete .successors) c 0) (partnerRows (nC p) (nA p) (p .abstraction .successors) rows)
+        → getD (stepsOf p rows) c 0 ≡ meetOf (nA p) (getD (p .concrete .successors) c 0) (partnerRows (nC p) (nA p) (p .abstraction .successors) rows)
     unfolding stepRows
     step-row rows c h =
         table-at 64 (λ i. cond (ltb i (nC p)) (meetOf (nA p) (getD (p .concrete .successors) i 0) (partnerRows (nC p) (nA p) (p .abstraction .successors) rows)) 0)
@@ -160,7 +166,7 @@ module _ (p : Pair) where
         ∙ someIn-fit 64 (nA p) (getD (p .abstraction .successors) a 0) (hasBit (getD rows d 0)) (mem p (pairsIn p rows) d)
         (w .abstraction .states-high) (λ i l e. w .abstraction .move-bits a i ha l e) (λ b l. sym (mem-in rows d b hd))
 
-    pub has-step : (rows : List ℕ) (c a : ℕ) → c < nC p → a < nA p → hasBit (getD (Steps rows) c 0) a ≡ steps p (mem p (pairsIn p rows)) c a
+    pub has-step : (rows : List ℕ) (c a : ℕ) → c < nC p → a < nA p → hasBit (getD (stepsOf p rows) c 0) a ≡ steps p (mem p (pairsIn p rows)) c a
     unfolding meetOf steps moves successors
     has-step rows c a hc ha =
         ap (λ (m : ℕ). hasBit m a) (step-row rows c hc)
@@ -177,98 +183,82 @@ module _ (p : Pair) where
         (λ c l k. omega (arith, and-le-l (getD M c 0) (h c), M-past c l k))
 
     pub goals-is : (Z : List (List ℕ)) (j : ℕ) (rows : List ℕ) → pairsIn p rows ≡ getD Z (next (setsA p) j) []
-        → goalRows M (fairSet (p .abstraction) j) (Steps rows) ≡ rowsOf (goals p Z j)
+        → goalRows M (fairSet (p .abstraction) j) (stepsOf p rows) ≡ rowsOf (goals p Z j)
     unfolding goalRows goals inFairSet
     goals-is Z j rows e = met-is _ _ (λ c a hc ha.
-        has-and a (fairSet (p .abstraction) j) (getD (Steps rows) c 0)
+        has-and a (fairSet (p .abstraction) j) (getD (stepsOf p rows) c 0)
         ∙ ap (and (hasBit (fairSet (p .abstraction) j) a)) (has-step rows c a hc ha ∙ ap (λ (S : List ℕ). steps p (mem p S) c a) e))
 
     -- ---- X over goals and the level below, each held by rows
     module _ (goals below : List ℕ) (k : ℕ) where
       abbrev Base : List ℕ
-      Base = baseRows M goals (Steps below)
+      Base = baseRows M goals (stepsOf p below)
 
       abbrev Outer : List ℕ
       Outer = outerRows M (fairSet (p .concrete) k)
 
-      has-base : (c a : ℕ) → c < nC p → a < nA p
-          → hasBit (getD Base c 0) a ≡ and (matched p c a) (or (mem p (pairsIn p goals) c a) (steps p (mem p (pairsIn p below)) c a))
-      unfolding baseRows
-      has-base c a hc ha =
-          ap (λ (m : ℕ). hasBit m a) (table-at 64 _ c 0 (wide c hc))
-          ∙ has-and a (getD M c 0) (bitOr (getD goals c 0) (getD (Steps below) c 0))
-          ∙ ap₂ and (has-M c a hc ha) (has-or a (getD goals c 0) (getD (Steps below) c 0) ∙ ap₂ or (sym (mem-in goals c a hc)) (has-step below c a hc ha))
+      -- in X whatever X is, and in X if they step into it
+      abbrev Always : ℕ → ℕ → Bool
+      Always c a = or (mem p (pairsIn p goals) c a) (steps p (mem p (pairsIn p below)) c a)
 
-      has-outer : (c a : ℕ) → c < nC p → a < nA p → hasBit (getD Outer c 0) a ≡ and (not (inFairSet (p .concrete) k c)) (matched p c a)
+      abbrev Outside : ℕ → ℕ → Bool
+      Outside c a = not (inFairSet (p .concrete) k c)
+
+      base-is : Base ≡ rowsOf (pairSet p Always)
+      unfolding baseRows
+      base-is = met-is _ Always (λ c a hc ha.
+          has-or a (getD goals c 0) (getD (stepsOf p below) c 0) ∙ ap₂ or (sym (mem-in goals c a hc)) (has-step below c a hc ha))
+
+      outer-is : Outer ≡ rowsOf (pairSet p Outside)
       unfolding outerRows inFairSet and not
-      has-outer c a hc ha =
-          ap (λ (m : ℕ). hasBit m a) (table-at 64 _ c 0 (wide c hc)) ∙ cut (hasBit (fairSet (p .concrete) k) c)
+      outer-is = rows-is _ Outside
+          (λ c h. cond-cases (In c) (λ m. m < 2 ^ nA p) 0 (getD M c 0) (λ t. pow-pos (nA p)) (λ t. matched-small p w c h))
+          (λ c a hc ha. cond-cases (In c) (λ m. hasBit m a ≡ and (matched p c a) (not (In c))) 0 (getD M c 0)
+          (λ t. has-none a ∙ sym (and-false-r (matched p c a) (not-f t))) (λ t. has-M c a hc ha ∙ sym (and-true-r (matched p c a) (not-i t))))
+          (λ c h l. cond-cases (In c) (λ m. m ≡ 0) 0 (getD M c 0) (λ t. refl) (λ t. M-past c h l))
         where
-          cut : (b : Bool) → hasBit (cond b 0 (getD M c 0)) a ≡ and (not b) (matched p c a)
-          cut true = has-none a
-          cut false = has-M c a hc ha
-
-      outer-small : (c : ℕ) → c < nC p → getD Outer c 0 < 2 ^ nA p
-      unfolding outerRows
-      outer-small c h =
-          rw (table-at 64 (λ i. cond (hasBit (fairSet (p .concrete) k) i) 0 (getD M i 0)) c 0 (wide c h))
-          (cond-cases (hasBit (fairSet (p .concrete) k) c) (λ m. m < 2 ^ nA p) 0 (getD M c 0) (λ t. pow-pos (nA p)) (λ t. matched-small p w c h))
-
-      base-small : (c : ℕ) → c < nC p → getD Base c 0 < 2 ^ nA p
-      unfolding baseRows
-      base-small c h =
-          let e = table-at 64 (λ i. bitAnd (getD M i 0) (bitOr (getD goals i 0) (getD (Steps below) i 0))) c 0 (wide c h) in
-          omega (arith, e, and-le-l (getD M c 0) (bitOr (getD goals c 0) (getD (Steps below) c 0)), matched-small p w c h)
-
-      base-past : (c : ℕ) → nC p ≤ c → c < 64 → getD Base c 0 ≡ 0
-      unfolding baseRows
-      base-past c h l =
-          let e = table-at 64 (λ i. bitAnd (getD M i 0) (bitOr (getD goals i 0) (getD (Steps below) i 0))) c 0 l in
-          omega (arith, e, and-le-l (getD M c 0) (bitOr (getD goals c 0) (getD (Steps below) c 0)), M-past c h l)
-
-      outer-past : (c : ℕ) → nC p ≤ c → c < 64 → getD Outer c 0 ≡ 0
-      unfolding outerRows
-      outer-past c h l =
-          table-at 64 _ c 0 l
-          ∙ cond-cases (hasBit (fairSet (p .concrete) k) c) (λ m. m ≡ 0) 0 (getD M c 0) (λ t. refl) (λ t. M-past c h l)
+          In : ℕ → Bool
+          In = hasBit (fairSet (p .concrete) k)
 
       abbrev Round : List ℕ → List ℕ
-      Round = xRound (nC p) (nA p) (p .concrete .successors) (p .abstraction .successors) Base Outer
+      Round = roundOf p Base Outer
 
       round-is : (X : List ℕ) → Canonical p X → Round (rowsOf X) ≡ rowsOf (roundX p (pairsIn p goals) (pairsIn p below) k X)
       unfolding xRound roundRows roundX inX
-      round-is X q = rows-is _ _
-          (λ c h. or-lt (nA p) _ _ (base-small c h) (omega (arith, and-le-l (getD Outer c 0) (getD (Steps (rowsOf X)) c 0), outer-small c h)))
+      round-is X q = rw (base-is, outer-is) (rows-is (λ c. bitOr (A c) (bitAnd (O c) (S c))) _
+          (λ c h. or-lt (nA p) _ _ (row-small Always c h) (omega (arith, and-le-l (O c) (S c), row-small Outside c h)))
           (λ c a hc ha.
-          has-or a (getD Base c 0) (bitAnd (getD Outer c 0) (getD (Steps (rowsOf X)) c 0))
-          ∙ ap₂ or (has-base c a hc ha) (has-and a (getD Outer c 0) (getD (Steps (rowsOf X)) c 0)
-          ∙ ap₂ and (has-outer c a hc ha) (has-step (rowsOf X) c a hc ha ∙ ap (λ (S : List ℕ). steps p (mem p S) c a) (set-back X q)))
+          has-or a (A c) (bitAnd (O c) (S c))
+          ∙ ap₂ or (row-bit Always c a hc ha) (has-and a (O c) (S c) ∙ ap₂ and (row-bit Outside c a hc ha)
+          (has-step (rowsOf X) c a hc ha ∙ ap (λ (R : List ℕ). steps p (mem p R) c a) (set-back X q)))
           ∙ factor _ _ _ _ _)
-          (λ c h l. let z : bitAnd (getD Outer c 0) (getD (Steps (rowsOf X)) c 0) ≡ 0 =
-          omega (arith, and-le-l (getD Outer c 0) (getD (Steps (rowsOf X)) c 0), outer-past c h l) in
-          ap₂ bitOr (base-past c h l) z)
+          (λ c h l. let z : bitAnd (O c) (S c) ≡ 0 = omega (arith, and-le-l (O c) (S c), row-past Outside c h l) in ap₂ bitOr (row-past Always c h l) z))
+        where
+          A : ℕ → ℕ
+          A c = getD (rowsOf (pairSet p Always)) c 0
 
-      pub x-rows-is :
-          xRows (nC p) (nA p) (p .concrete .successors) (p .abstraction .successors) M Base (fairSet (p .concrete) k)
-          ≡ rowsOf (xOver p (pairsIn p goals) (pairsIn p below) k)
-      unfolding xRows xOver roundX allMatched
+          O : ℕ → ℕ
+          O c = getD (rowsOf (pairSet p Outside)) c 0
+
+          S : ℕ → ℕ
+          S c = getD (stepsOf p (rowsOf X)) c 0
+
+      pub x-rows-is : xOf p M Base k ≡ rowsOf (xOver p (pairsIn p goals) (pairsIn p below) k)
+      unfolding xRows xOver roundX allMatched fairSet
       x-rows-is =
           ap (settle (sameRows 64) (pairs p) Round) matched-rows
-          ∙ settle-along (Canonical p) rowsOf (sameSet p) (sameRows 64) (roundX p (pairsIn p goals) (pairsIn p below) k) Round
-          (λ X q. set-canonical p _) round-is rows-same (pairs p) (allMatched p) (set-canonical p _)
+          ∙ settle-along rows-images (roundX p (pairsIn p goals) (pairsIn p below) k) (λ X q. set-canonical p _) Round round-is (pairs p) (allMatched p)
+          (set-canonical p _)
 
     -- ---- unions
     pub union-is : (f g : ℕ → ℕ → Bool) → unionRows (rowsOf (pairSet p f)) (rowsOf (pairSet p g)) ≡ rowsOf (pairSet p (λ c a. or (f c a) (g c a)))
     unfolding unionRows
     union-is f g = rows-is _ _
-        (λ c h. or-lt (nA p) _ _ (rows-small _ (set-canonical p f) c h) (rows-small _ (set-canonical p g) c h))
+        (λ c h. or-lt (nA p) _ _ (row-small f c h) (row-small g c h))
         (λ c a hc ha.
         has-or a (getD (rowsOf (pairSet p f)) c 0) (getD (rowsOf (pairSet p g)) c 0)
-        ∙ ap₂ or (bit f c a hc ha) (bit g c a hc ha) ∙ sym (and-or _ _ _))
-        (λ c h l. ap₂ bitOr (rows-at (pairSet p f) c l ∙ set-past f c h) (rows-at (pairSet p g) c l ∙ set-past g c h))
-      where
-        bit : (f : ℕ → ℕ → Bool) (c a : ℕ) → c < nC p → a < nA p → hasBit (getD (rowsOf (pairSet p f)) c 0) a ≡ and (matched p c a) (f c a)
-        bit f c a hc ha = ap (λ (m : ℕ). hasBit m a) (rows-at (pairSet p f) c (wide c hc) ∙ set-row f c hc) ∙ has-maskOf-at (nA p) _ a ha
+        ∙ ap₂ or (row-bit f c a hc ha) (row-bit g c a hc ha) ∙ sym (and-or _ _ _))
+        (λ c h l. ap₂ bitOr (row-past f c h l) (row-past g c h l))
 
     pub no-rows : (f : ℕ → ℕ → Bool) → ((c a : ℕ) → c < nC p → a < nA p → f c a ≡ false) → replicate 64 0 ≡ rowsOf (pairSet p f)
     no-rows f e =

@@ -42,8 +42,10 @@ returns : tie.Need-returns
 returns c =
     let n = c .before .before .before .before .before .before .before in
     let s = entry n in
+    let t = c .before .before .step-rows in
     c .goal-rows .ensures
-    ∙ goals-done (s .args .p) (well s) (s .args .family .now) (s .args .j) (s .pre .1 .1) (s .pre .1 .0) (n .next-section .ensures) (c .before .before .before .before .before .before .section .ensures) (c .before .before .step-rows .ensures)
+    ∙ goals-done (s .args .p) (well s) (s .args .family .now) (s .args .j) (s .pre .1 .1) (s .pre .1 .0) (n .next-section .ensures)
+    (c .before .before .before .before .before .before .section .ensures) (t .ensures)
 
 pub goals-spec : {M : Type 1} → statement M
 goals-spec =

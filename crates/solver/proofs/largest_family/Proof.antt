@@ -4,7 +4,8 @@ use native.Mathlib.Omega.{arith}
 use borrow.Author.Needs.{needs}
 use Rattle.machine.specs.Machines.{setsA, pairs}
 use Rattle.machine.specs.WellFormedLaws.{WellPair, well-pair, pairs-small, entries-small}
-use Rattle.solver.specs.FamilyRowsLaws.{Falling, first-is, falling-start, falling-turn, falling-stop, falling-out}
+use Rattle.solver.specs.FixLaws.{following-start}
+use Rattle.solver.specs.FamilyRowsLaws.{Falling, first-is, falling-turn, falling-stop, falling-out}
 use Rattle.solver.proofs.largest_family.Statement.{statement}
 use Rattle.solver.proofs.largest_family.Tie as tie
 
@@ -17,9 +18,9 @@ abbrev μ-loop : tie.MeasureT-loop
 well : (c : tie.Start Inv-loop μ-loop) → WellPair (c .args .p)
 well c = well-pair (c .args .p) (c .pre .0)
 
--- the head of a turn, and from there the entry
-abbrev head : tie.After-same-family Inv-loop μ-loop → tie.At-loop Inv-loop μ-loop
-head c = c .before .before .before .before .before .before
+-- the turn, from where the next family is compared; and the entry, from its head
+abbrev inside : tie.After-same-family Inv-loop μ-loop → tie.In-loop Inv-loop μ-loop
+inside c = c .before .before .before .before .before
 
 abbrev entry : tie.At-loop Inv-loop μ-loop → tie.Start Inv-loop μ-loop
 entry c = c .before .before .before .before
@@ -34,7 +35,7 @@ mul-end-2 : tie.Need-mul-end-2 Inv-loop μ-loop
 mul-end-2 c = let s = c .before .before .before in omega (arith, entries-small (s .args .p) (well s))
 
 loop-holds : tie.Need-loop-holds Inv-loop μ-loop
-loop-holds c = let s = c .before .before .before in (refl, falling-start (s .args .p) (well s) (c .first-family .ensures ∙ first-is (s .args .p) (well s) (s .pre .1)))
+loop-holds c = let s = c .before .before .before in (refl, following-start (c .first-family .ensures ∙ first-is (s .args .p) (well s) (s .pre .1)))
 
 turn-requires : tie.Need-turn-requires Inv-loop μ-loop
 turn-requires c κs = c .before .before .before .before .before .before .pre
@@ -45,22 +46,27 @@ same-family-requires c κs = search needs
 returns : tie.Need-returns Inv-loop μ-loop
 returns c =
     let b = c .before in
-    let h = head b in
+    let h = inside b .before in
     let s = entry h in
     falling-stop (s .args .p) (well s) (h .loop .inv .1) (b .before .before .before .turn .ensures) (h .loop .inv .0) (sym (b .same-family .ensures) ∙ c .if1 .taken)
 
 add-counter : tie.Need-add-counter Inv-loop μ-loop
-add-counter c = let h = head (c .before) in omega (arith, c .before .before .before .before .before .before .loop-test .taken, h .loop .inv .0, entries-small (entry h .args .p) (well (entry h)))
+add-counter c =
+    let i = inside (c .before) in
+    let s = entry (i .before) in
+    omega (arith, i .loop-test .taken, i .before .loop .inv .0, entries-small (s .args .p) (well s))
 
 loop-less : tie.Need-loop-less Inv-loop μ-loop
-loop-less c = omega (arith, c .before .before .before .before .before .before .loop-test .taken)
+loop-less c = omega (arith, inside (c .before) .loop-test .taken)
 
 loop-again : tie.Need-loop-again Inv-loop μ-loop
 loop-again c =
     let b = c .before in
-    let h = head b in
-    let s = entry h in
-    (refl, falling-turn (s .args .p) (well s) (h .loop .inv .1) (b .before .before .before .turn .ensures) (b .before .before .before .before .before .loop-test .taken) (sym (b .same-family .ensures) ∙ c .if1 .left))
+    let h = inside b .before in
+    let s = entry h in (
+      refl,
+      falling-turn (s .args .p) (well s) (h .loop .inv .1) (b .before .before .before .turn .ensures) (inside b .loop-test .taken) (sym (b .same-family .ensures) ∙ c .if1 .left),
+    )
 
 returns-2 : tie.Need-returns-2 Inv-loop μ-loop
 returns-2 c =

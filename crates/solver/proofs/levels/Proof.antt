@@ -1,5 +1,5 @@
 use mathlib.Core.Path.{_≡_, refl, sym, _∙_}
-use Prim.Native.Nat.{_-_}
+use Prim.Native.Nat.{_-_, _≤_}
 use native.Mathlib.Omega.{arith}
 use borrow.Author.Needs.{needs}
 use Rattle.machine.specs.Machines.{pairs}
@@ -17,12 +17,15 @@ abbrev μ-loop : tie.MeasureT-loop
 well : (c : tie.Start Inv-loop μ-loop) → WellPair (c .args .p)
 well c = well-pair (c .args .p) (c .pre .0)
 
--- the head of a turn, and from there the entry
-abbrev head : tie.After-same-rows Inv-loop μ-loop → tie.At-loop Inv-loop μ-loop
-head c = c .before .before .before .before .before .before
+-- the turn, from where the next level is compared; and the entry, from its head
+abbrev inside : tie.After-same-rows Inv-loop μ-loop → tie.In-loop Inv-loop μ-loop
+inside c = c .before .before .before .before .before
 
 abbrev entry : tie.At-loop Inv-loop μ-loop → tie.Start Inv-loop μ-loop
 entry c = c .before .before .before
+
+small : (c : tie.At-loop Inv-loop μ-loop) → pairs (entry c .args .p) ≤ 4096
+small c = pairs-small (entry c .args .p) (well (entry c))
 
 mul-end : tie.Need-mul-end Inv-loop μ-loop
 mul-end c = let s = c .before .before in omega (arith, pairs-small (s .args .p) (well s))
@@ -39,22 +42,26 @@ same-rows-requires c κs = search needs
 returns : tie.Need-returns Inv-loop μ-loop
 returns c =
     let b = c .before in
-    let h = head b in
+    let h = inside b .before in
     let s = entry h in
-    rising-stop (s .args .p) (well s) (s .args .goals .now) (h .loop .inv .1) (b .before .before .before .level .ensures) (h .loop .inv .0) (sym (b .same-rows .ensures) ∙ c .if1 .taken)
+    rising-stop (s .args .p) (well s) (s .args .goals .now) (h .loop .inv .1) (b .before .before .before .level .ensures) (h .loop .inv .0)
+    (sym (b .same-rows .ensures) ∙ c .if1 .taken)
 
 add-counter : tie.Need-add-counter Inv-loop μ-loop
-add-counter c = let h = head (c .before) in omega (arith, h .loop .inv .0, h .loop .inv .1 .settling .within, pairs-small (entry h .args .p) (well (entry h)))
+add-counter c = let i = inside (c .before) in omega (arith, i .loop-test .taken, small (i .before))
 
 loop-less : tie.Need-loop-less Inv-loop μ-loop
-loop-less c = omega (arith, c .before .before .before .before .before .before .loop-test .taken)
+loop-less c = omega (arith, inside (c .before) .loop-test .taken)
 
 loop-again : tie.Need-loop-again Inv-loop μ-loop
 loop-again c =
     let b = c .before in
-    let h = head b in
-    let s = entry h in
-    (refl, rising-turn (s .args .p) (well s) (s .args .goals .now) (h .loop .inv .1) (b .before .before .before .level .ensures) (b .before .before .before .before .before .loop-test .taken) (sym (b .same-rows .ensures) ∙ c .if1 .left))
+    let h = inside b .before in
+    let s = entry h in (
+      refl,
+      rising-turn (s .args .p) (well s) (s .args .goals .now) (h .loop .inv .1) (b .before .before .before .level .ensures) (inside b .loop-test .taken)
+          (sym (b .same-rows .ensures) ∙ c .if1 .left),
+    )
 
 returns-2 : tie.Need-returns-2 Inv-loop μ-loop
 returns-2 c =

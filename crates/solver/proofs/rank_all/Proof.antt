@@ -29,6 +29,10 @@ fits : (c : tie.In-loop Inv-loop μ-loop) →
     c .before .loop .j * P + P ≤ 28672
 fits c = let s = entry (c .before) in section-fits (s .args .p) (well s) (c .before .loop .j) (c .loop-test .taken)
 
+-- the turn, from its end
+abbrev inside : tie.After-slice-known2 Inv-loop μ-loop → tie.In-loop Inv-loop μ-loop
+inside c = c .before .before .before .before .before .before
+
 matched-masks-requires : tie.Need-matched-masks-requires Inv-loop μ-loop
 matched-masks-requires c κs = search needs
 
@@ -72,28 +76,31 @@ rank-section-requires c κs =
     )
 
 add-j : tie.Need-add-j Inv-loop μ-loop
-add-j c = let h = c .before .before .before .before .before .before .before in omega (arith, c .before .before .before .before .before .before .loop-test .taken, well (entry h) .abstraction .sets-high)
+add-j c = let i = inside c in omega (arith, i .loop-test .taken, well (entry (i .before)) .abstraction .sets-high)
 
 loop-less : tie.Need-loop-less Inv-loop μ-loop
-loop-less c = omega (arith, c .before .before .before .before .before .before .loop-test .taken)
+loop-less c = omega (arith, inside c .loop-test .taken)
 
 loop-again : tie.Need-loop-again Inv-loop μ-loop
 loop-again c =
-    let h = c .before .before .before .before .before .before .before in
+    let i = inside c in
+    let h = i .before in
     let s = entry h in
     let P = pairs (s .args .p) in
     let a = h .loop .j * P in
-    let k = a + P - a in
-    let e : k ≡ P = omega arith in (
-      omega (arith, c .before .before .before .before .before .before .loop-test .taken),
-      written-turn (s .args .p) (well s) (s .pre .1) (c .before .before .before .before .before .before .loop-test .taken) refl e (c .before .before .rank-section .ensures) (h .loop .inv .1),
+    let e : a + P - a ≡ P = omega arith in (
+      omega (arith, i .loop-test .taken),
+      written-turn (s .args .p) (well s) (s .pre .1) (i .loop-test .taken) refl e (c .before .before .rank-section .ensures) (h .loop .inv .1),
     )
 
 same-length : tie.Need-same-length Inv-loop μ-loop
 same-length c = c .before .loop .inv .1 .long
 
 returns : tie.Need-returns Inv-loop μ-loop
-returns c = let h = c .before in let s = entry h in written-done (s .args .p) (well s) (s .pre .1) (omega (arith, h .loop .inv .0, c .loop-test .left)) (h .loop .inv .1)
+returns c =
+    let h = c .before in
+    let s = entry h in
+    written-done (s .args .p) (well s) (s .pre .1) (omega (arith, h .loop .inv .0, c .loop-test .left)) (h .loop .inv .1)
 
 pub rank-all-spec : {M : Type 1} → statement M
 rank-all-spec =

@@ -1,5 +1,5 @@
 use mathlib.Core.Path.{_≡_, ap, ap₂, _∙_}
-use Prim.Native.Nat.{_*_, _-_, _≤_}
+use Prim.Native.Nat.{_*_, _-_, _≤_, _<_}
 use native.Mathlib.Omega.{arith}
 use lib.ListN.{length}
 use borrow.Author.Needs.{needs}
@@ -25,8 +25,21 @@ entry c = c .before .before .before .before .before .before .before .before .bef
 well : (c : tie.Start Inv-loop μ-loop) → WellPair (c .args .p)
 well c = well-pair (c .args .p) (c .pre .0 .well)
 
+bounds : (c : tie.Start Inv-loop μ-loop) → (c .args .p .concrete .states ≤ 64) × (c .args .p .abstraction .states ≤ 64)
+bounds c = let w = well c in (w .concrete .states-high, w .abstraction .states-high)
+
+-- where X is made, from the turn's end; and the turn, from there
+abbrev made : tie.After-union-rows2 Inv-loop μ-loop → tie.After-x-rows Inv-loop μ-loop
+made c = c .before .before .before .before .before .before .before .before .before .before
+
+abbrev inside : tie.After-x-rows Inv-loop μ-loop → tie.In-loop Inv-loop μ-loop
+inside c = c .before .before .before .before
+
+few : (c : tie.In-loop Inv-loop μ-loop) → c .before .loop .k < 8
+few c = omega (arith, c .loop-test .taken, well (entry (c .before .before)) .concrete .sets-high)
+
 step-rows-requires : tie.Need-step-rows-requires Inv-loop μ-loop
-step-rows-requires c κs = let w = well (c .before .before .before .before .before .before .before .before) in (w .concrete .states-high, w .abstraction .states-high)
+step-rows-requires c κs = bounds (c .before .before .before .before .before .before .before .before)
 
 base-rows-requires : tie.Need-base-rows-requires Inv-loop μ-loop
 base-rows-requires c κs = search needs
@@ -38,31 +51,31 @@ loop-holds : tie.Need-loop-holds Inv-loop μ-loop
 loop-holds c = (omega arith, level-rows-none _ _ _ _ _ _ _ _, rank-rows-none _ _ _ _ _ _ _ _ _ _)
 
 mul-x-rows : tie.Need-mul-x-rows Inv-loop μ-loop
-mul-x-rows c = omega (arith, c .before .before .before .loop-test .taken, well (entry (c .before .before .before .before .before)) .concrete .sets-high)
+mul-x-rows c = omega (arith, few (c .before .before .before))
 
 array-read-x-rows : tie.Need-array-read-x-rows Inv-loop μ-loop
-array-read-x-rows c = omega (arith, c .before .before .before .loop-test .taken, well (entry (c .before .before .before .before .before)) .concrete .sets-high)
+array-read-x-rows c = omega (arith, few (c .before .before .before))
 
 x-rows-requires : tie.Need-x-rows-requires Inv-loop μ-loop
-x-rows-requires c κs = let w = well (entry (c .before .before .before .before .before)) in (w .concrete .states-high, w .abstraction .states-high)
+x-rows-requires c κs = bounds (entry (c .before .before .before .before .before))
 
 rank-of-requires : tie.Need-rank-of-requires Inv-loop μ-loop
 rank-of-requires c κs =
-    let s = entry (c .before .before .before .before .before .before) in
-    omega (arith, c .before .before .before .before .loop-test .taken, well s .concrete .sets-high, s .pre .1, pairs-small (s .args .p) (well s))
+    let s = entry (inside c .before .before) in
+    omega (arith, few (inside c), well s .concrete .sets-high, s .pre .1, pairs-small (s .args .p) (well s))
 
 long : (c : tie.At-loop Inv-loop μ-loop) → length (c .loop .part) ≡ length (entry (c .before) .args .part .now)
 long c = ap length (c .loop .inv .2) ∙ rank-rows-length _ _ _ _ _ _ _ _ _ _ (c .loop .k)
 
 stamp-requires : tie.Need-stamp-requires Inv-loop μ-loop
 stamp-requires c κs =
-    let h = c .before .before .before .before .before .before .before .before .before in
-    let s = entry (h .before) in
-    let w = well s in (
-      (w .concrete .states-high, w .abstraction .states-high),
+    let x = c .before .before .before .before in
+    let h = inside x .before in
+    let s = entry (h .before) in (
+      bounds s,
       (
         long h ∙ ranked-length (s .pre .0),
-        λ i q. rw (c .before .before .before .before .x-rows .ensures)
+        λ i q. rw (x .x-rows .ensures)
             (x-small (s .pre .0) (s .pre .1) (h .before .before .before .before .step-rows .ensures) (h .before .before .base-rows .ensures) (h .loop .k) i q),
       ),
     )
@@ -71,19 +84,20 @@ union-rows-requires-2 : tie.Need-union-rows-requires-2 Inv-loop μ-loop
 union-rows-requires-2 c κs = search needs
 
 add-k : tie.Need-add-k Inv-loop μ-loop
-add-k c = omega (arith, c .before .before .before .before .before .before .before .before .before .before .before .before .before .before .loop-test .taken, well (entry (c .before .before .before .before .before .before .before .before .before .before .before .before .before .before .before .before)) .concrete .sets-high)
+add-k c = omega (arith, few (inside (made c)))
 
 loop-less : tie.Need-loop-less Inv-loop μ-loop
-loop-less c = omega (arith, c .before .before .before .before .before .before .before .before .before .before .before .before .before .before .loop-test .taken)
+loop-less c = omega (arith, inside (made c) .loop-test .taken)
 
 loop-again : tie.Need-loop-again Inv-loop μ-loop
 loop-again c =
-    let h = c .before .before .before .before .before .before .before .before .before .before .before .before .before .before .before in
-    let x = c .before .before .before .before .before .before .before .before .before .before .x-rows in (
-      omega (arith, c .before .before .before .before .before .before .before .before .before .before .before .before .before .before .loop-test .taken),
-      c .union-rows2 .ensures ∙ ap₂ unionRows (x .ensures) (h .loop .inv .1) ∙ level-rows-more _ _ _ _ _ _ _ _ (h .loop .k),
+    let x = made c in
+    let l = inside x .before .loop in
+    let v = c .before .before .before .before .before .before .before .before .before .rank-of in (
+      omega (arith, inside x .loop-test .taken),
+      c .union-rows2 .ensures ∙ ap₂ unionRows (x .x-rows .ensures) (l .inv .1) ∙ level-rows-more _ _ _ _ _ _ _ _ (l .k),
       c .before .before .before .before .before .stamp .ensures
-          ∙ rank-rows-more _ _ _ _ _ _ _ _ _ _ (h .loop .k) (x .ensures) (h .loop .inv .1) (c .before .before .before .before .before .before .before .before .before .rank-of .ensures) (h .loop .inv .2),
+          ∙ rank-rows-more _ _ _ _ _ _ _ _ _ _ (l .k) (x .x-rows .ensures) (l .inv .1) (v .ensures) (l .inv .2),
     )
 
 same-length : tie.Need-same-length Inv-loop μ-loop
@@ -94,8 +108,9 @@ returns c =
     let h = c .before in
     let u = h .before in
     let s = entry u in
+    let b = u .before in
     rw (h .loop .inv .1, h .loop .inv .2)
-    (ranked-next (s .pre .0) (s .pre .1) (u .before .before .before .step-rows .ensures) (u .before .base-rows .ensures) (u .union-rows .ensures) (omega arith))
+    (ranked-next (s .pre .0) (s .pre .1) (b .before .before .step-rows .ensures) (b .base-rows .ensures) (u .union-rows .ensures) (omega arith))
 
 pub rank-level-spec : {M : Type 1} → statement M
 rank-level-spec =

@@ -22,12 +22,18 @@ abbrev μ-loop : tie.MeasureT-loop
 well : (c : tie.Start Inv-loop μ-loop) → WellPair (c .args .p)
 well c = well-pair (c .args .p) (c .pre .0 .0)
 
--- the entry from the head of a turn, and the head from where the next level is compared
-abbrev entry : tie.At-loop Inv-loop μ-loop → tie.Start Inv-loop μ-loop
-entry c = c .before .before .before .before .before .before .before .before .before .before .before .before .before .before .before
+-- where the goals are made, from the loop's head, and the entry from there; the turn, from where the next level is compared
+abbrev made : tie.At-loop Inv-loop μ-loop → tie.After-goals Inv-loop μ-loop
+made c = c .before .before .before .before .before .before .before .before .before .before .before
 
-abbrev head : tie.After-same-rows Inv-loop μ-loop → tie.At-loop Inv-loop μ-loop
-head c = c .before .before .before .before .before .before .before .before .before .before
+abbrev entry : tie.After-goals Inv-loop μ-loop → tie.Start Inv-loop μ-loop
+entry c = c .before .before .before .before
+
+abbrev inside : tie.After-same-rows Inv-loop μ-loop → tie.In-loop Inv-loop μ-loop
+inside c = c .before .before .before .before .before .before .before .before .before
+
+abbrev next : tie.After-same-rows Inv-loop μ-loop → tie.After-rank-level Inv-loop μ-loop
+next c = c .before .before .before .before .before
 
 goals-requires : tie.Need-goals-requires Inv-loop μ-loop
 goals-requires c κs = let s = c .before .before .before in (s .pre .0 .0, (s .pre .0 .1, s .pre .1 .1 .0))
@@ -41,24 +47,26 @@ blank-is c = c .clear .ensures ∙ ap (λ (n : ℕ). table n (λ e. blank)) (c .
 
 stamp-requires : tie.Need-stamp-requires Inv-loop μ-loop
 stamp-requires c κs =
-    let s = c .before .before .before .before .before .before .before .before .before .before .before in
+    let g = c .before .before .before .before .before .before .before in
+    let s = entry g in
     let w = well s in (
       (w .concrete .states-high, w .abstraction .states-high),
       (
         ap length (blank-is (c .before .before .before .before .before)) ∙ table-length _ _,
-        goal-small (s .args .p) w (s .args .largest .now) (s .args .j) (s .pre .1 .0) (c .before .before .before .before .before .before .before .goals .ensures),
+        goal-small (s .args .p) w (s .args .largest .now) (s .args .j) (s .pre .1 .0) (g .goals .ensures),
       ),
     )
 
 mul-l-end : tie.Need-mul-l-end Inv-loop μ-loop
-mul-l-end c = let s = c .before .before .before .before .before .before .before .before .before .before .before .before .before .before in omega (arith, pairs-small (s .args .p) (well s))
+mul-l-end c = let s = entry (c .before .before .before .before .before .before .before .before .before .before) in omega (arith, pairs-small (s .args .p) (well s))
 
 loop-holds : tie.Need-loop-holds Inv-loop μ-loop
 loop-holds c =
-    let s = c .before .before .before .before .before .before .before .before .before .before .before .before .before .before in (
+    let g = c .before .before .before .before .before .before .before .before .before .before in
+    let s = entry g in (
       refl,
       omega arith,
-      ranked-start (s .args .p) (well s) (s .args .largest .now) (s .args .j) (s .pre .1 .0) (c .before .before .before .before .before .before .before .before .before .before .goals .ensures)
+      ranked-start (s .args .p) (well s) (s .args .largest .now) (s .args .j) (s .pre .1 .0) (g .goals .ensures)
           (s .pre .0 .0) (s .pre .0 .1) (blank-is (c .before .before .before .before .before .before .before .before)) (c .before .before .stamp .ensures),
     )
 
@@ -69,34 +77,39 @@ same-rows-requires : tie.Need-same-rows-requires Inv-loop μ-loop
 same-rows-requires c κs = search needs
 
 same-length : tie.Need-same-length Inv-loop μ-loop
-same-length c = let b = c .before in ranked-length (b .before .before .before .before .before .rank-level .ensures) ∙ sym (entry (head b) .pre .1 .1 .1)
+same-length c = let b = c .before in ranked-length (next b .rank-level .ensures) ∙ sym (entry (made (inside b .before)) .pre .1 .1 .1)
 
 returns : tie.Need-returns Inv-loop μ-loop
 returns c =
     let b = c .before in
-    let h = head b in
-    let s = entry h in
-    ranked-stop (h .loop .inv .2) (b .before .before .before .before .before .before .before .before .before .loop-test .taken) (b .before .before .before .before .before .rank-level .ensures) (sym (b .same-rows .ensures) ∙ c .if1 .taken)
-    ∙ ranks-are (s .args .p) (well s) (s .args .largest .now) (s .args .j) (s .pre .1 .0) (h .before .before .before .before .before .before .before .before .before .before .before .goals .ensures)
+    let h = inside b .before in
+    let g = made h in
+    let s = entry g in
+    ranked-stop (h .loop .inv .2) (inside b .loop-test .taken) (next b .rank-level .ensures) (sym (b .same-rows .ensures) ∙ c .if1 .taken)
+    ∙ ranks-are (s .args .p) (well s) (s .args .largest .now) (s .args .j) (s .pre .1 .0) (g .goals .ensures)
 
 add-l : tie.Need-add-l Inv-loop μ-loop
-add-l c = let h = head (c .before) in omega (arith, h .loop .inv .0, c .before .before .before .before .before .before .before .before .before .before .loop-test .taken, pairs-small (entry h .args .p) (well (entry h)))
+add-l c =
+    let i = inside (c .before) in
+    let s = entry (made (i .before)) in
+    omega (arith, i .before .loop .inv .0, i .loop-test .taken, pairs-small (s .args .p) (well s))
 
 loop-less : tie.Need-loop-less Inv-loop μ-loop
-loop-less c = omega (arith, c .before .before .before .before .before .before .before .before .before .before .loop-test .taken)
+loop-less c = omega (arith, inside (c .before) .loop-test .taken)
 
 loop-again : tie.Need-loop-again Inv-loop μ-loop
-loop-again c = let b = c .before in (refl, omega (arith, b .before .before .before .before .before .before .before .before .before .loop-test .taken), b .before .before .before .before .before .rank-level .ensures)
+loop-again c = let b = c .before in (refl, omega (arith, inside b .loop-test .taken), next b .rank-level .ensures)
 
 same-length-2 : tie.Need-same-length-2 Inv-loop μ-loop
-same-length-2 c = let h = c .before in ranked-length (h .loop .inv .2) ∙ sym (entry h .pre .1 .1 .1)
+same-length-2 c = let h = c .before in ranked-length (h .loop .inv .2) ∙ sym (entry (made h) .pre .1 .1 .1)
 
 returns-2 : tie.Need-returns-2 Inv-loop μ-loop
 returns-2 c =
     let h = c .before in
-    let s = entry h in
+    let g = made h in
+    let s = entry g in
     ranked-out (h .loop .inv .2) (omega (arith, h .loop .inv .0, h .loop .inv .1, c .loop-test .left))
-    ∙ ranks-are (s .args .p) (well s) (s .args .largest .now) (s .args .j) (s .pre .1 .0) (h .before .before .before .before .before .before .before .before .before .before .before .goals .ensures)
+    ∙ ranks-are (s .args .p) (well s) (s .args .largest .now) (s .args .j) (s .pre .1 .0) (g .goals .ensures)
 
 pub rank-section-spec : {M : Type 1} → statement M
 rank-section-spec =

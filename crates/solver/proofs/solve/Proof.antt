@@ -22,12 +22,15 @@ enum-told : tie.Need-enum-told
 enum-told c = search needs
 
 rank-all-requires : tie.Need-rank-all-requires
-rank-all-requires c κs = (valid-is-well (c .before .before .before .before .before .before .args .p) (sym (c .before .before .before .pair-validity .ensures) ∙ c .before .enum-told .given .1), c .before .before .before .before .if1 .left)
+rank-all-requires c κs =
+    let v = c .before .before .before in
+    (valid-is-well (v .before .before .before .args .p) (sym (v .pair-validity .ensures) ∙ c .before .enum-told .given .1), v .before .if1 .left)
 
 returns-2 : tie.Need-returns-2
 returns-2 c =
-    let s = c .before .before .before .before .before .before .args in
-    let e = solve-long (s .p) (length (s .table .now)) (c .before .before .before .before .if1 .left) ∙ sym (c .before .before .before .pair-validity .ensures) ∙ c .before .validity .given .1 in
+    let v = c .before .before .before in
+    let s = v .before .before .before .args in
+    let e = solve-long (s .p) (length (s .table .now)) (v .before .if1 .left) ∙ sym (v .pair-validity .ensures) ∙ c .before .validity .given .1 in
     (sym e, solved-refused (s .p) (s .table .now) _ e)
 
 same-length : tie.Need-same-length
@@ -35,8 +38,10 @@ same-length c = search needs
 
 returns-3 : tie.Need-returns-3
 returns-3 c =
-    let s = c .before .before .before .before .before .before .before .before .before .args in
-    let e = solve-long (s .p) (length (s .table .now)) (c .before .before .before .before .before .before .before .if1 .left) ∙ sym (c .before .before .before .before .before .before .pair-validity .ensures) ∙ c .before .before .before .before .enum-told .given .1 in
+    let v = c .before .before .before .before .before .before in
+    let s = v .before .before .before .args in
+    let told = c .before .before .before .before .enum-told .given .1 in
+    let e = solve-long (s .p) (length (s .table .now)) (v .before .if1 .left) ∙ sym (v .pair-validity .ensures) ∙ told in
     (sym e, c .before .before .rank-all .ensures ∙ solved-valid (s .p) (s .table .now) e)
 
 pub solve-spec : {M : Type 1} → statement M

@@ -1,6 +1,6 @@
 use mathlib.Core.List.{List}
 use mathlib.Core.Path.{_≡_, ap, _∙_}
-use Prim.Native.Nat.{ℕ, _-_, _≤_}
+use Prim.Native.Nat.{ℕ, _-_, _≤_, _<_}
 use native.Mathlib.Omega.{arith}
 use lib.ListN.{length}
 use Rattle.mask.specs.Tables.{table}
@@ -21,6 +21,13 @@ abbrev μ-loop : tie.MeasureT-loop
 well : (c : tie.At-loop Inv-loop μ-loop) → WellPair (c .before .before .args .p)
 well c = let s = c .before .before in well-pair (s .args .p) (s .pre .0)
 
+-- the turn, from its end
+abbrev inside : tie.After-put-section Inv-loop μ-loop → tie.In-loop Inv-loop μ-loop
+inside c = c .before .before .before .before .before .before
+
+few : (c : tie.In-loop Inv-loop μ-loop) → c .before .loop .j < 7
+few c = omega (arith, c .loop-test .taken, well (c .before) .abstraction .sets-high)
+
 loop-holds : tie.Need-loop-holds Inv-loop μ-loop
 loop-holds c = (omega arith, flat-none _)
 
@@ -31,22 +38,23 @@ levels-requires : tie.Need-levels-requires Inv-loop μ-loop
 levels-requires c κs = c .before .before .before .before .before .pre
 
 put-section-requires : tie.Need-put-section-requires Inv-loop μ-loop
-put-section-requires c κs = let h = c .before .before .before .before .before .before in (omega (arith, c .before .before .before .before .before .loop-test .taken, well h .abstraction .sets-high), ap length (h .loop .inv .1) ∙ flat-length _)
+put-section-requires c κs = let i = c .before .before .before .before .before in (few i, ap length (i .before .loop .inv .1) ∙ flat-length _)
 
 add-j : tie.Need-add-j Inv-loop μ-loop
-add-j c = let h = c .before .before .before .before .before .before .before in omega (arith, c .before .before .before .before .before .before .loop-test .taken, well h .abstraction .sets-high)
+add-j c = omega (arith, few (inside c))
 
 loop-less : tie.Need-loop-less Inv-loop μ-loop
-loop-less c = omega (arith, c .before .before .before .before .before .before .loop-test .taken)
+loop-less c = omega (arith, inside c .loop-test .taken)
 
 loop-again : tie.Need-loop-again Inv-loop μ-loop
 loop-again c =
-    let h = c .before .before .before .before .before .before .before in
+    let i = inside c in
+    let h = i .before in
     let x = h .before .before .args in
-    let j = h .loop .j in (
-      omega (arith, c .before .before .before .before .before .before .loop-test .taken),
-      c .put-section .ensures ∙ ap (λ (F : List ℕ). putSection F j (c .before .before .before .levels .result)) (h .loop .inv .1)
-          ∙ turn-more (x .p) (well h) (x .family .now) j (c .before .before .before .before .before .before .loop-test .taken) (c .before .before .before .before .before .goals .ensures) (c .before .before .before .levels .ensures),
+    let s = c .before .before .before .levels in (
+      omega (arith, i .loop-test .taken),
+      c .put-section .ensures ∙ ap (λ (F : List ℕ). putSection F (h .loop .j) (s .result)) (h .loop .inv .1)
+          ∙ turn-more (x .p) (well h) (x .family .now) (h .loop .j) (i .loop-test .taken) (c .before .before .before .before .before .goals .ensures) (s .ensures),
     )
 
 returns : tie.Need-returns Inv-loop μ-loop

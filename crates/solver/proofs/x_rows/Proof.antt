@@ -10,7 +10,8 @@ use Rattle.solver.proofs.x_rows.Statement.{statement}
 use Rattle.solver.proofs.x_rows.Tie as tie
 
 abbrev Inv-loop : tie.InvT-loop
-Inv-loop nc na concrete abstraction matched base members outer x₀ counter₀ end x counter = (end ≤ 4096) × Settling (sameRows 64) (xRound nc na concrete abstraction base outer) end matched counter x
+Inv-loop nc na concrete abstraction matched base members outer x₀ counter₀ end x counter =
+    (end ≤ 4096) × Settling (sameRows 64) (xRound nc na concrete abstraction base outer) end matched counter x
 
 abbrev μ-loop : tie.MeasureT-loop
 μ-loop nc na concrete abstraction matched base members outer x₀ counter₀ end x counter = end - counter
