@@ -1,21 +1,20 @@
 -- Demands 2 and 3 of the tender, over the very definitions that the contracts of reader, writer, check and solver cite. Each statement is a type, and
 -- Theorems.antt gives a proof of each. `readAnswer` and `readTable` are what the reader says and leaves in the lent table, `fileOf` is what the writer
 -- writes, `checkVerdict` what the check says, `solvedTable` what the solver leaves in the lent table.
-use mathlib.Core.Bool.{Bool, true, false}
-use mathlib.Core.List.{List, [], _++_}
+use mathlib.Core.Bool.{true}
+use mathlib.Core.List.{List}
 use mathlib.Core.Logic.{_⊎_, _↔_}
 use mathlib.Core.Path.{_≡_}
-use Prim.Native.Nat.{ℕ, suc, _+_, _-_, _*_, _≤_, _<_}
-use lib.ListN.{length, getD, drop}
+use Prim.Native.Nat.{ℕ, _+_, _-_, _*_, _≤_, _<_}
+use lib.ListN.{getD}
 use Rattle.machine.specs.declared.Pair.{Pair}
-use Rattle.machine.specs.Machines.{nC, nA, setsC, setsA, pairs, starts}
-use Rattle.machine.specs.WellFormed.{wellFormed}
+use Rattle.machine.specs.Machines.{nC, nA, setsC, setsA, starts}
 use Rattle.machine.specs.Lassos.{Lasso, isPlay, SameObservations}
 use Rattle.machine.specs.Game.{mem, goals, family, xSet}
 use Rattle.machine.specs.Figure2.{figure2}
-use Rattle.machine.specs.Table.{blank, entry, covers, entries}
+use Rattle.machine.specs.Table.{entry, covers, entries}
 use Rattle.machine.specs.Lines.{passesEach}
-use Rattle.machine.specs.Verdict.{tableRoom, carried, checkVerdict, startCovered}
+use Rattle.machine.specs.Verdict.{carried, checkVerdict, startCovered}
 use Rattle.codec.specs.Reader.{taken, readAnswer, readTable}
 use Rattle.codec.specs.Statements.{WriteRead, ReadWrite, WrittenReads, ReadWrites}
 use Rattle.solver.specs.Solver.{solvedTable}

@@ -1,9 +1,9 @@
 -- A proof of each statement of demands 2 and 3, by name.
 use mathlib.Core.Bool.{Bool, true, false}
 use mathlib.Core.List.{List, [], _++_}
-use mathlib.Core.Logic.{_⊎_, _↔_}
-use mathlib.Core.Path.{_≡_, refl, sym, ap, _∙_}
-use Prim.Native.Nat.{ℕ, _+_, _-_, _*_, _≤_, _<_}
+use mathlib.Core.Logic.{_↔_}
+use mathlib.Core.Path.{_≡_, refl, sym, _∙_}
+use Prim.Native.Nat.{ℕ, _+_, _-_, _≤_, _<_}
 use native.Mathlib.Omega.{arith}
 use lib.ListN.{length, getD, drop, length-append, length-drop}
 use lib.Seq.{getD-append-add, getD-drop}
@@ -14,13 +14,11 @@ use Rattle.machine.specs.declared.Pair.{Pair}
 use Rattle.machine.specs.declared.Refusal.{Refusal}
 use Rattle.machine.specs.declared.Validity.the-variants.{Valid}
 use Rattle.machine.specs.Machines.{nC, nA, setsA}
-use Rattle.machine.specs.Refusals.{andThen}
 use Rattle.machine.specs.WellFormed.{wellFormed}
-use Rattle.machine.specs.WellFormedLaws.{WellPair, well-pair, well-is-valid, then-of, entries-small}
-use Rattle.machine.specs.Game.{mem, goals, family}
+use Rattle.machine.specs.WellFormedLaws.{well-pair, well-is-valid, then-of, entries-small}
+use Rattle.machine.specs.Game.{mem, family}
 use Rattle.machine.specs.Ranks.{rank, solverTable}
-use Rattle.machine.specs.Figure2.{figure2}
-use Rattle.machine.specs.Table.{blank, entry, covers, entries}
+use Rattle.machine.specs.Table.{entry, covers, entries}
 use Rattle.machine.specs.LinesLaws.{covers-at, covers-of}
 use Rattle.machine.specs.Verdict.{tableRoom, bufferValidity, orElse, carried, refused, linesVerdict, checkVerdict}
 use Rattle.machine.specs.VerdictLaws.{answered}
@@ -30,7 +28,7 @@ use Rattle.theory.specs.RankTheorems.{rank-of-goals, rank-is-first, rank-is-bla
 use Rattle.plays.specs.Theorems.{carried-is-sound}
 use Rattle.codec.specs.FileLaws.{write-read, read-write, written-reads, read-writes}
 use Rattle.solver.specs.Solver.{solveValidity, solvedUnless, solvedTable}
-use Rattle.assurance.specs.Statements.{FilesReadBack, FilesAreWritten, FilesAreSound, SolvedPasses, SolvedCovers, SolvedIsCarried, SolvedIsFigure2, SolvedGoals, IsRank, SolvedRanks, SolvedRest}
+use Rattle.assurance.specs.Statements.{FilesReadBack, FilesAreWritten, FilesAreSound, SolvedPasses, SolvedCovers, SolvedIsCarried, SolvedIsFigure2, SolvedGoals, SolvedRanks, SolvedRest}
 
 buffer-valid : (least len : ℕ) → least ≤ len → bufferValidity least len ≡ Valid
 unfolding bufferValidity

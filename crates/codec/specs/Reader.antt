@@ -1,6 +1,6 @@
 -- Document 01: how a file is read, with refusals 1 to 11 in its order.
-use mathlib.Core.Bool.{Bool, true, false, cond}
-use mathlib.Core.List.{List, [], _++_}
+use mathlib.Core.Bool.{Bool, false, cond}
+use mathlib.Core.List.{List, _++_}
 use Prim.Native.Nat.{ℕ, suc, _+_, _-_, _*_, _/_, _%_}
 use lib.ListN.{length, getD, drop, replicate}
 use lib.Dec.{eqb, leb, ltb}

@@ -5,7 +5,7 @@ use Prim.Native.Nat.{ℕ, suc, _+_, _≤_, _<_}
 use native.Mathlib.Numerals.{add-one}
 use native.Mathlib.Omega.{arith}
 use lib.ListN.{length, getD, drop, set, length-set, drop-of-length-le}
-use lib.Seq.{sets, set-out, drop-cons, length-sets}
+use lib.Seq.{sets, set-out, drop-cons}
 
 -- what is left of the word, put at `to`, gives the answer; a place is left for each byte that was put
 pub record Put (out₀ : List ℕ) (at : ℕ) (word out : List ℕ) (to i : ℕ) : Type 0 where

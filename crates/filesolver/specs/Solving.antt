@@ -1,5 +1,5 @@
 -- A file in, the same show with the solver's table out: what is said and what is left in the lent buffer.
-use mathlib.Core.Bool.{Bool, true}
+use mathlib.Core.Bool.{true}
 use mathlib.Core.List.{List, [], _∷_}
 use Prim.Native.Nat.{ℕ}
 use lib.ListN.{length, take, replicate}

@@ -1,5 +1,5 @@
 -- Laws of the bits of a mask, for any width.
-use mathlib.Core.Bool.{Bool, true, false, cond}
+use mathlib.Core.Bool.{true, false}
 use mathlib.Core.Logic.{_⊎_, inl, inr, ⊎-elim}
 use mathlib.Core.Path.{_≡_, refl, sym, ap, _∙_}
 use Prim.Native.Nat.{ℕ, zero, suc, _+_, _-_, _*_, _/_, _%_, _^_, _≤_, _<_, zero-le, min, max}
@@ -10,9 +10,9 @@ use lib.Dec.{eqb, ltb, eqb·suc-suc, eqb·zero-suc, eqb·suc-zero}
 use lib.Bits.{bitAnd, bitOr, and-step, and-self, and-le-r, or-step}
 use lib.Count.{trailingZeros, under, trailing-le}
 use lib.Pow.{pow-pos}
-use borrow.Author.Tests.{eq-eqb, ne-eqb, eqb-true, eqb-false, lt-ltb, le-ltb}
+use borrow.Author.Tests.{lt-ltb, le-ltb}
 use Rattle.mask.specs.Logic.{not, and, or}
-use Rattle.mask.specs.LogicLaws.{dec, clash, and-false-r, and-true-r, not-f, not-i, refute}
+use Rattle.mask.specs.LogicLaws.{clash, and-true-r, not-i}
 use Rattle.mask.specs.Bits.{hasBit, lowestOf, restOf, withBit, fullMask}
 
 pub has-zero : (m : ℕ) → hasBit m 0 ≡ eqb (m % 2) 1

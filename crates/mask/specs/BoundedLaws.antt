@@ -7,7 +7,7 @@ use native.Mathlib.Nat.{not-suc-le-zero}
 use native.Mathlib.Decide.{decLt, ℕ-discrete}
 use native.Mathlib.Omega.{arith}
 use Rattle.mask.specs.Logic.{not, and, or}
-use Rattle.mask.specs.LogicLaws.{dec, clash, refute, both, cond-cases, below-suc, and-l, and-r, and-i, and-false-l, or-l, or-r, or-e, or-false, not-e, not-i, not-f, not-or, not-not, not-and}
+use Rattle.mask.specs.LogicLaws.{dec, clash, refute, both, cond-cases, below-suc, and-l, and-r, and-i, and-false-l, or-l, or-r, or-e, not-e, not-i, not-or, not-not}
 use Rattle.mask.specs.Bits.{hasBit}
 use Rattle.mask.specs.BitsLaws.{has-lt, has-none}
 use Rattle.mask.specs.Bounded.{every, some, first, sum, count, everyIn, someIn}

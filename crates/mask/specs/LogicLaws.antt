@@ -1,6 +1,6 @@
 -- Laws of tests. A test's truth is `b ≡ true`.
-use mathlib.Core.Path.{_≡_, refl, sym, ap, subst, _∙_}
-use mathlib.Core.Logic.{_⊎_, inl, inr, ⊎-elim}
+use mathlib.Core.Path.{_≡_, refl, sym, subst, _∙_}
+use mathlib.Core.Logic.{_⊎_, inl, inr}
 use mathlib.Core.Bool as B
 use mathlib.Core.Bool.{Bool, true, false, false≢true, cond}
 use Prim.Native.Nat.{ℕ, suc, _<_}

@@ -1,8 +1,8 @@
 -- Laws of masks and lists made from a test or a function, and of a list that is filled one store a turn.
 use mathlib.Core.Bool.{Bool, true, false, cond}
-use mathlib.Core.Logic.{_⊎_, inl, inr, ⊎-elim}
+use mathlib.Core.Logic.{_⊎_, inl, inr}
 use mathlib.Core.Path.{_≡_, refl, sym, ap, ap₂, _∙_}
-use mathlib.Core.List.{List, [], _∷_}
+use mathlib.Core.List.{List, _∷_}
 use Prim.Native.Nat.{ℕ, zero, suc, _+_, _*_, _/_, _%_, _^_, _≤_, _<_, zero-le}
 use native.Mathlib.Nat.{eq-or-lt-of-le, pow-suc, zero-add, one-mul}
 use native.Mathlib.Decide.{decLt, ℕ-discrete}
@@ -12,11 +12,10 @@ use lib.ListN.{length, getD, set, List·getD-eq-default}
 use lib.Seq.{getD-set-same, getD-set-other, ext-getD}
 use lib.Bits.{bitOr, or-shifted-r}
 use borrow.Author.Tests.{lt-ltb, le-ltb, ne-eqb, eq-eqb}
-use Rattle.mask.specs.Logic.{not, and, or}
-use Rattle.mask.specs.LogicLaws.{clash, refute, cond-cases, and-true-l, and-true-r, and-false-l, and-false-r, or-false-l, or-false-r, or-l}
-use Rattle.mask.specs.Bits.{hasBit, withBit, fullMask}
-use Rattle.mask.specs.BitsLaws.{has-zero, has-suc, has-odd, has-none, has-beyond, has-full, full-lt, mask-ext}
-use Rattle.mask.specs.Bounded.{every}
+use Rattle.mask.specs.Logic.{and, or}
+use Rattle.mask.specs.LogicLaws.{cond-cases, and-true-l, and-false-l, and-false-r, or-false-l, or-l}
+use Rattle.mask.specs.Bits.{hasBit, withBit}
+use Rattle.mask.specs.BitsLaws.{has-zero, has-suc, has-odd, has-none, mask-ext}
 use Rattle.mask.specs.Tables.{maskOf, table}
 
 -- ---- table

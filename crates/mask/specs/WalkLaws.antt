@@ -3,22 +3,22 @@
 use mathlib.Core.Bool as B
 use mathlib.Core.Bool.{Bool, true, false, cond}
 use mathlib.Core.Logic.{_⊎_, inl, inr, ⊎-elim, by-cases}
-use mathlib.Core.Path.{_≡_, refl, sym, ap, ap₂, _∙_}
+use mathlib.Core.Path.{_≡_, refl, sym, ap, _∙_}
 use mathlib.Core.List.{List, [], _∷_}
 use Prim.Native.Nat.{ℕ, zero, suc, _+_, _*_, _/_, _%_, _^_, _≤_, _<_}
 use native.Mathlib.Nat.{pow-suc}
 use native.Mathlib.Decide.{decLt, ℕ-discrete}
 use native.Mathlib.Omega.{arith}
-use lib.Dec.{eqb, ltb}
+use lib.Dec.{eqb}
 use lib.ListN.{length, getD}
 use lib.Bits.{bitAnd, and-le-l}
 use lib.Count.{ones, ones-step}
 use borrow.Author.Tests.{not-true, eqb-true, eqb-false, eq-eqb, ne-eqb}
 use Rattle.mask.specs.Logic.{not, and, or}
-use Rattle.mask.specs.LogicLaws.{dec, clash, refute, both, cond-cases, and-l, and-r, and-i, and-true-l, and-false-l, or-l, or-r, or-e, or-false-l, not-e, not-i, not-f, not-or, not-not}
+use Rattle.mask.specs.LogicLaws.{dec, clash, refute, both, cond-cases, and-l, and-r, and-i, and-true-l, and-false-l, or-l, or-r, or-e, or-false-l, not-e, not-i, not-or, not-not}
 use Rattle.mask.specs.Bits.{hasBit, lowestOf, restOf}
-use Rattle.mask.specs.BitsLaws.{parity, has-even, has-odd, has-suc, has-lt, has-none, lowest-set, lowest-lt, lowest-least, has-rest, has-and, rest-lt}
-use Rattle.mask.specs.Bounded.{every, some, sum, count, everyIn, someIn}
+use Rattle.mask.specs.BitsLaws.{parity, has-even, has-odd, has-suc, has-none, lowest-set, lowest-lt, lowest-least, has-rest, has-and, rest-lt}
+use Rattle.mask.specs.Bounded.{count, everyIn, someIn}
 use Rattle.mask.specs.BoundedLaws.{someIn-of, someIn-at, everyIn-some, count-cong, count-remove, count-none, count-zero, count-front}
 
 module _ (w m : ℕ) (p : 0 < m) (h : m < 2 ^ w) where

@@ -1,5 +1,4 @@
 -- Document 01, "Console and program": the line that `shelf` writes, as ASCII.
-use mathlib.Core.Bool.{true, false}
 use mathlib.Core.List.{List, [], _∷_, _++_}
 use Prim.Native.Nat.{ℕ}
 use lib.ListN.{take}

@@ -1,16 +1,14 @@
 -- Laws of the lines' texts, as words, numbers and the bytes after them.
-use mathlib.Core.List.{List, [], _∷_, _++_, append-assoc}
+use mathlib.Core.List.{List, _++_, append-assoc}
 use mathlib.Core.Path.{_≡_, refl, sym, ap, _∙_}
-use Prim.Native.Nat.{ℕ, _≤_, _<_}
-use native.Mathlib.Omega.{arith}
+use Prim.Native.Nat.{ℕ, _≤_}
 use lib.ListN.{length, take}
 use lib.Seq.{take-all}
 use Rattle.decimal.specs.Decimal.{decimal}
 use Rattle.machine.specs.declared.Refusal.{Refusal}
-use Rattle.machine.specs.Verdict.{Verdict, carried, notCarried, refused}
 use Rattle.verdict.specs.declared.FileVerdict.{FileVerdict}
 use Rattle.verdict.specs.declared.FileVerdict.the-variants.{Carried, NotCarried, NoTable, Refused}
-use Rattle.verdict.specs.Outcomes.{Outcome, says, noTable, outcomeOf, fileOutcome}
+use Rattle.verdict.specs.Outcomes.{outcomeOf, fileOutcome}
 use Rattle.report.specs.Text.{blankSpace, lineFeed, carriedText, notCarriedText, noTableText, refusedText, refusalLine, verdictLine, outcomeLine, inputRoom, shelfLine}
 
 pub refusal-text : (r : Refusal)

@@ -1,29 +1,25 @@
 -- Entries past n × P are not looked at: two tables with the same n × P entries get the same answers.
-use mathlib.Core.Bool.{Bool, true, false, cond}
+use mathlib.Core.Bool.{Bool, cond}
 use mathlib.Core.List.{List, _++_}
 use mathlib.Core.Logic.{⊎-elim}
-use mathlib.Core.Path.{_≡_, refl, sym, ap, ap₂, _∙_}
-use Prim.Native.Nat.{ℕ, _+_, _*_, _≤_, _<_}
+use mathlib.Core.Path.{_≡_, sym, ap, ap₂, _∙_}
+use Prim.Native.Nat.{ℕ, _+_, _≤_, _<_}
 use native.Mathlib.Nat.{mul-assoc}
 use native.Mathlib.Omega.{arith}
 use lib.Arith.{digits-lt}
-use lib.Dec.{eqb, leb, ltb}
 use lib.ListN.{length, getD, List·getD-append}
-use Rattle.mask.specs.Logic.{not, and, or}
+use Rattle.mask.specs.Logic.{and}
 use Rattle.mask.specs.LogicLaws.{dec}
 use Rattle.mask.specs.Bounded.{every}
 use Rattle.mask.specs.BoundedLaws.{first-cong, first-failing, every-cong, count-cong, someIn-cong}
 use Rattle.machine.specs.declared.Pair.{Pair}
-use Rattle.machine.specs.Machines.{inFairSet, matched, next, starts, nC, nA, setsC, setsA, pairs}
-use Rattle.machine.specs.Step.{steps}
+use Rattle.machine.specs.Machines.{inFairSet, matched, next, nC, nA, setsC, setsA}
 use Rattle.machine.specs.StepLaws.{steps-cong, next-lt}
-use Rattle.machine.specs.Ranks.{levelOf, setOf}
+use Rattle.machine.specs.Ranks.{setOf}
 use Rattle.machine.specs.Table.{entryIndex, entry, covers, entries, coveredCount}
 use Rattle.machine.specs.Lines.{nonBlank, lower, atMost, goalLine, rankLine, passes, passesEach, linesValidity}
 use Rattle.machine.specs.LinesLaws.{lines-valid, lines-fail}
-use Rattle.machine.specs.Verdict.{startCovered, lackingStart, startVerdict, linesVerdict, orElse}
-use Rattle.machine.specs.Refusals.{andThen}
-use Rattle.machine.specs.WellFormed.{pairValidity}
+use Rattle.machine.specs.Verdict.{startCovered, lackingStart, startVerdict, linesVerdict}
 
 pub index-entries : (p : Pair) (j c a : ℕ) → j < setsA p → c < nC p → a < nA p → entryIndex (nC p) (nA p) j c a < entries p
 unfolding entryIndex

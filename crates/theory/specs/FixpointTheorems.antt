@@ -1,11 +1,9 @@
 -- A proof of each statement about fixpoints, by name.
 use mathlib.Core.List.{List}
-use mathlib.Core.Path.{refl}
 use Prim.Native.Nat.{ℕ}
 use Rattle.machine.specs.declared.Pair.{Pair}
 use Rattle.machine.specs.Machines.{pairs}
 use Rattle.machine.specs.Game.{goals, level, xSet}
-use Rattle.machine.specs.Figure2.{row}
 use Rattle.theory.specs.Statements.{XIsLargest, LevelsGrow, LevelsStop, FamilyIsFixed, FamilyIsLargest, FamilyIsReached, FamilyIsFigure2}
 use Rattle.theory.specs.Statements.{PairsOf, IterateY, TurnsAreIterates, LevelsAreIterates, RoundsAreIterates, XIsInnermost}
 use Rattle.theory.specs.GameLaws.{Within-trans, inX-at, inX-of, xOver-is, level-grows, level-within-x, level-levels, levels-level}

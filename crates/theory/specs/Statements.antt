@@ -1,21 +1,20 @@
 -- What is shown of the game over the definitions of document 01. Each statement is a type; the proofs are in the other files, and
 -- FixpointTheorems.antt and RankTheorems.antt give a proof of each. They hold for every pair, where no hypothesis is written, and for every well-formed pair otherwise.
-use mathlib.Core.Bool.{Bool, true, false}
+use mathlib.Core.Bool.{true, false}
 use mathlib.Core.List.{List, []}
 use mathlib.Core.Logic.{_⊎_, _↔_}
 use mathlib.Core.Path.{_≡_}
 use Prim.Native.Nat.{ℕ, suc, _+_, _-_, _*_, _≤_, _<_}
 use lib.ListN.{getD}
 use Rattle.machine.specs.declared.Pair.{Pair}
-use Rattle.machine.specs.Machines.{next, nC, nA, setsC, setsA, pairs, starts, matched}
-use Rattle.machine.specs.WellFormed.{wellFormed}
+use Rattle.machine.specs.Machines.{nC, nA, setsC, setsA, pairs, starts, matched}
 use Rattle.machine.specs.Game.{mem, allMatched, goals, inX, roundX, xOver, level, xSet, levels, turn, familyAfter, family}
 use Rattle.machine.specs.Ranks.{levelOf, setOf, rank, solverTable}
 use Rattle.machine.specs.Iteration.{iterate}
 use Rattle.machine.specs.Figure2.{Set, Cor, approx, UnderX, Innermost, UnderY, row, figure2}
 use Rattle.machine.specs.Table.{blank, entry, covers}
 use Rattle.machine.specs.Lines.{passesEach}
-use Rattle.machine.specs.Verdict.{Verdict, carried, notCarried, startCovered, linesVerdict}
+use Rattle.machine.specs.Verdict.{carried, notCarried, startCovered, linesVerdict}
 
 module _ (p : Pair) where
   -- every pair of S is one of R

@@ -1,9 +1,8 @@
 -- Document 01, "Console and program": what is said of a file's bytes, and its number.
-use mathlib.Core.Bool.{Bool, true, false}
+use mathlib.Core.Bool.{true, false}
 use mathlib.Core.List.{List}
 use Prim.Native.Nat.{ℕ}
 use lib.ListN.{replicate}
-use Rattle.machine.specs.declared.Refusal.{Refusal}
 use Rattle.machine.specs.Verdict.{Verdict, carried, notCarried, verdictNumber, checkVerdict, tableRoom}
 use Rattle.codec.specs.Reader.{Read, taken, readAnswer, readTable}
 use Rattle.codec.specs.declared.Reading.{Reading}

@@ -1,8 +1,8 @@
 -- Laws of what is said of a file, by what the reader says of it.
-use mathlib.Core.Bool.{Bool, true, false}
+use mathlib.Core.Bool.{true, false}
 use mathlib.Core.List.{List}
-use mathlib.Core.Path.{_≡_, refl, sym, ap, subst, _∙_}
-use Prim.Native.Nat.{ℕ, _≤_, _<_}
+use mathlib.Core.Path.{_≡_, refl, sym, ap, _∙_}
+use Prim.Native.Nat.{ℕ, _<_}
 use native.Mathlib.Omega.{arith}
 use lib.ListN.{length, replicate}
 use lib.Dec.{ltb}
@@ -22,7 +22,7 @@ use Rattle.codec.specs.declared.Reading.the-variants as reading
 use Rattle.codec.specs.declared.Show.{Show}
 use Rattle.codec.specs.Reader.{Read, taken, readAnswer, readTable}
 use Rattle.codec.specs.Answers.{showFor}
-use Rattle.verdict.specs.Outcomes.{Outcome, says, noTable, outcomeAfter, fileOutcome}
+use Rattle.verdict.specs.Outcomes.{says, noTable, outcomeAfter, fileOutcome}
 
 -- the reader's refusal
 after-refused : (a : Read) (T : List ℕ) (r : Refusal) → showFor a .reading ≡ reading.Refused r → outcomeAfter a T ≡ says (Verdict.refused r)

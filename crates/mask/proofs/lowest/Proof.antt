@@ -1,6 +1,6 @@
 use native.Mathlib.Omega.{arith}
 use mathlib.Core.Path.{refl}
-use lib.Count.{trailing-le, trailingZeros}
+use lib.Count.{trailing-le}
 use Rattle.mask.specs.Bits.{lowestOf}
 use Rattle.mask.proofs.lowest.Statement.{statement}
 use Rattle.mask.proofs.lowest.Tie as tie
