@@ -1,17 +1,16 @@
 // The line check: document 01, "Line check". It sees the machines and the step, and not the solver.
 // Cost: for each non-blank entry and each successor of its concrete state, one search among the successors of its abstract state, which stops
 // at the first that serves: at most n x nC x nA x nC x nA looks at an entry, and on passing tables far fewer.
-ghost use mathlib.Core.Bool.{true, cond};
+ghost use mathlib.Core.Bool.{true};
 ghost use mathlib.Core.Path.{_≡_};
-ghost use Prim.Native.Nat.{ℕ, _+_, _*_, _<_, _≤_};
+ghost use Prim.Native.Nat.{_+_, _*_, _<_, _≤_};
 ghost use lib.ListN.{length, getD};
 ghost use lib.Dec.{eqb};
 ghost use Rattle.mask.specs.Logic.{not};
 ghost use Rattle.mask.specs.Bounded.{count};
-ghost use Rattle.machine.specs.Machines.{next};
 ghost use Rattle.machine.specs.WellFormed.{wellFormed};
 ghost use Rattle.machine.specs.Ranks.{levelOf, setOf};
-ghost use Rattle.machine.specs.Table.{blank, entryIndex};
+ghost use Rattle.machine.specs.Table.{blank};
 ghost use Rattle.machine.specs.Lines.{linesValidity};
 ghost use Rattle.machine.specs.Observed.{matchedMasks};
 ghost use Rattle.machine.specs.Refusals.{refusal, failing-entry};
@@ -40,22 +39,6 @@ struct Line {
 struct Level {
     level: usize,
     set: usize,
-}
-
-// The section after j: after the last comes the first.
-fn next_section(n: usize, j: usize) -> usize
-    requires { ⌜ j < n ⌝ }
-    ensures { λ r. ⌜ r ≡ next n j ⌝ }
-{
-    if j + 1 == n { 0 } else { j + 1 }
-}
-
-// The place in a table of entry (j, c, a).
-fn index(nc: usize, na: usize, j: usize, c: usize, a: usize) -> usize
-    requires { ⌜ (j < 7) × ((nc ≤ 64) × ((na ≤ 64) × ((c ≤ nc) × (a ≤ na)))) ⌝ }
-    ensures { λ r. ⌜ r ≡ entryIndex nc na j c a ⌝ }
-{
-    (j * nc + c) * na + a
 }
 
 // The l and k of an entry that is not 0.
@@ -148,10 +131,10 @@ fn lines_validity(p: Pair, matched: [u64; 64], table: &[u16]) -> Validity
     let most = m * (nc * na);
     let mut answer = Validity::Valid;
     'lines: for j in 0..n {
-        let next = next_section(n, j);
+        let next = machine::next_section(n, j);
         for c in 0..nc {
             for a in 0..na {
-                let at = index(nc, na, j, c, a);
+                let at = machine::entry_index(nc, na, j, c, a);
                 let e = table[at];
                 if e != 65535 {
                     let line = line_of(
@@ -176,7 +159,7 @@ fn lines_validity(p: Pair, matched: [u64; 64], table: &[u16]) -> Validity
                     let mut rest = concrete.successors[c];
                     while rest != 0 {
                         let d = mask::lowest(rest);
-                        let from = index(nc, na, section, d, 0);
+                        let from = machine::entry_index(nc, na, section, d, 0);
                         let to = from + na;
                         if !machine::has_partner(moves, matched[d], &table[from..to], bound) {
                             answer = failing(j, c, a);
@@ -216,7 +199,7 @@ fn lacking_start(p: Pair, table: &[u16]) -> usize
     let na = abstraction.states;
     for c in 0..nc {
         if mask::has(concrete.start, c) {
-            let from = index(nc, na, 0, c, 0);
+            let from = machine::entry_index(nc, na, 0, c, 0);
             let to = from + na;
             if !machine::has_partner(
                 abstraction.start,

@@ -1,9 +1,8 @@
 -- Document 01, "Shelf examples", cases 1 to 12, as one fact about one list, by computation; and a second list of small cases with two
 -- concrete states or with more than one set, which tell slips that cases 1 to 12 do not tell.
-use mathlib.Core.Bool.{Bool, true, false}
-use mathlib.Core.List.{List, [], _∷_, _++_}
+use mathlib.Core.List.{List, [], _∷_}
 use mathlib.Core.Path.{_≡_, refl}
-use Prim.Native.Nat.{ℕ, _-_}
+use Prim.Native.Nat.{ℕ}
 use lib.ListN.{length, getD}
 use Rattle.mask.specs.Logic.{not, and, or}
 use Rattle.mask.specs.Bits.{hasBit}
@@ -22,7 +21,7 @@ use Rattle.machine.specs.Ranks.{levelOf, setOf, towerOver, tower, rankIn
 use Rattle.machine.specs.Table.{blank, entryIndex, entry, covers, coveredCount}
 use Rattle.machine.specs.Lines.{nonBlank, lower, atMost, goalLine, rankLine, passes, linesValidity}
 use Rattle.machine.specs.Verdict.{Verdict, carried, notCarried, refused, startCovered, lackingStart, startVerdict, orElse, linesVerdict}
-use Rattle.machine.specs.Player.{Place, badLength, badStep, missedSet, lassoValidity, startPartner, startValidity, sectionAfter, follow, stepTo, placeAt, samePlace, lastRound, earlierRound, stemLength, loopLength, run, playValidity, Played, played, playedUnless}
+use Rattle.machine.specs.Player.{badLength, badStep, missedSet, lassoValidity, startPartner, startValidity, sectionAfter, follow, stepTo, placeAt, samePlace, lastRound, earlierRound, stemLength, loopLength, run, playValidity, Played, played, playedUnless}
 
 -- a machine whose start state is 0, from the lists of its states' observations and successor masks and of its sets
 machineOf : List ℕ → List ℕ → List ℕ → Machine

@@ -1,20 +1,19 @@
 -- Laws of the lines: a passing entry as sentences, and the first that fails.
 use mathlib.Core.Bool.{Bool, true, false, cond}
 use mathlib.Core.List.{List}
-use mathlib.Core.Logic.{_⊎_, inl, inr, ⊎-elim, by-cases}
-use mathlib.Core.Path.{_≡_, refl, sym, ap, _∙_}
-use Prim.Native.Nat.{ℕ, zero, suc, _+_, _-_, _*_, _/_, _≤_, _<_}
+use mathlib.Core.Logic.{_⊎_, ⊎-elim, by-cases}
+use mathlib.Core.Path.{_≡_, sym, ap, _∙_}
+use Prim.Native.Nat.{ℕ, suc, _+_, _-_, _*_, _/_, _≤_, _<_}
 use native.Mathlib.Nat.{div-lt-iff-lt-mul}
 use native.Mathlib.Decide.{ℕ-discrete, decLe}
 use native.Mathlib.Omega.{arith}
 use lib.Dec.{eqb, leb, ltb}
 use borrow.Author.Tests.{eqb-true, eqb-false, eq-eqb, ne-eqb, leb-true, le-leb, lt-leb, ltb-true, lt-ltb, le-ltb}
 use Rattle.mask.specs.Logic.{not, and, or}
-use Rattle.mask.specs.LogicLaws.{dec, clash, refute, both, cond-cases, and-l, and-r, and-i, or-l, or-r, or-false-l, not-e, not-i, not-f, not-not}
+use Rattle.mask.specs.LogicLaws.{dec, clash, both, cond-cases, and-l, and-r, and-i, or-l, or-r, or-false-l, not-e, not-i, not-f}
 use Rattle.mask.specs.Bounded.{every, first}
-use Rattle.mask.specs.BoundedLaws.{every-at, every-of, every-not, first-is, first-none, first-has, first-before, first-le}
+use Rattle.mask.specs.BoundedLaws.{every-at, every-of, every-not, first-is, first-none, first-before}
 use Rattle.machine.specs.declared.Pair.{Pair}
-use Rattle.machine.specs.declared.Validity.{Validity}
 use Rattle.machine.specs.declared.Validity.the-variants.{Valid, Refused}
 use Rattle.machine.specs.Refusals.{refusal, failing-entry}
 use Rattle.machine.specs.Machines.{inFairSet, matched, next, nC, nA, setsC, setsA, pairs}

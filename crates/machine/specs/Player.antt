@@ -1,6 +1,6 @@
 -- Document 01, "Player", and its refusals 13 to 16.
-use mathlib.Core.Bool.{Bool, true, cond}
-use mathlib.Core.List.{List, [], _++_}
+use mathlib.Core.Bool.{Bool, cond}
+use mathlib.Core.List.{List, _++_}
 use Prim.Native.Nat.{ℕ, zero, suc, _+_, _-_, _*_}
 use lib.ListN.{length, getD, drop}
 use lib.Dec.{eqb, ltb, leb}

@@ -1,13 +1,13 @@
 -- Document 01, "The game": ranks, and the solver's table.
-use mathlib.Core.Bool.{Bool, cond}
-use mathlib.Core.List.{List, [], _∷_, _++_}
-use Prim.Native.Nat.{ℕ, zero, suc, _+_, _-_, _*_, _/_, _%_}
+use mathlib.Core.Bool.{cond}
+use mathlib.Core.List.{List, [], _++_}
+use Prim.Native.Nat.{ℕ, zero, suc, _+_, _-_, _/_, _%_}
 use lib.ListN.{length, getD}
 use lib.Dec.{ltb}
 use Rattle.mask.specs.Bounded.{first}
 use Rattle.mask.specs.Tables.{table}
 use Rattle.machine.specs.declared.Pair.{Pair}
-use Rattle.machine.specs.Machines.{nC, nA, setsC, setsA, pairs}
+use Rattle.machine.specs.Machines.{nA, setsA, pairs}
 use Rattle.machine.specs.Game.{mem, none, goals, xsOver, union, family}
 use Rattle.machine.specs.Table.{blank, entries}
 

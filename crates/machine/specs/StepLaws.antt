@@ -1,17 +1,15 @@
 -- Laws of observations, of the step and of sections.
-use mathlib.Core.Bool.{Bool, true, false, cond}
-use mathlib.Core.Logic.{_⊎_, by-cases}
-use mathlib.Core.Path.{_≡_, refl, sym, ap, _∙_}
+use mathlib.Core.Bool.{Bool, true}
+use mathlib.Core.Logic.{by-cases}
+use mathlib.Core.Path.{_≡_, refl, sym, _∙_}
 use Prim.Native.Nat.{ℕ, suc, _<_}
 use native.Mathlib.Decide.{decLt}
 use native.Mathlib.Omega.{arith}
-use lib.Dec.{eqb}
 use borrow.Author.Tests.{eqb-true, eq-eqb, ne-eqb}
 use Rattle.mask.specs.LogicLaws.{both}
-use Rattle.mask.specs.Bounded.{everyIn, someIn}
 use Rattle.mask.specs.BoundedLaws.{everyIn-at, everyIn-of, someIn-at, someIn-of}
 use Rattle.machine.specs.declared.Pair.{Pair}
-use Rattle.machine.specs.Machines.{moves, successors, sameObservation, next, nC, nA}
+use Rattle.machine.specs.Machines.{moves, sameObservation, next, nC, nA}
 use Rattle.machine.specs.Step.{steps}
 
 -- ---- the same observation

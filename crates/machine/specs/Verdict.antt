@@ -1,12 +1,11 @@
 -- Document 01, "Line check": the answer, as document 01 tells it.
-use mathlib.Core.Bool.{Bool, true, cond}
+use mathlib.Core.Bool.{Bool, cond}
 use mathlib.Core.List.{List}
-use mathlib.Core.Path.{_≡_}
 use Prim.Native.Nat.{ℕ, _+_}
 use lib.ListN.{length}
-use lib.Dec.{eqb, ltb}
+use lib.Dec.{ltb}
 use Rattle.mask.specs.Logic.{not, and}
-use Rattle.mask.specs.Bounded.{every, first, someIn}
+use Rattle.mask.specs.Bounded.{first, someIn}
 use Rattle.machine.specs.declared.Pair.{Pair}
 use Rattle.machine.specs.declared.Refusal.{Refusal}
 use Rattle.machine.specs.declared.Validity.{Validity}
@@ -15,7 +14,7 @@ use Rattle.machine.specs.Refusals.{refusal, andThen, short-buffer}
 use Rattle.machine.specs.Machines.{starts, nC, nA}
 use Rattle.machine.specs.WellFormed.{pairValidity}
 use Rattle.machine.specs.Table.{covers, coveredCount}
-use Rattle.machine.specs.Lines.{passesEach, linesValidity}
+use Rattle.machine.specs.Lines.{linesValidity}
 
 -- "Lent tables have 28,672 entries or more (7 × 64 × 64)"
 abbrev pub tableRoom : ℕ

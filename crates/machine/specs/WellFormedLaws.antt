@@ -1,28 +1,28 @@
 -- What a well-formed machine and a well-formed pair give, and what makes one.
 use mathlib.Core.Bool.{Bool, true, false, cond}
-use mathlib.Core.Logic.{_⊎_, inl, inr, ⊎-elim, by-cases}
-use mathlib.Core.Path.{_≡_, refl, sym, ap, _∙_}
-use Prim.Native.Nat.{ℕ, suc, _*_, _≤_, _<_, _^_}
-use native.Mathlib.Nat.{le-trans, mul-le-mul-right, mul-le-mul-left}
+use mathlib.Core.Logic.{by-cases}
+use mathlib.Core.Path.{_≡_, refl}
+use Prim.Native.Nat.{ℕ, _+_, _*_, _≤_, _<_, _^_}
+use native.Mathlib.Nat.{le-trans, mul-le-mul-right, mul-le-mul-left, mul-pos}
 use native.Mathlib.Decide.{decLe, decLt}
 use native.Mathlib.Omega.{arith}
 use lib.ListN.{getD}
 use lib.Dec.{eqb, leb, ltb}
-use borrow.Author.Tests.{eqb-true, eqb-false, eq-eqb, ne-eqb, leb-true, le-leb, lt-leb, ltb-true, lt-ltb, le-ltb}
-use Rattle.mask.specs.Logic.{not, and, or}
-use Rattle.mask.specs.LogicLaws.{dec, clash, refute, and-l, and-r, and-i, or-l, or-r, or-e, or-none, or-false, not-e, not-i, not-f, not-false}
+use borrow.Author.Tests.{eqb-true, eqb-false, eq-eqb, leb-true, le-leb, lt-ltb, le-ltb}
+use Rattle.mask.specs.Logic.{and}
+use Rattle.mask.specs.LogicLaws.{clash, refute, and-l, and-r, and-i, or-none, not-false}
 use Rattle.mask.specs.Bits.{hasBit}
-use Rattle.mask.specs.BitsLaws.{has-lt, has-small}
-use Rattle.mask.specs.Bounded.{some, first, someIn}
-use Rattle.mask.specs.BoundedLaws.{some-of, some-none, none-at, someIn-of, someIn-at, first-none, first-before, first-le}
+use Rattle.mask.specs.BitsLaws.{has-small}
+use Rattle.mask.specs.Bounded.{first}
+use Rattle.mask.specs.BoundedLaws.{none-at, someIn-of, someIn-at, first-before}
 use Rattle.machine.specs.declared.Machine.{Machine}
 use Rattle.machine.specs.declared.Pair.{Pair}
 use Rattle.machine.specs.declared.Refusal.{Refusal}
 use Rattle.machine.specs.declared.Validity.{Validity}
 use Rattle.machine.specs.declared.Validity.the-variants.{Valid, Refused}
-use Rattle.machine.specs.Refusals.{refusal, andThen}
+use Rattle.machine.specs.Refusals.{andThen}
 use Rattle.machine.specs.Machines.{observation, successors, moves, starts, fairSet, inFairSet, nC, nA, setsC, setsA, pairs}
-use Rattle.machine.specs.WellFormed.{countsOk, beyond, stateBeyond, setBeyond, beyondCounts, stuckState, contentValidity, machineValidity, pairValidity, isValid, wellFormed}
+use Rattle.machine.specs.WellFormed.{countsOk, beyond, stateBeyond, setBeyond, beyondCounts, stuckState, contentValidity, pairValidity, isValid, wellFormed}
 
 -- ---- validity
 pub refused-not-valid : (r : Refusal) → Refused r ≡ Valid → ⊥
@@ -191,6 +191,9 @@ pub mul-bound : (a b m n : ℕ) → a ≤ m → b ≤ n → a * b ≤ m * n
 mul-bound a b m n p q = le-trans (mul-le-mul-right b p) (mul-le-mul-left m q)
 
 -- the bounds of products: P, m × P and n × P
+pub some-pairs : (p : Pair) → WellPair p → 0 < pairs p
+some-pairs p w = mul-pos (w .concrete .states-low) (w .abstraction .states-low)
+
 pub pairs-small : (p : Pair) → WellPair p → pairs p ≤ 4096
 pairs-small p w = mul-bound (nC p) (nA p) 64 64 (w .concrete .states-high) (w .abstraction .states-high)
 
@@ -199,3 +202,7 @@ ranks-small p w = mul-bound (setsC p) (pairs p) 8 4096 (w .concrete .sets-high) 
 
 pub entries-small : (p : Pair) → WellPair p → setsA p * pairs p ≤ 28672
 entries-small p w = mul-bound (setsA p) (pairs p) 7 4096 (w .abstraction .sets-high) (pairs-small p w)
+
+-- section j lies within a table of 28,672 entries
+pub section-fits : (p : Pair) → WellPair p → (j : ℕ) → j < setsA p → j * pairs p + pairs p ≤ 28672
+section-fits p w j h = omega (arith, mul-le-mul-right (pairs p) h, entries-small p w)

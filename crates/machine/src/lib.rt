@@ -1,17 +1,18 @@
-// Machines, pairs of machines, refusals, well-formedness and the single step.
+// Machines, pairs of machines, refusals, well-formedness, the single step, and where a table's sections and entries lie.
 ghost use mathlib.Core.Path.{_≡_};
-ghost use Prim.Native.Nat.{ℕ};
+ghost use Prim.Native.Nat.{_<_, _≤_};
 ghost use mathlib.Core.Bool.{cond};
 ghost use lib.ListN.{getD};
 ghost use lib.Dec.{ltb, eqb};
 ghost use Rattle.mask.specs.Logic.{not, or};
 ghost use Rattle.mask.specs.Bits.{hasBit};
 ghost use Rattle.mask.specs.Bounded.{some};
-ghost use Rattle.machine.specs.Machines.{sameObservation};
+ghost use Rattle.machine.specs.Machines.{sameObservation, next};
 ghost use Rattle.machine.specs.Refusals.{refusal};
 ghost use Rattle.machine.specs.WellFormed.{countsOk, beyond, stateBeyond, setBeyond, beyondCounts, stuckState, contentValidity, machineValidity, pairValidity};
 ghost use Rattle.machine.specs.Step.{partner, found, alike, inRow};
 ghost use Rattle.machine.specs.Observed.{sameMask, matchedMasks};
+ghost use Rattle.machine.specs.Table.{entryIndex};
 
 // A finite machine with fairness sets. Document 01: the rig is the concrete machine, the score the abstract one.
 pub struct Machine {
@@ -339,4 +340,23 @@ pub fn has_partner(moves: u64, matched: u64, row: &[u16], bound: u16) -> bool
         m = mask::rest(m);
     }
     false
+}
+
+// ---- Sections and tables
+
+// The section after j: after the last comes the first. Public, since solver, check and player share it; it requires no more than their tests
+// show.
+pub fn next_section(n: usize, j: usize) -> usize
+    requires { ⌜ j < n ⌝ }
+    ensures { λ r. ⌜ r ≡ next n j ⌝ }
+{
+    if j + 1 == n { 0 } else { j + 1 }
+}
+
+// The place in a table of entry (j, c, a). Public, since check and player share it; it requires no more than their tests show.
+pub fn entry_index(nc: usize, na: usize, j: usize, c: usize, a: usize) -> usize
+    requires { ⌜ (j < 7) × ((nc ≤ 64) × ((na ≤ 64) × ((c ≤ nc) × (a ≤ na)))) ⌝ }
+    ensures { λ r. ⌜ r ≡ entryIndex nc na j c a ⌝ }
+{
+    (j * nc + c) * na + a
 }

@@ -3,8 +3,7 @@ use mathlib.Core.Bool.{true}
 use mathlib.Core.List.{List}
 use mathlib.Core.Logic.{⊎-elim}
 use mathlib.Core.Path.{_≡_, sym, ap, ap₂, _∙_}
-use Prim.Native.Nat.{ℕ, _+_, _*_, _≤_, _<_}
-use native.Mathlib.Nat.{mul-le-mul-left}
+use Prim.Native.Nat.{ℕ, _+_, _≤_, _<_}
 use native.Mathlib.Omega.{arith}
 use lib.Dec.{eqb, leb}
 use lib.ListN.{length, getD}
@@ -24,12 +23,6 @@ use Rattle.machine.specs.Lines.{nonBlank}
 use Rattle.machine.specs.WellFormedLaws.{WellPair}
 
 -- ---- where an entry lies
--- what is computed on the way to an entry's place is at most that place
-pub index-parts : (nC nA j c a : ℕ) → 0 < nA
-    → (j * nC + c ≤ entryIndex nC nA j c a) × ((j * nC + c) * nA ≤ entryIndex nC nA j c a)
-unfolding entryIndex
-index-parts nC nA j c a h = (omega (arith, mul-le-mul-left (j * nC + c) h), omega arith)
-
 module _ (p : Pair) (w : WellPair p) (j c : ℕ) (hj : j < setsA p) (hc : c < nC p) where
   low : j < 7
   low = omega (arith, w .abstraction .sets-high)

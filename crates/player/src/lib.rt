@@ -10,7 +10,7 @@ ghost use Rattle.machine.specs.Machines.{moves, next, nC, nA, setsA};
 ghost use Rattle.machine.specs.Refusals.{refusal};
 ghost use Rattle.machine.specs.Lassos.{moment};
 ghost use Rattle.machine.specs.Step.{partner, stateOf};
-ghost use Rattle.machine.specs.Table.{entryIndex, entry};
+ghost use Rattle.machine.specs.Table.{entry};
 ghost use Rattle.machine.specs.Lines.{nonBlank};
 ghost use Rattle.machine.specs.Player.{badStep, lassoValidity, startPartner, playerAnswer, playerBuffer};
 ghost use Rattle.plays.specs.PlayerLaws.{Playable};
@@ -82,7 +82,7 @@ impl Place {
         if e != 0 {
             return j;
         }
-        if j + 1 == n { 0 } else { j + 1 }
+        machine::next_section(n, j)
     }
 
     // The place at the next moment, by the rule.
@@ -98,7 +98,7 @@ impl Place {
         let successors = abstraction.successors;
         let a = self.a;
         let c = state_at(stem, cycle, self.position);
-        let e = table[index(concrete.states, abstraction.states, self.j, c, a)];
+        let e = table[machine::entry_index(concrete.states, abstraction.states, self.j, c, a)];
         let next = self.onward(stem.len(), stem.len() + cycle.len());
         let j = self.section_after(abstraction.sets, e);
         let d = state_at(stem, cycle, next.position);
@@ -122,14 +122,6 @@ fn state_of(found: Partner) -> usize
     }
 }
 
-// The place in a table of entry (j, c, a).
-fn index(nc: usize, na: usize, j: usize, c: usize, a: usize) -> usize
-    requires { ⌜ (0 < na) × (entryIndex nc na j c a < 28672) ⌝ }
-    ensures { λ r. ⌜ r ≡ entryIndex nc na j c a ⌝ }
-{
-    (j * nc + c) * na + a
-}
-
 // Of the states of the mask `moves`, the one of least entry in section j beside the concrete state d; ties go to the lowest number.
 fn best_partner(
     p: Pair,
@@ -147,7 +139,7 @@ fn best_partner(
     let concrete = p.concrete;
     let abstraction = p.abstraction;
     let na = abstraction.states;
-    let from = index(concrete.states, na, j, d, 0);
+    let from = machine::entry_index(concrete.states, na, j, d, 0);
     let to = from + na;
     machine::partner_within(moves, matched[d], &table[from..to], 65534)
 }

@@ -32,16 +32,16 @@ small : (c : tie.At-loop Inv-loop μ-loop) (i : ℕ) → getD (top c .args .tabl
 small c i = omega (arith, c .before .before .before .shared-slice-known .given i)
 
 -- the row of section 1 beside c lies within the table
-room : (c : tie.After-index Inv-loop μ-loop)
+room : (c : tie.After-entry-index Inv-loop μ-loop)
     → let x = top (c .before .before .before .before) .args in
-    c .index .result + x .p .abstraction .states ≤ length (x .table .now)
+    c .entry-index .result + x .p .abstraction .states ≤ length (x .table .now)
 room c =
     let l = c .before .before .before .before in
     let p = top l .args .p in
     let w = well l in
     omega (
       arith,
-      c .index .ensures,
+      c .entry-index .ensures,
       top l .pre .1,
       row-room (p .concrete .states) (p .abstraction .states) 0 (l .loop .c) (omega arith) (w .concrete .states-high) (w .abstraction .states-high) (omega arith),
     )
@@ -54,7 +54,7 @@ covered c =
     let l = i .before .before .before .before in
     let x = top l .args in
     c .has-partner .ensures
-    ∙ start-found (x .p) (x .table .now) (well l) (small l) (l .loop .c) (i .index .result) (i .index .result + x .p .abstraction .states) (i .index .ensures) refl (room i) _
+    ∙ start-found (x .p) (x .table .now) (well l) (small l) (l .loop .c) (i .entry-index .result) (i .entry-index .result + x .p .abstraction .states) (i .entry-index .ensures) refl (room i) _
 
 loop-holds : tie.Need-loop-holds Inv-loop μ-loop
 loop-holds c = (search needs, below-none _)
@@ -62,8 +62,8 @@ loop-holds c = (search needs, below-none _)
 has-requires : tie.Need-has-requires Inv-loop μ-loop
 has-requires c κs = search needs
 
-index-requires : tie.Need-index-requires Inv-loop μ-loop
-index-requires c κs =
+entry-index-requires : tie.Need-entry-index-requires Inv-loop μ-loop
+entry-index-requires c κs =
     let w = well (c .before .before .before) in
     omega (arith, w .concrete .states-high, w .abstraction .states-high)
 
@@ -108,7 +108,7 @@ loop-again c =
       below-more _ _ (l .loop .inv .1)
           (⊎-elim
           (λ w.
-          let i : tie.After-index Inv-loop μ-loop = record { before = record { before = c .before; if1 = w .0 }; index = w .1 } in
+          let i : tie.After-entry-index Inv-loop μ-loop = record { before = record { before = c .before; if1 = w .0 }; entry-index = w .1 } in
           let d : tie.After-has-partner Inv-loop μ-loop = record { before = record { before = i; has-partner-arg = w .2 }; has-partner = w .3 } in
           lacks-covered (x .p) (x .table .now) (l .loop .c) (sym (covered d) ∙ not-false _ (w .4 .left)))
           (λ w. lacks-not (x .p) (x .table .now) (l .loop .c) (sym (c .before .has .ensures) ∙ w .left))
@@ -129,7 +129,7 @@ lacking-start-spec =
     μ-loop
     loop-holds
     has-requires
-    index-requires
+    entry-index-requires
     add-to
     mul-has-partner
     sub-has-partner

@@ -70,7 +70,7 @@ abbrev Entry : Type 0
 Entry = tie.In-loop2 Inv-loop3 μ-loop3 Inv-loop2 μ-loop2 Inv-loop μ-loop Inv-lines μ-lines
 
 abbrev Placed : Type 0
-Placed = tie.After-index Inv-loop3 μ-loop3 Inv-loop2 μ-loop2 Inv-loop μ-loop Inv-lines μ-lines
+Placed = tie.After-entry-index Inv-loop3 μ-loop3 Inv-loop2 μ-loop2 Inv-loop μ-loop Inv-lines μ-lines
 
 abbrev Lined : Type 0
 Lined = tie.After-line-of Inv-loop3 μ-loop3 Inv-loop2 μ-loop2 Inv-loop μ-loop Inv-lines μ-lines
@@ -82,7 +82,7 @@ abbrev Taken : Type 0
 Taken = tie.After-lowest Inv-loop3 μ-loop3 Inv-loop2 μ-loop2 Inv-loop μ-loop Inv-lines μ-lines
 
 abbrev Row : Type 0
-Row = tie.After-index2 Inv-loop3 μ-loop3 Inv-loop2 μ-loop2 Inv-loop μ-loop Inv-lines μ-lines
+Row = tie.After-entry-index2 Inv-loop3 μ-loop3 Inv-loop2 μ-loop2 Inv-loop μ-loop Inv-lines μ-lines
 
 abbrev start : Entry → Start
 start d = d .before .before .before .before .before .before .before .before .before .before
@@ -140,13 +140,13 @@ narrow d =
     (omega (arith, section-in d, w .abstraction .sets-high), omega (arith, concrete-in d, w .concrete .states-high), omega (arith, abstract-in d, w .abstraction .states-high))
 
 -- the entry's place is within the table
-place-in : (i : Placed) → i .index .result < length (T-of (i .before))
+place-in : (i : Placed) → i .entry-index .result < length (T-of (i .before))
 place-in i =
     let d = i .before in
     let w = well d in
     omega (
       arith,
-      i .index .ensures,
+      i .entry-index .ensures,
       start d .before .pre .1 .1,
       entry-room (nC (p-of d)) (nA (p-of d)) (j-of d) (c-of d) (narrow d .0) (w .concrete .states-high) (w .abstraction .states-high) (a-of d) (concrete-in d) (abstract-in d),
     )
@@ -171,7 +171,7 @@ section-small l =
     let k : after-of d < n = omega (arith, later d, next-lt n (j-of d) (section-in d)) in
     omega (arith, well d .abstraction .sets-high, line-section _ _ _ _ _ _ _ _ _ _ n (l .line-of .result) (l .line-of .ensures) (section-in d) k)
 
-covered : (l : Lined) → getD (T-of (entry l)) (placed l .index .result) 0 ≡ blank → ⊥
+covered : (l : Lined) → getD (T-of (entry l)) (placed l .entry-index .result) 0 ≡ blank → ⊥
 covered l = l .before .before .before .if1 .taken
 
 moves-fit : (d : Entry) → getD (p-of d .concrete .successors) (c-of d) 0 < 2 ^ 64
@@ -192,14 +192,14 @@ rest-fits t =
 -- the row that is looked in lies within the table
 row-in : (r : Row)
     → let d = entry (lined (walk (taken r))) in
-    r .index2 .result + nA (p-of d) ≤ length (T-of d)
+    r .entry-index2 .result + nA (p-of d) ≤ length (T-of d)
 row-in r =
     let l = lined (walk (taken r)) in
     let d = entry l in
     let w = well d in
     omega (
       arith,
-      r .index2 .ensures,
+      r .entry-index2 .ensures,
       start d .before .pre .1 .1,
       row-room (nC (p-of d)) (nA (p-of d)) (l .line-of .result .section) (taken r .lowest .result) (section-small l) (w .concrete .states-high) (w .abstraction .states-high) (taken-in (taken r)),
     )
@@ -218,7 +218,7 @@ told c =
     let l = lined (walk (taken r)) in
     let d = entry l in
     c .has-partner .ensures
-    ∙ step-found (p-of d) (T-of d) (well d) (masks-of d) (made d) (l .line-of .result .section) (taken r .lowest .result) (r .index2 .result) (r .index2 .result + nA (p-of d)) (r .index2 .ensures) refl
+    ∙ step-found (p-of d) (T-of d) (well d) (masks-of d) (made d) (l .line-of .result .section) (taken r .lowest .result) (r .entry-index2 .result) (r .entry-index2 .result + nA (p-of d)) (r .entry-index2 .ensures) refl
     (row-in r) (taken-in (taken r)) (moves-of l) (l .line-of .result .bound) _
 
 -- the first entry that fails is where the loops are left
@@ -246,8 +246,8 @@ loop-holds c = (search needs, below-none _, refl)
 loop2-holds : tie.Need-loop2-holds Inv-loop3 μ-loop3 Inv-loop2 μ-loop2 Inv-loop μ-loop Inv-lines μ-lines
 loop2-holds c = (search needs, below-none _, refl)
 
-index-requires : tie.Need-index-requires Inv-loop3 μ-loop3 Inv-loop2 μ-loop2 Inv-loop μ-loop Inv-lines μ-lines
-index-requires c κs =
+entry-index-requires : tie.Need-entry-index-requires Inv-loop3 μ-loop3 Inv-loop2 μ-loop2 Inv-loop μ-loop Inv-lines μ-lines
+entry-index-requires c κs =
     let w = well c in
     omega (arith, w .concrete .states-high, w .abstraction .states-high, w .abstraction .sets-high, section-in c, concrete-in c, abstract-in c)
 
@@ -293,7 +293,7 @@ loop3-holds c =
     let d = entry l in
     let i = placed l in (
       moves-small (p-of d) (well d) (c-of d) (concrete-in d) (moves-fit d),
-      passes-if (p-of d) (T-of d) (well d) (small d) (j-of d) (c-of d) (a-of d) (i .index .result) (i .index .ensures) (masks-of d) (after-of d) (l .line-of .result) (made d) (later d) (concrete-in d)
+      passes-if (p-of d) (T-of d) (well d) (small d) (j-of d) (c-of d) (a-of d) (i .entry-index .result) (i .entry-index .ensures) (masks-of d) (after-of d) (l .line-of .result) (made d) (later d) (concrete-in d)
           (abstract-in d) (covered l) (l .line-of .ensures) (not-false _ (c .before .before .if2 .left)) (moves-fit d),
       refl,
     )
@@ -301,8 +301,8 @@ loop3-holds c =
 lowest-requires : tie.Need-lowest-requires Inv-loop3 μ-loop3 Inv-loop2 μ-loop2 Inv-loop μ-loop Inv-lines μ-lines
 lowest-requires c κs = search needs
 
-index-requires-2 : tie.Need-index-requires-2 Inv-loop3 μ-loop3 Inv-loop2 μ-loop2 Inv-loop μ-loop Inv-lines μ-lines
-index-requires-2 c κs = let l = lined (walk c) in let d = entry l in omega (arith, section-small l, well d .concrete .states-high, well d .abstraction .states-high, taken-in c)
+entry-index-requires-2 : tie.Need-entry-index-requires-2 Inv-loop3 μ-loop3 Inv-loop2 μ-loop2 Inv-loop μ-loop Inv-lines μ-lines
+entry-index-requires-2 c κs = let l = lined (walk c) in let d = entry l in omega (arith, section-small l, well d .concrete .states-high, well d .abstraction .states-high, taken-in c)
 
 add-to : tie.Need-add-to Inv-loop3 μ-loop3 Inv-loop2 μ-loop2 Inv-loop μ-loop Inv-lines μ-lines
 add-to c = omega (arith, row-in c, start (entry (lined (walk (taken c)))) .before .good)
@@ -367,7 +367,7 @@ loop2-again c =
       search needs,
       below-more _ _ (d .before .loop2 .inv .1)
           (⊎-elim (λ w. w .8 .inv .1 ∙ rw (w .9 .left) (everyIn-zero 64 _))
-          (λ w. passes-if-blank (p-of d) (T-of d) (well d) (small d) (j-of d) (c-of d) (a-of d) (i .index .result) (i .index .ensures) (w .0 .left))
+          (λ w. passes-if-blank (p-of d) (T-of d) (well d) (small d) (j-of d) (c-of d) (a-of d) (i .entry-index .result) (i .entry-index .ensures) (w .0 .left))
           (c .if1 .came)),
       ⊎-elim (λ w. w .10 ∙ w .8 .inv .2) (λ w. w .1) (c .if1 .came) ∙ d .before .loop2 .inv .2,
     )
@@ -411,7 +411,7 @@ returns-2 c =
     let d = entry l in
     let i = placed l in
     c .failing .ensures
-    ∙ stopped d (fails-if (p-of d) (T-of d) (well d) (small d) (j-of d) (c-of d) (a-of d) (i .index .result) (i .index .ensures) (masks-of d) (after-of d) (l .line-of .result) (made d) (later d)
+    ∙ stopped d (fails-if (p-of d) (T-of d) (well d) (small d) (j-of d) (c-of d) (a-of d) (i .entry-index .result) (i .entry-index .ensures) (masks-of d) (after-of d) (l .line-of .result) (made d) (later d)
     (concrete-in d) (abstract-in d) (covered l) (l .line-of .ensures) (not-true _ (c .before .if2 .taken)))
 
 returns-3 : tie.Need-returns-3 Inv-loop3 μ-loop3 Inv-loop2 μ-loop2 Inv-loop μ-loop Inv-lines μ-lines
@@ -444,7 +444,7 @@ lines-validity-spec =
     next-section-requires
     loop-holds
     loop2-holds
-    index-requires
+    entry-index-requires
     mul-e
     shared-slice-read-e
     mul-line-of
@@ -459,7 +459,7 @@ lines-validity-spec =
     element-copy-out-rest
     loop3-holds
     lowest-requires
-    index-requires-2
+    entry-index-requires-2
     add-to
     mul-has-partner
     array-read-has-partner

@@ -19,13 +19,13 @@ row-low c =
     let r = top c .pre in
     row-end (x .p) (r .0 .well) (x .j) (x .d) (r .1 .0 .0) (r .1 .0 .1)
 
-index-requires : tie.Need-index-requires
-index-requires c κs =
+entry-index-requires : tie.Need-entry-index-requires
+entry-index-requires c κs =
     let w = top c .pre .0 .well in
-    (w .abstraction .states-low, omega (arith, row-low c, w .abstraction .states-low))
+    omega (arith, top c .pre .1 .0, w .abstraction .sets-high, w .concrete .states-high, w .abstraction .states-high)
 
 add-to : tie.Need-add-to
-add-to c = omega (arith, row-low (c .before), c .index .ensures)
+add-to c = omega (arith, row-low (c .before), c .entry-index .ensures)
 
 mul-partner-within : tie.Need-mul-partner-within
 mul-partner-within c = search needs
@@ -34,7 +34,7 @@ element-copy-out-partner-within : tie.Need-element-copy-out-partner-within
 element-copy-out-partner-within c = search needs
 
 mul-partner-within-2 : tie.Need-mul-partner-within-2
-mul-partner-within-2 c = omega (arith, row-low (c .before .before), c .before .index .ensures)
+mul-partner-within-2 c = omega (arith, row-low (c .before .before), c .before .entry-index .ensures)
 
 sub-partner-within : tie.Need-sub-partner-within
 sub-partner-within c = search needs
@@ -43,7 +43,7 @@ part-partner-within-start : tie.Need-part-partner-within-start
 part-partner-within-start c = search needs
 
 part-partner-within-end : tie.Need-part-partner-within-end
-part-partner-within-end c = omega (arith, row-low (c .before .before), c .before .index .ensures, top (c .before .before) .pre .0 .long)
+part-partner-within-end c = omega (arith, row-low (c .before .before), c .before .entry-index .ensures, top (c .before .before) .pre .0 .long)
 
 partner-within-requires : tie.Need-partner-within-requires
 partner-within-requires c κs = search needs
@@ -55,14 +55,14 @@ returns c =
     let r = top d .pre in
     let small : (i : ℕ) → getD (x .table .now) i 0 ≤ 65535 = λ i. omega (arith, d .before .before .shared-slice-known .given i) in
     c .partner-within .ensures ∙ rw (r .0 .masks) (row-partner (x .p) (x .table .now) (r .0 .well) small (x .j) (x .d)
-    (c .before .before .before .index .result) (c .before .before .before .index .result + nA (x .p)) (r .1 .0 .1)
-    (c .before .before .before .index .ensures) refl (omega (arith, row-low d, c .before .before .before .index .ensures, r .0 .long)) (x .moves) (r .1 .1))
+    (c .before .before .before .entry-index .result) (c .before .before .before .entry-index .result + nA (x .p)) (r .1 .0 .1)
+    (c .before .before .before .entry-index .ensures) refl (omega (arith, row-low d, c .before .before .before .entry-index .ensures, r .0 .long)) (x .moves) (r .1 .1))
 
 pub best-partner-spec : {M : Type 1} → statement M
 best-partner-spec =
     tie.close
     (tie.spec
-    index-requires
+    entry-index-requires
     add-to
     mul-partner-within
     element-copy-out-partner-within

@@ -33,24 +33,27 @@ j-lt c = section-lt (top c .pre .1 .0) (top c .pre .1 .1 .0)
 state-at-requires : tie.Need-state-at-requires
 state-at-requires c κs = search needs
 
+b-lt : (c : tie.After-state-at) → c .state-at .result < nC (top (c .before) .args .p)
+b-lt c = let r = top (c .before) .pre in omega (arith, c .state-at .ensures, beside-lt (r .1 .0) (r .1 .1 .0 .placed))
+
 -- the entry lies within the table
 entry-lt : (c : tie.After-state-at) → let x = top (c .before) .args in
     entryIndex (nC (x .p)) (nA (x .p)) (x .self .j) (c .state-at .result) (x .self .a) < 28672
 entry-lt c =
     let d = c .before in
     let x = top d .args in
-    let r = top d .pre in
-    index-lt (x .p) (r .0 .well) (x .self .j) (c .state-at .result) (j-lt d)
-    (omega (arith, c .state-at .ensures, beside-lt (r .1 .0) (r .1 .1 .0 .placed))) (x .self .a) (a-lt d)
+    index-lt (x .p) (top d .pre .0 .well) (x .self .j) (c .state-at .result) (j-lt d) (b-lt c) (x .self .a) (a-lt d)
 
-index-requires : tie.Need-index-requires
-index-requires c κs = (top (c .before) .pre .0 .well .abstraction .states-low, entry-lt c)
+entry-index-requires : tie.Need-entry-index-requires
+entry-index-requires c κs =
+    let w = top (c .before) .pre .0 .well in
+    omega (arith, j-lt (c .before), b-lt c, a-lt (c .before), w .abstraction .sets-high, w .concrete .states-high, w .abstraction .states-high)
 
 mul-e : tie.Need-mul-e
-mul-e c = omega (arith, c .index .ensures, entry-lt (c .before))
+mul-e c = omega (arith, c .entry-index .ensures, entry-lt (c .before))
 
 shared-slice-read-e : tie.Need-shared-slice-read-e
-shared-slice-read-e c = omega (arith, c .before .index .ensures, entry-lt (c .before .before), top (c .before .before .before) .pre .0 .long)
+shared-slice-read-e c = omega (arith, c .before .entry-index .ensures, entry-lt (c .before .before), top (c .before .before .before) .pre .0 .long)
 
 add-onward : tie.Need-add-onward
 add-onward c = search needs
@@ -92,7 +95,7 @@ best-partner-requires c κs =
       r .0,
       (
         (
-          omega (arith, c .before .section-after .ensures, after-lt (setsA (x .p)) (x .self .j) (getD (x .table .now) (c .before .before .before .before .index .result) 0) (j-lt d)),
+          omega (arith, c .before .section-after .ensures, after-lt (setsA (x .p)) (x .self .j) (getD (x .table .now) (c .before .before .before .before .entry-index .result) 0) (j-lt d)),
           omega (arith, c .state-at2 .ensures, beside-lt (r .1 .0) (ahead (c .before))),
         ),
         λ i h t. r .0 .well .abstraction .move-bits (x .self .a) i (a-lt d) h t,
@@ -109,7 +112,7 @@ unfolding entry
 ruled-section c =
     let x = top (begun c) .args in
     let j = x .self .j in
-    let i = c .before .before .before .index .ensures
+    let i = c .before .before .before .entry-index .ensures
     ∙ ap (λ (b : ℕ). entryIndex (nC (x .p)) (nA (x .p)) j b (x .self .a)) (c .before .before .before .before .state-at .ensures) in
     c .section-after .ensures ∙ ap (λ (i : ℕ). cond (eqb (getD (x .table .now) i 0) 0) (next (setsA (x .p)) j) j) i
 
@@ -145,7 +148,7 @@ step-spec =
     tie.close
     (tie.spec
     state-at-requires
-    index-requires
+    entry-index-requires
     mul-e
     shared-slice-read-e
     add-onward

@@ -1,9 +1,9 @@
 use mathlib.Core.Path.{sym}
 use native.Mathlib.Omega.{arith}
 use borrow.Author.Needs.{needs}
 use Rattle.machine.specs.StepLaws.{next-wrap, next-step}
-use Rattle.linecheck.proofs.next_section.Statement.{statement}
-use Rattle.linecheck.proofs.next_section.Tie as tie
+use Rattle.machine.proofs.next_section.Statement.{statement}
+use Rattle.machine.proofs.next_section.Tie as tie
 
 add-if1 : tie.Need-add-if1
 add-if1 c = search needs

@@ -1,10 +1,10 @@
 use Prim.Native.Nat.{_+_, _*_, _≤_}
 use mathlib.Core.Path.{refl}
 use native.Mathlib.Omega.{arith}
 use Rattle.machine.specs.Table.{entryIndex}
 use Rattle.machine.specs.RowLaws.{section-room, place-room}
-use Rattle.linecheck.proofs.index.Statement.{statement}
-use Rattle.linecheck.proofs.index.Tie as tie
+use Rattle.machine.proofs.entry_index.Statement.{statement}
+use Rattle.machine.proofs.entry_index.Tie as tie
 
 small : (c : tie.Start) → (c .args .j * c .args .nc ≤ 384) × ((c .args .j * c .args .nc + c .args .c) * c .args .na ≤ 28672)
 small c =
@@ -27,5 +27,5 @@ returns : tie.Need-returns
 unfolding entryIndex
 returns c = refl
 
-pub index-spec : {M : Type 1} → statement M
-index-spec = tie.close (tie.spec mul-result add-result mul-result-2 add-result-2 returns)
+pub entry-index-spec : {M : Type 1} → statement M
+entry-index-spec = tie.close (tie.spec mul-result add-result mul-result-2 add-result-2 returns)
