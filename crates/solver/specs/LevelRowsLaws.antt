@@ -97,10 +97,10 @@ module _ (p : Pair) (w : WellPair p) where
     rising-start = following-start none-rows
 
     module _ {n i : ℕ} {y : List ℕ} (d : Rising p goals n i y) where
-      pub rising-turn : {next : List ℕ} → next ≡ rowsOf (Next (pairsIn p y)) → i < n → sameRows 64 y next ≡ false → Rising p goals n (i + 1) next
+      pub rising-turn : {next : List ℕ} → next ≡ rowsOf (Next (pairsIn p y)) → i < n → sameRows (nC p) y next ≡ false → Rising p goals n (i + 1) next
       rising-turn e h t = following-turn (rows-images p w) Next keeps starts d e h t
 
-      pub rising-stop : {next : List ℕ} → next ≡ rowsOf (Next (pairsIn p y)) → n ≡ pairs p → sameRows 64 y next ≡ true → y ≡ rowsOf (levels p (pairsIn p goals))
+      pub rising-stop : {next : List ℕ} → next ≡ rowsOf (Next (pairsIn p y)) → n ≡ pairs p → sameRows (nC p) y next ≡ true → y ≡ rowsOf (levels p (pairsIn p goals))
       unfolding levels
       rising-stop e z t = rw (← z) (following-stop (rows-images p w) Next keeps starts d e t)
 

@@ -331,13 +331,13 @@ module _ {p : Pair} {matched goals : List ℕ} {l : ℕ} {below part : List ℕ}
     }
 
   -- where the next level is the same, the entries are the ranks
-  pub ranked-stop : {next made : List ℕ} → l < pairs p → LevelRanked p matched goals (l + 1) next made → sameRows 64 below next ≡ true
+  pub ranked-stop : {next made : List ℕ} → l < pairs p → LevelRanked p matched goals (l + 1) next made → sameRows (nC p) below next ≡ true
       → made ≡ sectionUpto p (pairsIn p goals) (pairs p * setsC p)
   ranked-stop {next} {made} hl n t =
       let G : List ℕ = pairsIn p goals in
       let s : sameSet p (level p G l) (level p G (suc l)) ≡ true =
       sym (rows-same p W (level p G l) (level p G (suc l)) (level-canonical p G l) (level-canonical p G (suc l)))
-      ∙ ap₂ (sameRows 64) (sym (d .level-is)) (sym (rw (add-one l) at (n .level-is))) ∙ t in
+      ∙ ap₂ (sameRows (nC p)) (sym (d .level-is)) (sym (rw (add-one l) at (n .level-is))) ∙ t in
       (rw (add-one l) at (n .entries-are)) ∙ section-stays p W G (d .held .only-matched) l hl (same-holds p (level p G l) (level p G (suc l)) s)
 
   pub ranked-out : l ≡ pairs p → part ≡ sectionUpto p (pairsIn p goals) (pairs p * setsC p)

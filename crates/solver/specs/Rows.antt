@@ -67,12 +67,8 @@ unfoldable pub baseRows : List ℕ → List ℕ → List ℕ → List ℕ
 baseRows matched goals steps = table 64 (λ c. bitAnd (getD matched c 0) (bitOr (getD goals c 0) (getD steps c 0)))
 
 -- the matched pairs whose concrete state is outside a set
-unfoldable pub outerRows : List ℕ → ℕ → List ℕ
-outerRows matched members = table 64 (λ c. cond (hasBit members c) 0 (getD matched c 0))
-
--- one round: the base, and the outer pairs that step into X
-unfoldable pub roundRows : List ℕ → List ℕ → List ℕ → List ℕ
-roundRows base outer steps = table 64 (λ c. bitOr (getD base c 0) (bitAnd (getD outer c 0) (getD steps c 0)))
+unfoldable pub outerRows : ℕ → List ℕ → ℕ → List ℕ
+outerRows nC matched members = table 64 (λ c. let row = cond (hasBit members c) 0 (getD matched c 0) in cond (ltb c nC) row 0)
 
 unfoldable pub unionRows : List ℕ → List ℕ → List ℕ
 unionRows x y = table 64 (λ c. bitOr (getD x c 0) (getD y c 0))
@@ -81,14 +77,16 @@ unionRows x y = table 64 (λ c. bitOr (getD x c 0) (getD y c 0))
 unfoldable pub sameRows : ℕ → List ℕ → List ℕ → Bool
 sameRows n x y = every n (λ c. eqb (getD x c 0) (getD y c 0))
 
--- one round over X
+-- one round over X: the base, and the outer pairs that step into X
 unfoldable pub xRound : ℕ → ℕ → List ℕ → List ℕ → List ℕ → List ℕ → List ℕ → List ℕ
-xRound nC nA concrete abstraction base outer x = roundRows base outer (stepRows nC nA concrete abstraction x)
+xRound nC nA concrete abstraction base outer x =
+    let rows = partnerRows nC nA abstraction x in
+    table 64 (λ c. let row = bitOr (getD base c 0) (bitAnd (getD outer c 0) (meetOf nA (getD concrete c 0) rows)) in cond (ltb c nC) row 0)
 
 -- the largest X over a base: rounds from all matched pairs, until nothing changes
 unfoldable pub xRows : ℕ → ℕ → List ℕ → List ℕ → List ℕ → List ℕ → ℕ → List ℕ
 xRows nC nA concrete abstraction matched base members =
-    let outer = outerRows matched members in settle (sameRows 64) (nC * nA) (xRound nC nA concrete abstraction base outer) matched
+    let outer = outerRows nC matched members in settle (sameRows nC) (nC * nA) (xRound nC nA concrete abstraction base outer) matched
 
 -- a set joined with the first k sets X over a base
 unfoldable pub levelRows : ℕ → ℕ → List ℕ → List ℕ → List ℕ → List ℕ → List ℕ → List ℕ → ℕ → List ℕ

@@ -10,7 +10,7 @@ use lib.Dec.{ltb}
 use lib.ListN.{getD, replicate}
 use lib.Bits.{bitAnd, bitOr, and-le-l, or-lt}
 use lib.Pow.{pow-pos}
-use borrow.Author.Tests.{lt-ltb}
+use borrow.Author.Tests.{le-ltb, lt-ltb}
 use Rattle.mask.specs.Logic.{not, and, or}
 use Rattle.mask.specs.LogicLaws.{both, cond-cases, and-true-l, and-true-r, and-false-r, not-i, not-f}
 use Rattle.mask.specs.Bits.{hasBit}
@@ -29,7 +29,7 @@ use Rattle.machine.specs.ObservedLaws.{matched-length, matched-at, row-out, has
 use Rattle.machine.specs.WellFormedLaws.{WellPair}
 use Rattle.machine.specs.Game.{pairSet, mem, sameSet, allMatched, goals, inX, roundX, xOver}
 use Rattle.theory.specs.GameLaws.{Canonical, set-canonical, set-ext, same-of, same-within, same-holds}
-use Rattle.solver.specs.Rows.{rowsOf, pairsIn, partnersOf, partnerRows, meetOf, stepRows, goalRows, baseRows, outerRows, roundRows, unionRows, sameRows, xRound, xRows, stepsOf, roundOf, xOf}
+use Rattle.solver.specs.Rows.{rowsOf, pairsIn, partnersOf, partnerRows, meetOf, stepRows, goalRows, baseRows, outerRows, unionRows, sameRows, xRound, xRows, stepsOf, roundOf, xOf}
 use Rattle.solver.specs.FillLaws.{zeros-at}
 use Rattle.solver.specs.FixLaws.{Images, settle-along}
 use Rattle.solver.specs.RowsLaws.{same-yes, same-at}
@@ -100,6 +100,12 @@ module _ (p : Pair) where
         (λ l. maskOf-is (nA p) (g c) _ (low c l) (λ a q. bits c a l q) ∙ sym (set-row f c l))
         (λ l. past c (omega arith) h ∙ sym (set-past f c (omega arith))))
 
+    -- the same of rows that are zero beyond
+    rows-part : (g : ℕ → ℕ) (f : ℕ → ℕ → Bool) → ((c : ℕ) → c < nC p → g c < 2 ^ nA p)
+        → ((c a : ℕ) → c < nC p → a < nA p → hasBit (g c) a ≡ and (matched p c a) (f c a)) → table 64 (λ c. cond (ltb c (nC p)) (g c) 0) ≡ rowsOf (pairSet p f)
+    rows-part g f low bits = rows-is _ f
+        (λ c h. rw (lt-ltb c (nC p) h) (low c h)) (λ c a hc ha. rw (lt-ltb c (nC p) hc) (bits c a hc ha)) (λ c h l. rw (le-ltb c (nC p) h))
+
     -- the rows of a set: their states, their size, and what lies beyond
     row-bit : (f : ℕ → ℕ → Bool) (c a : ℕ) → c < nC p → a < nA p → hasBit (getD (rowsOf (pairSet p f)) c 0) a ≡ and (matched p c a) (f c a)
     row-bit f c a hc ha = ap (λ (m : ℕ). hasBit m a) (rows-at (pairSet p f) c (wide c hc) ∙ set-row f c hc) ∙ has-maskOf-at (nA p) _ a ha
@@ -114,16 +120,16 @@ module _ (p : Pair) where
     rows-small S q c h = rw q (row-small (mem p S) c h)
 
     -- two sets have the same rows exactly if they are the same
-    pub rows-same : (S R : List ℕ) → Canonical p S → Canonical p R → sameRows 64 (rowsOf S) (rowsOf R) ≡ sameSet p S R
+    pub rows-same : (S R : List ℕ) → Canonical p S → Canonical p R → sameRows (nC p) (rowsOf S) (rowsOf R) ≡ sameSet p S R
     unfolding mem
     rows-same S R qs qr = both _ _
         (λ t. same-of p S R (λ c a hc ha u. ap (λ (m : ℕ). hasBit m a) (sym (equal t c hc)) ∙ u) (λ c a hc ha u. ap (λ (m : ℕ). hasBit m a) (equal t c hc) ∙ u))
-        (λ t. rw (set-ext p S R qs qr (same-within p S R t) (same-holds p S R t)) (same-yes 64 (rowsOf R) (rowsOf R) (λ c h. refl)))
+        (λ t. rw (set-ext p S R qs qr (same-within p S R t) (same-holds p S R t)) (same-yes (nC p) (rowsOf R) (rowsOf R) (λ c h. refl)))
       where
-        equal : sameRows 64 (rowsOf S) (rowsOf R) ≡ true → (c : ℕ) → c < nC p → getD S c 0 ≡ getD R c 0
-        equal t c h = sym (rows-at S c (wide c h)) ∙ same-at 64 (rowsOf S) (rowsOf R) t c (wide c h) ∙ rows-at R c (wide c h)
+        equal : sameRows (nC p) (rowsOf S) (rowsOf R) ≡ true → (c : ℕ) → c < nC p → getD S c 0 ≡ getD R c 0
+        equal t c h = sym (rows-at S c (wide c h)) ∙ same-at (nC p) (rowsOf S) (rowsOf R) t c h ∙ rows-at R c (wide c h)
 
-    pub rows-images : Images (Canonical p) rowsOf (pairsIn p) (sameSet p) (sameRows 64)
+    pub rows-images : Images (Canonical p) rowsOf (pairsIn p) (sameSet p) (sameRows (nC p))
     rows-images = record { reads = set-back; agrees = rows-same }
 
     -- ---- all matched pairs
@@ -195,7 +201,7 @@ module _ (p : Pair) where
       Base = baseRows M goals (stepsOf p below)
 
       abbrev Outer : List ℕ
-      Outer = outerRows M (fairSet (p .concrete) k)
+      Outer = outerRows (nC p) M (fairSet (p .concrete) k)
 
       -- in X whatever X is, and in X if they step into it
       abbrev Always : ℕ → ℕ → Bool
@@ -211,11 +217,10 @@ module _ (p : Pair) where
 
       outer-is : Outer ≡ rowsOf (pairSet p Outside)
       unfolding outerRows inFairSet and not
-      outer-is = rows-is _ Outside
+      outer-is = rows-part _ Outside
           (λ c h. cond-cases (In c) (λ m. m < 2 ^ nA p) 0 (getD M c 0) (λ t. pow-pos (nA p)) (λ t. matched-small p w c h))
           (λ c a hc ha. cond-cases (In c) (λ m. hasBit m a ≡ and (matched p c a) (not (In c))) 0 (getD M c 0)
           (λ t. has-none a ∙ sym (and-false-r (matched p c a) (not-f t))) (λ t. has-M c a hc ha ∙ sym (and-true-r (matched p c a) (not-i t))))
-          (λ c h l. cond-cases (In c) (λ m. m ≡ 0) 0 (getD M c 0) (λ t. refl) (λ t. M-past c h l))
         where
           In : ℕ → Bool
           In = hasBit (fairSet (p .concrete) k)
@@ -224,15 +229,14 @@ module _ (p : Pair) where
       Round = roundOf p Base Outer
 
       round-is : (X : List ℕ) → Canonical p X → Round (rowsOf X) ≡ rowsOf (roundX p (pairsIn p goals) (pairsIn p below) k X)
-      unfolding xRound roundRows roundX inX
-      round-is X q = rw (base-is, outer-is) (rows-is (λ c. bitOr (A c) (bitAnd (O c) (S c))) _
+      unfolding xRound roundX inX
+      round-is X q = rw (base-is, outer-is) (rows-part (λ c. bitOr (A c) (bitAnd (O c) (S c))) _
           (λ c h. or-lt (nA p) _ _ (row-small Always c h) (omega (arith, and-le-l (O c) (S c), row-small Outside c h)))
           (λ c a hc ha.
           has-or a (A c) (bitAnd (O c) (S c))
           ∙ ap₂ or (row-bit Always c a hc ha) (has-and a (O c) (S c) ∙ ap₂ and (row-bit Outside c a hc ha)
-          (has-step (rowsOf X) c a hc ha ∙ ap (λ (R : List ℕ). steps p (mem p R) c a) (set-back X q)))
-          ∙ factor _ _ _ _ _)
-          (λ c h l. let z : bitAnd (O c) (S c) ≡ 0 = omega (arith, and-le-l (O c) (S c), row-past Outside c h l) in ap₂ bitOr (row-past Always c h l) z))
+          (ap (λ (m : ℕ). hasBit m a) (sym (step-row (rowsOf X) c hc)) ∙ has-step (rowsOf X) c a hc ha ∙ ap (λ (R : List ℕ). steps p (mem p R) c a) (set-back X q)))
+          ∙ factor _ _ _ _ _))
         where
           A : ℕ → ℕ
           A c = getD (rowsOf (pairSet p Always)) c 0
@@ -241,12 +245,12 @@ module _ (p : Pair) where
           O c = getD (rowsOf (pairSet p Outside)) c 0
 
           S : ℕ → ℕ
-          S c = getD (stepsOf p (rowsOf X)) c 0
+          S c = meetOf (nA p) (getD (p .concrete .successors) c 0) (partnerRows (nC p) (nA p) (p .abstraction .successors) (rowsOf X))
 
       pub x-rows-is : xOf p M Base k ≡ rowsOf (xOver p (pairsIn p goals) (pairsIn p below) k)
       unfolding xRows xOver roundX allMatched fairSet
       x-rows-is =
-          ap (settle (sameRows 64) (pairs p) Round) matched-rows
+          ap (settle (sameRows (nC p)) (pairs p) Round) matched-rows
           ∙ settle-along rows-images (roundX p (pairsIn p goals) (pairsIn p below) k) (λ X q. set-canonical p _) Round round-is (pairs p) (allMatched p)
           (set-canonical p _)
 

@@ -2,9 +2,9 @@
 use mathlib.Core.List.{List, _++_}
 use mathlib.Core.Logic.{by-cases}
 use mathlib.Core.Path.{_≡_, refl, sym, ap, _∙_}
-use Prim.Native.Nat.{ℕ, suc, _+_, _-_, _*_, _/_, _%_, _≤_, _<_}
+use Prim.Native.Nat.{ℕ, _+_, _-_, _*_, _/_, _%_, _≤_, _<_}
 use native.Mathlib.Decide.{decLt}
-use native.Mathlib.Nat.{mod-lt, div-add-mod', div-lt-iff-lt-mul, mul-le-mul-right, mul-assoc, add-mul}
+use native.Mathlib.Nat.{mod-lt, div-add-mod', div-lt-iff-lt-mul, mul-assoc, add-mul}
 use native.Mathlib.Omega.{arith}
 use lib.ListN.{length, getD, drop, length-append, length-drop, List·getD-append}
 use lib.Seq.{ext-getD, getD-append-add, getD-drop}
@@ -16,7 +16,7 @@ use Rattle.machine.specs.declared.Validity.the-variants.{Valid, Refused}
 use Rattle.machine.specs.Refusals.{refusal, andThen, short-buffer}
 use Rattle.machine.specs.Machines.{nC, nA, setsA, pairs}
 use Rattle.machine.specs.WellFormed.{pairValidity}
-use Rattle.machine.specs.WellFormedLaws.{WellPair, entries-small}
+use Rattle.machine.specs.WellFormedLaws.{WellPair, entries-small, section-fits}
 use Rattle.machine.specs.Table.{entryIndex, entry}
 use Rattle.machine.specs.Ranks.{rank, solverTable}
 use Rattle.machine.specs.Verdict.{bufferValidity, tableRoom}
@@ -66,10 +66,6 @@ module _ (p : Pair) (w : WellPair p) where
       ap (λ (n : ℕ). getD (solverTable p) n 0) (sym e)
       ∙ table-rank p j c a hj (div-lt-iff-lt-mul (w .abstraction .states-low) .1 hi) (mod-lt i (w .abstraction .states-low))
 
-  -- section j lies within a table of 28,672 entries
-  pub section-fits : (j : ℕ) → j < setsA p → j * pairs p + pairs p ≤ 28672
-  section-fits j k = let q : suc j * pairs p ≤ setsA p * pairs p = mul-le-mul-right (pairs p) k in omega (arith, entries-small p w)
-
   module _ {T : List ℕ} where
     pub written-start : Written p T 0 T
     written-start = record { long = refl; done = λ e h. absurd (omega arith); rest = λ e h. refl }
@@ -86,7 +82,7 @@ module _ (p : Pair) (w : WellPair p) where
     }
       where
         fits : a + k ≤ length l
-        fits = omega (arith, section-fits j hj, d .long)
+        fits = omega (arith, section-fits p w j hj, d .long)
 
         long : length ys ≡ k
         long = ap length ey ∙ table-length _ _ ∙ sym ek

@@ -9,7 +9,7 @@ ghost use Prim.Native.Nat.{ℕ, _+_, _*_, _<_, _≤_, _^_};
 ghost use lib.ListN.{length, getD, drop};
 ghost use mathlib.Core.List.{_++_};
 ghost use Rattle.mask.specs.Bits.{hasBit};
-ghost use Rattle.machine.specs.Machines.{next, setsA, pairs};
+ghost use Rattle.machine.specs.Machines.{setsA, pairs};
 ghost use Rattle.machine.specs.Table.{blank};
 ghost use Rattle.machine.specs.Ranks.{solverTable};
 ghost use Rattle.machine.specs.Step.{partner, found, alike};
@@ -19,7 +19,7 @@ ghost use Rattle.mask.specs.Tables.{table};
 ghost use Rattle.machine.specs.Game.{goals, levelOver, levels, turn, family};
 ghost use Rattle.solver.specs.Ranking.{LevelRanked, sectionRanks};
 ghost use Rattle.solver.specs.Solver.{solveValidity, solvedTable};
-ghost use Rattle.solver.specs.Rows.{rowsOf, pairsIn, flatOf, familyIn, partnersOf, partnerRows, meetOf, stepRows, goalRows, baseRows, outerRows, roundRows, unionRows, sameRows, xRows, sectionOf, putSection, without, stampRow, stampRows};
+ghost use Rattle.solver.specs.Rows.{rowsOf, pairsIn, flatOf, familyIn, partnersOf, partnerRows, meetOf, stepRows, goalRows, baseRows, outerRows, xRound, unionRows, sameRows, xRows, sectionOf, putSection, without, stampRow, stampRows};
 use machine::Pair;
 use machine::Partner;
 use machine::Refusal;
@@ -119,12 +119,13 @@ fn base_rows(matched: &[u64; 64], goals: &[u64; 64], steps: &[u64; 64]) -> [u64;
     out
 }
 
-// The matched pairs whose concrete state is outside a set.
-fn outer_rows(matched: &[u64; 64], members: u64) -> [u64; 64]
-    ensures { λ r. ⌜ r ≡ outerRows (now (matched .entry)) members ⌝ }
+// The matched pairs whose concrete state, of nc, is outside a set.
+fn outer_rows(nc: usize, matched: &[u64; 64], members: u64) -> [u64; 64]
+    requires { ⌜ nc ≤ 64 ⌝ }
+    ensures { λ r. ⌜ r ≡ outerRows nc (now (matched .entry)) members ⌝ }
 {
     let mut out = [0u64; 64];
-    for c in 0..64 {
+    for c in 0..nc {
         if !mask::has(members, c) {
             out[c] = matched[c];
         }
@@ -132,13 +133,25 @@ fn outer_rows(matched: &[u64; 64], members: u64) -> [u64; 64]
     out
 }
 
-// One round of X: its base, and the outer pairs that step into it.
-fn round_rows(base: &[u64; 64], outer: &[u64; 64], steps: &[u64; 64]) -> [u64; 64]
-    ensures { λ r. ⌜ r ≡ roundRows (now (base .entry)) (now (outer .entry)) (now (steps .entry)) ⌝ }
+// One round of X: its base, and the outer pairs that step into it. Rows of steps are not kept: small machines would wait for
+// their copies.
+fn x_round(
+    nc: usize,
+    na: usize,
+    concrete: &[u64; 64],
+    abstraction: &[u64; 64],
+    base: &[u64; 64],
+    outer: &[u64; 64],
+    x: &[u64; 64],
+) -> [u64; 64]
+    requires { ⌜ (nc ≤ 64) × (na ≤ 64) ⌝ }
+    ensures { λ r. ⌜ r ≡ xRound nc na (now (concrete .entry)) (now (abstraction .entry)) (now (base .entry)) (now (outer .entry)) (now (x .entry)) ⌝ }
 {
+    let rows = partner_rows(nc, na, abstraction, x);
     let mut out = [0u64; 64];
-    for c in 0..64 {
-        out[c] = base[c] | (outer[c] & steps[c]);
+    for c in 0..nc {
+        let steps = meet(na, concrete[c], &rows);
+        out[c] = base[c] | (outer[c] & steps);
     }
     out
 }
@@ -154,11 +167,12 @@ fn union_rows(x: &[u64; 64], y: &[u64; 64]) -> [u64; 64]
     out
 }
 
-// Whether two sets have the same rows.
-fn same_rows(x: &[u64; 64], y: &[u64; 64]) -> bool
-    ensures { λ r. ⌜ r ≡ sameRows 64 (now (x .entry)) (now (y .entry)) ⌝ }
+// Whether two sets have the same rows below nc.
+fn same_rows(nc: usize, x: &[u64; 64], y: &[u64; 64]) -> bool
+    requires { ⌜ nc ≤ 64 ⌝ }
+    ensures { λ r. ⌜ r ≡ sameRows nc (now (x .entry)) (now (y .entry)) ⌝ }
 {
-    for c in 0..64 {
+    for c in 0..nc {
         if x[c] != y[c] {
             return false;
         }
@@ -179,12 +193,11 @@ fn x_rows(
     requires { ⌜ (nc ≤ 64) × (na ≤ 64) ⌝ }
     ensures { λ r. ⌜ r ≡ xRows nc na (now (concrete .entry)) (now (abstraction .entry)) (now (matched .entry)) (now (base .entry)) members ⌝ }
 {
-    let outer = outer_rows(matched, members);
+    let outer = outer_rows(nc, matched, members);
     let mut x = *matched;
     for _ in 0..nc * na {
-        let steps = step_rows(nc, na, concrete, abstraction, &x);
-        let next = round_rows(base, &outer, &steps);
-        if same_rows(&x, &next) {
+        let next = x_round(nc, na, concrete, abstraction, base, &outer, &x);
+        if same_rows(nc, &x, &next) {
             return x;
         }
         x = next;
@@ -236,7 +249,7 @@ fn levels(p: Pair, matched: &[u64; 64], goals: &[u64; 64]) -> [u64; 64]
     let mut y = [0u64; 64];
     for _ in 0..nc * na {
         let next = level(p, matched, goals, &y);
-        if same_rows(&y, &next) {
+        if same_rows(nc, &y, &next) {
             return y;
         }
         y = next;
@@ -245,14 +258,6 @@ fn levels(p: Pair, matched: &[u64; 64], goals: &[u64; 64]) -> [u64; 64]
 }
 
 // ---- Families
-
-// The section after j: after the last comes the first.
-fn next_section(n: usize, j: usize) -> usize
-    requires { ⌜ j < n ⌝ }
-    ensures { λ r. ⌜ r ≡ next n j ⌝ }
-{
-    if j + 1 == n { 0 } else { j + 1 }
-}
 
 // The set of section j.
 fn section(family: &[u64; 448], j: usize) -> [u64; 64]
@@ -289,7 +294,8 @@ fn goals(p: Pair, matched: &[u64; 64], family: &[u64; 448], j: usize) -> [u64; 6
     let concrete_moves = concrete.successors;
     let abstract_moves = abstraction.successors;
     let sets = abstraction.fairness;
-    let set = section(family, next_section(n, j));
+    let next = machine::next_section(n, j);
+    let set = section(family, next);
     let steps = step_rows(nc, na, &concrete_moves, &abstract_moves, &set);
     goal_rows(matched, sets[j], &steps)
 }
@@ -461,7 +467,7 @@ fn rank_section(p: Pair, matched: &[u64; 64], largest: &[u64; 448], j: usize, pa
     stamp(nc, na, &g, &y, 0, part);
     for l in 0..nc * na {
         let next = rank_level(p, matched, &g, &y, l, part);
-        if same_rows(&y, &next) {
+        if same_rows(nc, &y, &next) {
             return;
         }
         y = next;

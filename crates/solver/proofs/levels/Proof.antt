@@ -37,7 +37,7 @@ level-requires : tie.Need-level-requires Inv-loop μ-loop
 level-requires c κs = c .before .before .before .before .before .pre
 
 same-rows-requires : tie.Need-same-rows-requires Inv-loop μ-loop
-same-rows-requires c κs = search needs
+same-rows-requires c κs = well (entry (c .before .before .before .before .before)) .concrete .states-high
 
 returns : tie.Need-returns Inv-loop μ-loop
 returns c =

@@ -8,15 +8,15 @@ use borrow.Author.Tests.{not-true, not-false}
 use borrow.Author.Needs.{needs}
 use Rattle.mask.specs.Bits.{hasBit}
 use Rattle.solver.specs.Rows.{outerRows}
-use Rattle.solver.specs.FillLaws.{Filled, filled-none, filled-more, filled-skip, filled-all}
+use Rattle.solver.specs.FillLaws.{Filled, filled-none, filled-more, filled-skip, filled-part}
 use Rattle.solver.proofs.outer_rows.Statement.{statement}
 use Rattle.solver.proofs.outer_rows.Tie as tie
 
 abbrev Inv-loop : tie.InvT-loop
-Inv-loop matched members out₀ c₀ out c = (c ≤ 64) × Filled 64 (λ k. cond (hasBit members k) 0 (getD matched k 0)) c out
+Inv-loop nc matched members out₀ c₀ out c = (c ≤ nc) × Filled 64 (λ k. cond (hasBit members k) 0 (getD matched k 0)) c out
 
 abbrev μ-loop : tie.MeasureT-loop
-μ-loop matched members out₀ c₀ out c = 64 - c
+μ-loop nc matched members out₀ c₀ out c = nc - c
 
 loop-holds : tie.Need-loop-holds Inv-loop μ-loop
 loop-holds c = (omega arith, filled-none)
@@ -56,7 +56,7 @@ loop-again c =
 
 returns : tie.Need-returns Inv-loop μ-loop
 unfolding outerRows
-returns c = filled-all (omega arith) (c .before .loop .inv .1)
+returns c = filled-part (omega arith) (c .before .loop .inv .1)
 
 pub outer-rows-spec : {M : Type 1} → statement M
 outer-rows-spec =

@@ -4,9 +4,9 @@ use native.Mathlib.Omega.{arith}
 use lib.ListN.{length}
 use borrow.Author.Needs.{needs}
 use Rattle.machine.specs.Machines.{pairs}
-use Rattle.machine.specs.WellFormedLaws.{WellPair, well-pair, pairs-small}
+use Rattle.machine.specs.WellFormedLaws.{WellPair, well-pair, pairs-small, section-fits}
 use Rattle.solver.specs.StampLaws.{cut-long}
-use Rattle.solver.specs.SolverLaws.{Written, written-start, section-fits, written-turn, written-done}
+use Rattle.solver.specs.SolverLaws.{Written, written-start, written-turn, written-done}
 use Rattle.solver.proofs.rank_all.Statement.{statement}
 use Rattle.solver.proofs.rank_all.Tie as tie
 

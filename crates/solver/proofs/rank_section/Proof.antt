@@ -74,7 +74,7 @@ rank-level-requires : tie.Need-rank-level-requires Inv-loop μ-loop
 rank-level-requires c κs = (c .before .before .before .before .loop .inv .2, c .before .before .before .loop-test .taken)
 
 same-rows-requires : tie.Need-same-rows-requires Inv-loop μ-loop
-same-rows-requires c κs = search needs
+same-rows-requires c κs = well (entry (made (c .before .before .before .before .before .before .before .before .before))) .concrete .states-high
 
 same-length : tie.Need-same-length Inv-loop μ-loop
 same-length c = let b = c .before in ranked-length (next b .rank-level .ensures) ∙ sym (entry (made (inside b .before)) .pre .1 .1 .1)

@@ -9,10 +9,10 @@ use Rattle.solver.proofs.same_rows.Statement.{statement}
 use Rattle.solver.proofs.same_rows.Tie as tie
 
 abbrev Inv-loop : tie.InvT-loop
-Inv-loop x y c₀ c = (c ≤ 64) × ((k : ℕ) → k < c → getD x k 0 ≡ getD y k 0)
+Inv-loop nc x y c₀ c = (c ≤ nc) × ((k : ℕ) → k < c → getD x k 0 ≡ getD y k 0)
 
 abbrev μ-loop : tie.MeasureT-loop
-μ-loop x y c₀ c = 64 - c
+μ-loop nc x y c₀ c = nc - c
 
 loop-holds : tie.Need-loop-holds Inv-loop μ-loop
 loop-holds c = (omega arith, below-none _)
@@ -33,7 +33,7 @@ returns : tie.Need-returns Inv-loop μ-loop
 returns c =
     let x = c .before .before .before .before .before .args in
     let l = c .before .before .before .before .loop in
-    sym (same-no 64 (x .x .now) (x .y .now) (l .c) (omega arith) (c .if1 .taken))
+    sym (same-no (x .nc) (x .x .now) (x .y .now) (l .c) (omega arith) (c .if1 .taken))
 
 add-c : tie.Need-add-c Inv-loop μ-loop
 add-c c = search needs
@@ -47,7 +47,7 @@ loop-again c = (omega arith, below-more _ _ (c .before .before .before .before .
 returns-2 : tie.Need-returns-2 Inv-loop μ-loop
 returns-2 c =
     let x = c .before .before .args in
-    sym (same-yes 64 (x .x .now) (x .y .now) (λ k h. c .before .loop .inv .1 k (omega arith)))
+    sym (same-yes (x .nc) (x .x .now) (x .y .now) (λ k h. c .before .loop .inv .1 k (omega arith)))
 
 pub same-rows-spec : {M : Type 1} → statement M
 same-rows-spec =
