@@ -2,6 +2,8 @@
 pub mod Numbers
 pub mod Lines
 pub mod Runs
+pub mod Lifting
+pub mod Ranking
 -- laws
 pub mod FillLaws
 pub mod NumbersLaws
@@ -9,3 +11,5 @@ pub mod MachineLaws
 pub mod TargetLaws
 pub mod RunLaws
 pub mod ScanLaws
+pub mod LiftingLaws
+pub mod RankingLaws

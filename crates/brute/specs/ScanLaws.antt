@@ -33,7 +33,7 @@ use Rattle.machine.specs.declared.Partner.the-variants.{Nobody, State}
 use Rattle.machine.specs.declared.Refusal.{Refusal}
 use Rattle.machine.specs.declared.Validity.the-variants.{Refused, Valid}
 use Rattle.brute.specs.Runs.{playedPlain}
-use Rattle.machine.specs.Player.{Played, played, refused}
+use Rattle.machine.specs.Player.{played, refused}
 
 -- the best of the states below n that pass q, and what a later one has to stay below
 pub record Scanned (q : ℕ → Bool) (key : ℕ → ℕ) (n : ℕ) (best : Partner) (limit : ℕ) : Type 0 where

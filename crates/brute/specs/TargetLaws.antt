@@ -3,7 +3,7 @@ use mathlib.Core.Bool.{Bool, false, true}
 use mathlib.Core.List.{List}
 use mathlib.Core.Path.{_∙_, _≡_, ap, refl, sym}
 use Prim.Native.Nat.{_*_, _+_, _-_, _/_, _<_, _≤_, ℕ}
-use native.Mathlib.Nat.{add-mod-right, div-eq-of-lt, div-eq-sub-div, le-trans, mod-eq-of-lt, mul-le-mul-left, mul-le-mul-right}
+use native.Mathlib.Nat.{add-mod-right, div-eq-of-lt, div-eq-sub-div, mod-eq-of-lt}
 use native.Mathlib.Numerals.{add-one}
 use native.Mathlib.Omega.{arith}
 use lib.Dec.{T}
@@ -23,6 +23,7 @@ use Rattle.machine.specs.Table.{blank, covers, entry}
 use Rattle.machine.specs.Verdict.{bufferValidity, checkVerdict, linesVerdict, orElse, refused, startCovered, startVerdict, tableRoom}
 use Rattle.machine.specs.WellFormed.{pairValidity}
 use Rattle.machine.specs.WellFormedLaws.{WellPair}
+use Rattle.machine.specs.WellFormedLaws.{mul-bound}
 use Rattle.machine.specs.declared.Pair.{Pair}
 use Rattle.machine.specs.declared.Refusal.{Refusal}
 use Rattle.machine.specs.declared.Validity.the-variants.{Refused, Valid}
@@ -54,9 +55,6 @@ unfolding setOf
 set-one m r h k = mod-eq-of-lt (omega arith)
 
 -- ---- the place of an entry
-pub mul-bound : (a b m n : ℕ) → a ≤ m → b ≤ n → a * b ≤ m * n
-mul-bound a b m n p q = le-trans (mul-le-mul-right b p) (mul-le-mul-left m q)
-
 pub place-small : (p : Pair) → WellPair p → (j c : ℕ) → j < 7 → c < 256 → (j * nC p ≤ 384) × ((j * nC p + c) * nA p ≤ 40896)
 place-small p w j c hj hc =
     let s : j * nC p ≤ 6 * 64 = mul-bound j (nC p) 6 64 (omega arith) (w .concrete .states-high) in
@@ -186,7 +184,7 @@ module _ (p : Pair) (T : List ℕ) where
   verdict-short h = rw (lt-ltb _ _ h)
 
   module _ (h : tableRoom ≤ length T) where
-    room-valid : bufferValidity tableRoom (length T) ≡ Valid
+    pub room-valid : bufferValidity tableRoom (length T) ≡ Valid
     unfolding bufferValidity
     room-valid = rw (le-ltb _ _ h)
 

@@ -1,22 +1,28 @@
 // A brute-force version of solver, check and player, for tests: plain loops over all states, no walks of masks, no masks of pairs. It shares
 // the machines and the meaning of a bit with the product, and nothing else.
 mod lassos;
+mod lifting;
 mod lines;
 mod machines;
 mod numbers;
+mod ranking;
 mod runs;
 
 pub use lassos::is_play;
 pub use lassos::same_until;
+pub use lifting::lift;
 pub use lines::Verdict;
 pub use lines::plain_verdict;
+pub use lines::value_at;
 pub use machines::validity;
 pub use numbers::Shape;
 pub use numbers::digit;
+pub use numbers::entry_of;
 pub use numbers::machine_of;
 pub use numbers::pair_of;
 pub use numbers::put_entries;
 pub use numbers::put_states;
+pub use ranking::is_ranked;
 pub use runs::Played;
 pub use runs::is_run;
 pub use runs::plain_play;

@@ -5,7 +5,7 @@ ghost use Prim.Native.Nat.{_*_, _<_, _≤_};
 ghost use lib.ListN.{getD};
 ghost use Rattle.mask.specs.Bounded.{every, first, someIn};
 ghost use Rattle.mask.specs.Logic.{not};
-ghost use Rattle.machine.specs.Machines.{successors, next, nC, nA, setsA, setsC};
+ghost use Rattle.machine.specs.Machines.{successors, nC, nA, setsA};
 ghost use Rattle.machine.specs.WellFormed.{wellFormed};
 ghost use Rattle.machine.specs.Step.{steps};
 ghost use Rattle.machine.specs.Ranks.{levelOf, setOf};
@@ -30,7 +30,7 @@ pub enum Verdict {
 }
 
 // The entries that a line steps into: those that are not blank, those that are 0 or have a smaller l, those that are at most a number.
-enum Target {
+pub enum Target {
     NonBlank,
     Lower(usize),
     AtMost(u16),
@@ -114,7 +114,7 @@ fn finds(p: Pair, table: &[u16], t: Target, j: usize, d: usize, a: usize) -> boo
 }
 
 // Whether (c, a) steps into the entries of section j that the line asks for.
-fn steps_into(p: Pair, table: &[u16], t: Target, j: usize, c: usize, a: usize) -> bool
+pub fn steps_into(p: Pair, table: &[u16], t: Target, j: usize, c: usize, a: usize) -> bool
     requires { ⌜ (wellFormed p ≡ true) × (j < 7) ⌝ }
     ensures { λ r. ⌜ r ≡ steps p (inTarget p (now (table .entry)) t j) c a ⌝ }
 {
@@ -129,16 +129,8 @@ fn steps_into(p: Pair, table: &[u16], t: Target, j: usize, c: usize, a: usize) -
     true
 }
 
-// The section after j of n.
-pub fn next_section(n: usize, j: usize) -> usize
-    requires { ⌜ j < n ⌝ }
-    ensures { λ r. ⌜ r ≡ next n j ⌝ }
-{
-    if j + 1 < n { j + 1 } else { 0 }
-}
-
 // Entry 0: a is in set j, and the pair steps into the non-blank pairs of the next section.
-fn goal_holds(p: Pair, table: &[u16], j: usize, c: usize, a: usize) -> bool
+pub fn goal_holds(p: Pair, table: &[u16], j: usize, c: usize, a: usize) -> bool
     requires { ⌜ (wellFormed p ≡ true) × (j < setsA p) ⌝ }
     ensures { λ r. ⌜ r ≡ goalLine p (now (table .entry)) j c a ⌝ }
 {
@@ -150,7 +142,7 @@ fn goal_holds(p: Pair, table: &[u16], j: usize, c: usize, a: usize) -> bool
         p,
         table,
         Target::NonBlank,
-        next_section(abstraction.sets, j),
+        machine::next_section(abstraction.sets, j),
         c,
         a,
     )

@@ -83,7 +83,7 @@ pub fn pair_of(concrete: Shape, abstraction: Shape, x: u64, y: u64) -> Pair
 }
 
 // The entry that a digit stands for: blank for 0, and else one less.
-fn entry_of(d: u16) -> u16
+pub fn entry_of(d: u16) -> u16
     ensures { λ r. ⌜ r ≡ entryOf d ⌝ }
 {
     if d == 0 { 65535 } else { d - 1 }

@@ -17,7 +17,6 @@ use crate::lassos::lasso_fits;
 use crate::lassos::moment_at;
 use crate::lines::entry_at;
 use crate::lines::lines;
-use crate::lines::next_section;
 use crate::machines::is_matched;
 use crate::machines::successors_of;
 use crate::machines::validity;
@@ -76,7 +75,7 @@ fn section_after(p: Pair, table: &[u16], c: usize, at: Spot) -> usize
 {
     let abstraction = p.abstraction;
     if entry_at(p, table, at.section, c, at.state) == 0 {
-        next_section(abstraction.sets, at.section)
+        machine::next_section(abstraction.sets, at.section)
     } else {
         at.section
     }

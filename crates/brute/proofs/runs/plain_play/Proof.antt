@@ -8,11 +8,10 @@ use Rattle.machine.specs.Lassos.{moment}
 use Rattle.machine.specs.Lines.{linesValidity}
 use Rattle.machine.specs.Player.{lassoValidity, lastRound, startPartner}
 use Rattle.machine.specs.WellFormed.{pairValidity}
-use Rattle.machine.specs.WellFormedLaws.{valid-is-well}
+use Rattle.machine.specs.WellFormedLaws.{mul-bound, valid-is-well}
 use Rattle.machine.specs.declared.Validity.the-variants.{Valid}
 use Rattle.brute.specs.Runs.{lassoOf, playedOf}
 use Rattle.brute.specs.ScanLaws.{played-alone, played-fail, played-ill, played-run, played-unfit, valid-length}
-use Rattle.brute.specs.TargetLaws.{mul-bound}
 use Rattle.brute.proofs.runs.plain_play.Statement.{statement}
 use Rattle.brute.proofs.runs.plain_play.Tie as tie
 

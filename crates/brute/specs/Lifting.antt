@@ -1,0 +1,54 @@
+-- Lifting: a table is raised from 0 until each line passes.
+use mathlib.Core.Bool.{Bool, cond}
+use mathlib.Core.List.{List}
+use Prim.Native.Nat.{ℕ, zero, suc, _+_, _*_, _/_, _%_}
+use lib.ListN.{length, getD, set}
+use lib.Dec.{ltb}
+use Rattle.mask.specs.Tables.{table}
+use Rattle.machine.specs.declared.Pair.{Pair}
+use Rattle.machine.specs.declared.Validity.{Validity}
+use Rattle.machine.specs.declared.Validity.the-variants.{Valid, Refused}
+use Rattle.machine.specs.Machines.{nA, setsC, pairs}
+use Rattle.machine.specs.Refusals.{andThen}
+use Rattle.machine.specs.WellFormed.{pairValidity}
+use Rattle.machine.specs.Table.{blank, entries}
+use Rattle.machine.specs.Lines.{passes, passesEach}
+use Rattle.machine.specs.Verdict.{bufferValidity, tableRoom}
+
+-- the entry after r: one more, and blank after the greatest rank
+unfoldable pub raised : ℕ → ℕ → ℕ
+raised most r = cond (ltb r most) (r + 1) blank
+
+-- the first n entries 0
+unfoldable pub zeroed : ℕ → List ℕ → List ℕ
+zeroed n T = table (length T) (λ e. cond (ltb e n) 0 (getD T e 0))
+
+module _ (p : Pair) where
+  -- entry number e passes its line
+  unfoldable pub entryPasses : ℕ → List ℕ → Bool
+  entryPasses e T = passes p T (e / pairs p) (e % pairs p / nA p) (e % nA p)
+
+  -- entry number e raised where it fails
+  unfoldable pub liftedAt : ℕ → List ℕ → List ℕ
+  liftedAt e T = cond (entryPasses e T) T (set T e (raised (setsC p * pairs p) (getD T e 0)))
+
+  -- the first n entries, one after the other
+  unfoldable pub swept : ℕ → List ℕ → List ℕ
+  swept zero T = T
+  swept (suc n) T = liftedAt n (swept n T)
+
+  -- swept until each line passes, at most n times
+  unfoldable pub lifted : ℕ → List ℕ → List ℕ
+  lifted zero T = T
+  lifted (suc n) T = let later = lifted n (swept (entries p) T) in cond (passesEach p T) T later
+
+-- the answer where nothing is refused, and else T
+unfoldable pub unlessRefused : Validity → List ℕ → List ℕ → List ℕ
+unlessRefused Valid T S = S
+unlessRefused (Refused r) T S = T
+
+-- the lifted table, laid over the front of T
+unfoldable pub liftedTable : Pair → List ℕ → List ℕ
+liftedTable p T =
+    unlessRefused (andThen (bufferValidity tableRoom (length T)) (pairValidity p)) T
+    (lifted p (entries p * (setsC p * pairs p + 2)) (zeroed (entries p) T))

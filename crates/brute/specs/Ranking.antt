@@ -1,0 +1,68 @@
+-- Ranks by trying every set of pairs. T is a table that tells what is covered, j a section; pair number e is (e / nA, e % nA).
+use mathlib.Core.Bool.{Bool, cond}
+use mathlib.Core.List.{List}
+use Prim.Native.Nat.{ℕ, zero, suc, _+_, _*_, _/_, _%_, min}
+use lib.ListN.{length, getD, replicate}
+use lib.Dec.{eqb}
+use Rattle.mask.specs.Bits.{hasBit, fullMask}
+use Rattle.mask.specs.Bounded.{every, everyIn}
+use Rattle.mask.specs.Logic.{not, and, or}
+use Rattle.mask.specs.Tables.{table}
+use Rattle.machine.specs.declared.Pair.{Pair}
+use Rattle.machine.specs.Machines.{inFairSet, matched, nA, setsC, setsA, pairs}
+use Rattle.machine.specs.WellFormed.{wellFormed}
+use Rattle.machine.specs.Step.{steps}
+use Rattle.machine.specs.Table.{blank}
+use Rattle.machine.specs.Lines.{goalLine}
+use Rattle.brute.specs.declared.lines.Target.the-variants.{NonBlank, AtMost}
+use Rattle.brute.specs.Lines.{inTarget}
+use Rattle.brute.specs.Numbers.{numbered}
+
+-- rank r for the pairs of set number x that have none yet
+unfoldable pub marked : ℕ → ℕ → List ℕ → List ℕ
+marked x r R = table (length R) (λ e. cond (and (hasBit x e) (eqb (getD R e 0) blank)) r (getD R e 0))
+
+-- no pair has a rank
+abbrev pub unranked : List ℕ
+unranked = replicate 64 blank
+
+module _ (p : Pair) where
+  -- the set whose number is x, as a table: 0 for its pairs, and else blank
+  unfoldable pub asTable : ℕ → List ℕ
+  asTable x = numbered 1 x (pairs p) unranked
+
+  module _ (T : List ℕ) (j : ℕ) where
+    -- "a goal, or steps into level l − 1, or has c outside rig set k and steps into X": level l − 1 has the entries of R that are at
+    -- most `low`, X those of S that are not blank
+    unfoldable pub keeps : List ℕ → ℕ → ℕ → List ℕ → ℕ → ℕ → Bool
+    keeps R low k S c a =
+        and (matched p c a)
+        (or (goalLine p T j c a)
+        (or (steps p (inTarget p R (AtMost low) 0) c a)
+        (and (not (inFairSet (p .concrete) k c)) (steps p (inTarget p S NonBlank 0) c a))))
+
+    -- each pair of set number x meets the rule of X(l, k), where i + 1 = (l − 1) × m + k
+    unfoldable pub closed : List ℕ → ℕ → ℕ → Bool
+    closed R i x = everyIn (pairs p) x (λ e. keeps R (i / setsC p * setsC p) (i % setsC p) (asTable x) (e / nA p) (e % nA p))
+
+    -- the greatest number up to x of such a set
+    unfoldable pub largest : List ℕ → ℕ → ℕ → ℕ
+    largest R i zero = 0
+    largest R i (suc x) = let less = largest R i x in cond (closed R i (suc x)) (suc x) less
+
+    -- the pairs of the first n sets X(1, 1), .., X(1, m), X(2, 1), .. have their ranks
+    unfoldable pub ranked : ℕ → List ℕ → List ℕ
+    ranked zero R = R
+    ranked (suc i) R = let before = ranked i R in marked (largest before i (fullMask (min (pairs p) 64))) (suc i) before
+
+    -- the rank of pair number e: "0 for a goal"
+    unfoldable pub rankOf : List ℕ → ℕ → ℕ
+    rankOf R e = cond (and (matched p (e / nA p) (e % nA p)) (goalLine p T j (e / nA p) (e % nA p))) 0 (getD R e 0)
+
+  -- section j of table S has the ranks
+  unfoldable pub sectionRanked : List ℕ → List ℕ → ℕ → Bool
+  sectionRanked T S j = let R = ranked T j (setsC p * pairs p) unranked in every (pairs p) (λ e. eqb (rankOf T j R e) (getD S (j * pairs p + e) 0))
+
+  -- the machines are well formed and table S has the ranks
+  unfoldable pub tableRanked : List ℕ → List ℕ → Bool
+  tableRanked T S = and (wellFormed p) (every (setsA p) (sectionRanked T S))

@@ -1,0 +1,163 @@
+-- Laws of ranks that are found by trying every set: the rule case by case, and what a turn of each loop does.
+use mathlib.Core.Bool.{Bool, cond, false, true}
+use mathlib.Core.List.{List}
+use mathlib.Core.Path.{_∙_, _≡_, refl, sym}
+use Prim.Native.Nat.{_%_, _*_, _+_, _-_, _/_, _<_, _≤_, min, suc, zero, ℕ}
+use native.Mathlib.Numerals.{add-one}
+use native.Mathlib.Omega.{arith}
+use lib.Dec.{eqb}
+use lib.ListN.{getD, length, set}
+use borrow.Author.Count.{below-more}
+use borrow.Author.Tests.{eq-eqb, ne-eqb}
+use Rattle.mask.specs.Bits.{fullMask, hasBit}
+use Rattle.mask.specs.BoundedLaws.{every-not, every-of, everyIn-at, everyIn-of}
+use Rattle.mask.specs.Logic.{and}
+use Rattle.mask.specs.LogicLaws.{and-false-l, and-false-r, and-i, and-true-l, clash, not-f, not-i, or-false-l, or-l, or-r, refute}
+use Rattle.mask.specs.TablesLaws.{fill-done}
+use Rattle.machine.specs.Lines.{goalLine}
+use Rattle.machine.specs.Machines.{inFairSet, matched, nA, pairs, setsA, setsC}
+use Rattle.machine.specs.Step.{steps}
+use Rattle.machine.specs.Table.{blank}
+use Rattle.machine.specs.WellFormed.{isValid, pairValidity, wellFormed}
+use Rattle.machine.specs.declared.Pair.{Pair}
+use Rattle.machine.specs.declared.Refusal.{Refusal}
+use Rattle.machine.specs.declared.Validity.the-variants.{Refused}
+use Rattle.brute.specs.FillLaws.{Overlaying, overlaying-step}
+use Rattle.brute.specs.Lines.{inTarget}
+use Rattle.brute.specs.Numbers.{numbered}
+use Rattle.brute.specs.Ranking.{asTable, closed, keeps, largest, marked, rankOf, ranked, sectionRanked, tableRanked, unranked}
+use Rattle.brute.specs.declared.lines.Target.the-variants.{AtMost, NonBlank}
+
+-- ---- one rank is given to a set
+module _ (x r : ℕ) (R : List ℕ) where
+  -- what becomes of entry e
+  abbrev pub mark-at : ℕ → ℕ
+  mark-at e = cond (and (hasBit x e) (eqb (getD R e 0) blank)) r (getD R e 0)
+
+  module _ {i : ℕ} {l : List ℕ} (d : Overlaying R mark-at i l) (h : i < length R) {v : List ℕ} where
+    pub mark-store : v ≡ set l i r → hasBit x i ≡ true → getD l i 0 ≡ blank → Overlaying R mark-at (i + 1) v
+    mark-store z t e =
+        let b : and (hasBit x i) (eqb (getD R i 0) blank) ≡ true = and-i t (eq-eqb _ _ (sym (d .kept i (omega arith)) ∙ e)) in
+        rw z (overlaying-step r d h (rw b))
+
+    mark-keep : v ≡ l → and (hasBit x i) (eqb (getD R i 0) blank) ≡ false → Overlaying R mark-at (i + 1) v
+    mark-keep z b = rw z (record {
+      at-most = omega arith;
+      size = d .size;
+      done = below-more (λ k. getD l k 0 ≡ mark-at k) i (d .done) (rw b (d .kept i (omega arith)));
+      kept = λ k q. d .kept k (omega arith);
+    })
+
+    pub mark-outside : v ≡ l → hasBit x i ≡ false → Overlaying R mark-at (i + 1) v
+    mark-outside z t = mark-keep z (and-false-l _ t)
+
+    pub mark-ranked : v ≡ l → (getD l i 0 ≡ blank → ⊥) → Overlaying R mark-at (i + 1) v
+    mark-ranked z n = mark-keep z (and-false-r _ (ne-eqb _ _ (λ e. n (d .kept i (omega arith) ∙ e))))
+
+  pub mark-done : {i : ℕ} {l : List ℕ} → Overlaying R mark-at i l → length R ≤ i → l ≡ marked x r R
+  unfolding marked
+  mark-done {i} {l} d h = fill-done 0 (length R) l mark-at (d .size) (λ k q. d .done k (omega arith))
+
+module _ (p : Pair) (T : List ℕ) (j : ℕ) where
+  -- ---- the rule of X(l, k)
+  module _ (R : List ℕ) (low k : ℕ) (S : List ℕ) (c a : ℕ) where
+    pub keeps-unmatched : matched p c a ≡ false → keeps p T j R low k S c a ≡ false
+    unfolding keeps
+    keeps-unmatched t = and-false-l _ t
+
+    module _ (m : matched p c a ≡ true) where
+      pub keeps-goal : goalLine p T j c a ≡ true → keeps p T j R low k S c a ≡ true
+      unfolding keeps
+      keeps-goal t = and-i m (or-l _ t)
+
+      pub keeps-lower : steps p (inTarget p R (AtMost low) 0) c a ≡ true → keeps p T j R low k S c a ≡ true
+      unfolding keeps
+      keeps-lower t = and-i m (or-r _ (or-l _ t))
+
+      module _ (g : goalLine p T j c a ≡ false) (l : steps p (inTarget p R (AtMost low) 0) c a ≡ false) where
+        pub keeps-inside : inFairSet (p .concrete) k c ≡ true → keeps p T j R low k S c a ≡ false
+        unfolding keeps
+        keeps-inside t = and-true-l _ m ∙ or-false-l _ g ∙ or-false-l _ l ∙ and-false-l _ (not-f t)
+
+        pub keeps-outside : inFairSet (p .concrete) k c ≡ false → keeps p T j R low k S c a ≡ steps p (inTarget p S NonBlank 0) c a
+        unfolding keeps
+        keeps-outside t = and-true-l _ m ∙ or-false-l _ g ∙ or-false-l _ l ∙ and-true-l _ (not-i t)
+
+  -- ---- the sets that meet it, and the largest of them
+  module _ (R : List ℕ) (i : ℕ) where
+    -- pair number e meets the rule over a set
+    abbrev pub kept-at : List ℕ → ℕ → Bool
+    kept-at S e = keeps p T j R (i / setsC p * setsC p) (i % setsC p) S (e / nA p) (e % nA p)
+
+    -- S is set number x as a table
+    module _ (x : ℕ) {S : List ℕ} (s : S ≡ numbered 1 x (pairs p) unranked) where
+      pub closed-not : (e : ℕ) → e < pairs p → hasBit x e ≡ true → kept-at S e ≡ false → closed p T j R i x ≡ false
+      unfolding closed asTable
+      closed-not e h t k = refute _ (λ u. clash (rw (← s) k) (everyIn-at (pairs p) x _ u e h t))
+
+      pub closed-all : ((e : ℕ) → e < pairs p → hasBit x e ≡ true → kept-at S e ≡ true) → closed p T j R i x ≡ true
+      unfolding closed asTable
+      closed-all h = rw (← s) (everyIn-of (pairs p) x _ h)
+
+    pub largest-found : (x : ℕ) → 0 < x → closed p T j R i x ≡ true → largest p T j R i x ≡ x
+    unfolding largest
+    largest-found zero h t = absurd (omega arith)
+    largest-found (suc x) h t = rw t
+
+    pub largest-less : (x : ℕ) → 0 < x → closed p T j R i x ≡ false → largest p T j R i (x - 1) ≡ largest p T j R i x
+    unfolding largest
+    largest-less zero h t = absurd (omega arith)
+    largest-less (suc x) h t = let e : suc x - 1 ≡ x = omega arith in rw (e, t)
+
+    pub largest-none : (x : ℕ) → x ≤ 0 → largest p T j R i x ≡ 0
+    unfolding largest
+    largest-none zero h = refl
+    largest-none (suc x) h = absurd (omega arith)
+
+  -- ---- ranks one after the other
+  pub ranked-start : (R : List ℕ) → R ≡ ranked p T j 0 R
+  unfolding ranked
+  ranked-start R = refl
+
+  pub ranked-step : (R₀ R : List ℕ) (i x : ℕ) → R ≡ ranked p T j i R₀ → x ≡ largest p T j R i (fullMask (min (pairs p) 64)) → marked x (i + 1) R ≡ ranked p T j (i + 1) R₀
+  unfolding ranked
+  ranked-step R₀ R i x e f = rw (f, e, add-one)
+
+  -- ---- the rank of a pair
+  module _ (R : List ℕ) (e : ℕ) where
+    pub rank-goal : matched p (e / nA p) (e % nA p) ≡ true → goalLine p T j (e / nA p) (e % nA p) ≡ true → rankOf p T j R e ≡ 0
+    unfolding rankOf
+    rank-goal t g = rw (and-i t g)
+
+    pub rank-unmatched : matched p (e / nA p) (e % nA p) ≡ false → rankOf p T j R e ≡ getD R e 0
+    unfolding rankOf
+    rank-unmatched t = let b : and (matched p (e / nA p) (e % nA p)) (goalLine p T j (e / nA p) (e % nA p)) ≡ false = and-false-l _ t in rw b
+
+    pub rank-entry : goalLine p T j (e / nA p) (e % nA p) ≡ false → rankOf p T j R e ≡ getD R e 0
+    unfolding rankOf
+    rank-entry g = let b : and (matched p (e / nA p) (e % nA p)) (goalLine p T j (e / nA p) (e % nA p)) ≡ false = and-false-r _ g in rw b
+
+-- ---- the ranks of a section
+-- R has the ranks that were found
+module _ (p : Pair) (T S : List ℕ) (j : ℕ) {R : List ℕ} (r : R ≡ ranked p T j (setsC p * pairs p) unranked) where
+  pub section-not : (e : ℕ) → e < pairs p → (rankOf p T j R e ≡ getD S (j * pairs p + e) 0 → ⊥) → sectionRanked p T S j ≡ false
+  unfolding sectionRanked
+  section-not e h n = rw (← r) (every-not (pairs p) _ e h (ne-eqb _ _ n))
+
+  pub section-all : ((e : ℕ) → e < pairs p → rankOf p T j R e ≡ getD S (j * pairs p + e) 0) → sectionRanked p T S j ≡ true
+  unfolding sectionRanked
+  section-all h = rw (← r) (every-of (pairs p) _ (λ e l. eq-eqb _ _ (h e l)))
+
+-- ---- the ranks of a table
+module _ (p : Pair) (T S : List ℕ) where
+  pub table-ill : (r : Refusal) → pairValidity p ≡ Refused r → tableRanked p T S ≡ false
+  unfolding tableRanked wellFormed isValid
+  table-ill r e = and-false-l _ (rw e)
+
+  pub table-not : (j : ℕ) → j < setsA p → sectionRanked p T S j ≡ false → tableRanked p T S ≡ false
+  unfolding tableRanked
+  table-not j h t = and-false-r _ (every-not (setsA p) _ j h t)
+
+  pub table-all : wellFormed p ≡ true → ((j : ℕ) → j < setsA p → sectionRanked p T S j ≡ true) → tableRanked p T S ≡ true
+  unfolding tableRanked
+  table-all w h = and-i w (every-of (setsA p) _ h)

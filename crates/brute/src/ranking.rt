@@ -1,0 +1,168 @@
+// A solver by another algorithm, second half: ranks. X(l, k) is found by trying every set of pairs, from the largest number down, and no
+// iteration. It takes what is covered from a lifted table, and at most 64 pairs.
+ghost use mathlib.Core.Bool.{true};
+ghost use mathlib.Core.Path.{_≡_};
+ghost use Prim.Native.Nat.{_*_, _<_, min};
+ghost use Rattle.mask.specs.Bits.{fullMask};
+ghost use Rattle.machine.specs.Machines.{pairs, setsA, setsC};
+ghost use Rattle.machine.specs.WellFormed.{wellFormed};
+ghost use Rattle.brute.specs.Ranking.{keeps, closed, largest, marked, ranked, rankOf, sectionRanked, tableRanked};
+use crate::lines::Target;
+use crate::lines::goal_holds;
+use crate::lines::steps_into;
+use crate::lines::value_at;
+use crate::machines::in_set;
+use crate::machines::is_matched;
+use crate::machines::validity;
+use crate::numbers::put_entries;
+use machine::Pair;
+use machine::Validity;
+
+// Whether (c, a) meets the rule of X(l, k) over a set that is given as a table: it is a goal, or steps into level l - 1, whose entries in
+// `ranks` are at most `low`, or has c outside set k and steps into the set.
+fn is_kept(
+    p: Pair,
+    lifted: &[u16],
+    j: usize,
+    ranks: &[u16],
+    low: u16,
+    k: usize,
+    set: &[u16],
+    c: usize,
+    a: usize,
+) -> bool
+    requires { ⌜ (wellFormed p ≡ true) × (j < setsA p) ⌝ }
+    ensures { λ r. ⌜ r ≡ keeps p (now (lifted .entry)) j (now (ranks .entry)) low k (now (set .entry)) c a ⌝ }
+{
+    if !is_matched(p, c, a) {
+        return false;
+    }
+    if goal_holds(p, lifted, j, c, a) {
+        return true;
+    }
+    if steps_into(p, ranks, Target::AtMost(low), 0, c, a) {
+        return true;
+    }
+    if in_set(p.concrete, k, c) {
+        return false;
+    }
+    steps_into(p, set, Target::NonBlank, 0, c, a)
+}
+
+// Whether each pair of set number x meets the rule of X(l, k) over it; rank number i + 1 is that of l and k.
+fn is_closed(p: Pair, lifted: &[u16], j: usize, ranks: &[u16], i: usize, x: u64) -> bool
+    requires { ⌜ (wellFormed p ≡ true) × ((j < setsA p) × (i < setsC p * pairs p)) ⌝ }
+    ensures { λ r. ⌜ r ≡ closed p (now (lifted .entry)) j (now (ranks .entry)) i x ⌝ }
+{
+    let concrete = p.concrete;
+    let abstraction = p.abstraction;
+    let pairs = concrete.states * abstraction.states;
+    let low = i / concrete.sets * concrete.sets;
+    let k = i % concrete.sets;
+    let mut set = [65535u16; 64];
+    put_entries(x, 1, pairs, &mut set);
+    for e in 0..pairs {
+        if mask::has(x, e) {
+            let c = e / abstraction.states;
+            let a = e % abstraction.states;
+            if !is_kept(p, lifted, j, ranks, low as u16, k, &set, c, a) {
+                return false;
+            }
+        }
+    }
+    true
+}
+
+// The number of the largest such set: the greatest number, as the union of such sets is one.
+fn largest_set(p: Pair, lifted: &[u16], j: usize, ranks: &[u16], i: usize) -> u64
+    requires { ⌜ (wellFormed p ≡ true) × ((j < setsA p) × (i < setsC p * pairs p)) ⌝ }
+    ensures { λ r. ⌜ r ≡ largest p (now (lifted .entry)) j (now (ranks .entry)) i (fullMask (min (pairs p) 64)) ⌝ }
+{
+    let concrete = p.concrete;
+    let abstraction = p.abstraction;
+    let mut x = mask::full(concrete.states * abstraction.states);
+    while x > 0 {
+        if is_closed(p, lifted, j, ranks, i, x) {
+            return x;
+        }
+        x -= 1;
+    }
+    0
+}
+
+// Gives rank r to the pairs of set number x that have none yet.
+fn mark(x: u64, r: u16, ranks: &mut [u16])
+    ensures { λ _. ⌜ now (ranks .exit) ≡ marked x r (now (ranks .entry)) ⌝ }
+{
+    for e in 0..ranks.len() {
+        if mask::has(x, e) {
+            if ranks[e] == 65535 {
+                ranks[e] = r;
+            }
+        }
+    }
+}
+
+// Gives each pair of section j the least rank whose X(l, k) has it, goals included.
+fn rank_pairs(p: Pair, lifted: &[u16], j: usize, ranks: &mut [u16])
+    requires { ⌜ (wellFormed p ≡ true) × (j < setsA p) ⌝ }
+    ensures { λ _. ⌜ now (ranks .exit) ≡ ranked p (now (lifted .entry)) j (setsC p * pairs p) (now (ranks .entry)) ⌝ }
+{
+    let concrete = p.concrete;
+    let abstraction = p.abstraction;
+    for i in 0..concrete.sets * (concrete.states * abstraction.states) {
+        let x = largest_set(p, lifted, j, ranks, i);
+        mark(x, (i + 1) as u16, ranks);
+    }
+}
+
+// The rank of pair number e in section j, 0 for a goal.
+fn rank_of(p: Pair, lifted: &[u16], j: usize, ranks: &[u16], e: usize) -> u16
+    requires { ⌜ (wellFormed p ≡ true) × (j < setsA p) ⌝ }
+    ensures { λ r. ⌜ r ≡ rankOf p (now (lifted .entry)) j (now (ranks .entry)) e ⌝ }
+{
+    let abstraction = p.abstraction;
+    let c = e / abstraction.states;
+    let a = e % abstraction.states;
+    if is_matched(p, c, a) {
+        if goal_holds(p, lifted, j, c, a) {
+            return 0;
+        }
+    }
+    value_at(ranks, e)
+}
+
+// Whether section j of a table has the ranks.
+fn section_ranked(p: Pair, lifted: &[u16], j: usize, table: &[u16]) -> bool
+    requires { ⌜ (wellFormed p ≡ true) × (j < setsA p) ⌝ }
+    ensures { λ r. ⌜ r ≡ sectionRanked p (now (lifted .entry)) (now (table .entry)) j ⌝ }
+{
+    let concrete = p.concrete;
+    let abstraction = p.abstraction;
+    let pairs = concrete.states * abstraction.states;
+    let mut ranks = [65535u16; 64];
+    rank_pairs(p, lifted, j, &mut ranks);
+    for e in 0..pairs {
+        if rank_of(p, lifted, j, &ranks, e) != value_at(table, j * pairs + e) {
+            return false;
+        }
+    }
+    true
+}
+
+// Whether a table has the ranks of two well-formed machines, where the lifted table tells what is covered.
+pub fn is_ranked(p: Pair, lifted: &[u16], table: &[u16]) -> bool
+    ensures { λ r. ⌜ r ≡ tableRanked p (now (lifted .entry)) (now (table .entry)) ⌝ }
+{
+    let abstraction = p.abstraction;
+    let valid = validity(p);
+    if let Validity::Refused(_) = valid {
+        return false;
+    }
+    for j in 0..abstraction.sets {
+        if !section_ranked(p, lifted, j, table) {
+            return false;
+        }
+    }
+    true
+}
