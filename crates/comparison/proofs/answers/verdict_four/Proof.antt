@@ -1,0 +1,45 @@
+use Rattle.brute.specs.Lines.{verdictOf}
+use Rattle.comparison.specs.Answers.{verdictFour}
+use borrow.Author.Needs.{needs}
+use Rattle.comparison.proofs.answers.verdict_four.Statement.{statement}
+use Rattle.comparison.proofs.answers.verdict_four.Tie as tie
+
+enum-known-v : tie.Need-enum-known-v
+enum-known-v c = search needs
+
+four-requires : tie.Need-four-requires
+four-requires c κs = search needs
+
+enum-known-v-2 : tie.Need-enum-known-v-2
+enum-known-v-2 c = search needs
+
+four-requires-2 : tie.Need-four-requires-2
+four-requires-2 c κs = search needs
+
+enum-known-v-3 : tie.Need-enum-known-v-3
+enum-known-v-3 c = search needs
+
+returns : tie.Need-returns
+unfolding verdictOf verdictFour
+returns c = rw (c .before .before .v .given .1) (c .four .ensures)
+
+returns-2 : tie.Need-returns-2
+unfolding verdictOf verdictFour
+returns-2 c = rw (c .before .before .v2 .given .1) (c .four2 .ensures)
+
+returns-3 : tie.Need-returns-3
+unfolding verdictOf verdictFour
+returns-3 c = rw (c .before .v3 .given .1)
+
+pub verdict-four-spec : {M : Type 1} → statement M
+verdict-four-spec =
+    tie.close
+    (tie.spec
+    enum-known-v
+    four-requires
+    enum-known-v-2
+    four-requires-2
+    enum-known-v-3
+    returns
+    returns-2
+    returns-3)

@@ -1,0 +1,48 @@
+use Rattle.comparison.specs.LassosLaws.{tally-is}
+use borrow.Author.Needs.{needs}
+use Rattle.comparison.proofs.lassos.compare_lasso.Statement.{statement}
+use Rattle.comparison.proofs.lassos.compare_lasso.Tie as tie
+
+slice-aggregate-play : tie.Need-slice-aggregate-play
+slice-aggregate-play c = search needs
+
+play-requires : tie.Need-play-requires
+play-requires c κs = search needs
+
+played-four-requires : tie.Need-played-four-requires
+played-four-requires c κs = search needs
+
+plain-play-requires : tie.Need-plain-play-requires
+plain-play-requires c κs = search needs
+
+plain-played-four-requires : tie.Need-plain-played-four-requires
+plain-played-four-requires c κs = search needs
+
+slice-aggregate-lasso-agrees : tie.Need-slice-aggregate-lasso-agrees
+slice-aggregate-lasso-agrees c = search needs
+
+lasso-agrees-requires : tie.Need-lasso-agrees-requires
+lasso-agrees-requires c κs = search needs
+
+of-lasso-requires : tie.Need-of-lasso-requires
+of-lasso-requires c κs = search needs
+
+returns : tie.Need-returns
+returns c =
+    let played = c .before .before .before .before .before .before .before .before .play .ensures in
+    tally-is _ _ _ _ _ _ _ _ _ _ (played .1) (played .0) (c .before .before .before .before .before .plain-play .ensures) (c .before .before .before .before .before .before .played-four .ensures)
+    (c .before .before .before .before .plain-played-four .ensures) (c .before .lasso-agrees .ensures) (c .of-lasso .ensures)
+
+pub compare-lasso-spec : {M : Type 1} → statement M
+compare-lasso-spec =
+    tie.close
+    (tie.spec
+    slice-aggregate-play
+    play-requires
+    played-four-requires
+    plain-play-requires
+    plain-played-four-requires
+    slice-aggregate-lasso-agrees
+    lasso-agrees-requires
+    of-lasso-requires
+    returns)

@@ -1,0 +1,65 @@
+use Rattle.comparison.specs.PairsLaws.{solved-well, pair-refused, pair-formed}
+use borrow.Author.Needs.{needs}
+use Rattle.comparison.proofs.pairs.compare_pair.Statement.{statement}
+use Rattle.comparison.proofs.pairs.compare_pair.Tie as tie
+
+slice-aggregate-solve : tie.Need-slice-aggregate-solve
+slice-aggregate-solve c = search needs
+
+solve-requires : tie.Need-solve-requires
+solve-requires c κs = search needs
+
+validity-requires : tie.Need-validity-requires
+validity-requires c κs = search needs
+
+validity-four-requires : tie.Need-validity-four-requires
+validity-four-requires c κs = search needs
+
+validity-four-requires-2 : tie.Need-validity-four-requires-2
+validity-four-requires-2 c κs = search needs
+
+same-four-requires : tie.Need-same-four-requires
+same-four-requires c κs = search needs
+
+of-pair-requires : tie.Need-of-pair-requires
+of-pair-requires c κs = search needs
+
+enum-told : tie.Need-enum-told
+enum-told c = search needs
+
+enum-told-2 : tie.Need-enum-told-2
+enum-told-2 c = search needs
+
+slice-aggregate-compare-formed : tie.Need-slice-aggregate-compare-formed
+slice-aggregate-compare-formed c = search needs
+
+compare-formed-requires : tie.Need-compare-formed-requires
+compare-formed-requires c κs = solved-well _ _ _ (c .before .before .before .before .before .before .before .before .before .solve .ensures .0) (c .before .enum-told2 .given .1)
+
+add-requires : tie.Need-add-requires
+add-requires c κs = search needs
+
+returns : tie.Need-returns
+returns c = pair-refused _ _ _ _ _ _ _ _ (c .before .before .before .before .before .before .before .before .solve .ensures .0) (c .before .before .before .before .before .before .validity .ensures) (c .before .before .before .before .before .validity-four .ensures) (c .before .before .before .before .validity-four2 .ensures) (c .before .before .before .same-four .ensures) (c .before .before .of-pair .ensures) _ (c .enum-told .given .1)
+
+returns-2 : tie.Need-returns-2
+returns-2 c = pair-formed _ _ _ _ _ _ _ _ (c .before .before .before .before .before .before .before .before .before .before .before .solve .ensures .0) (c .before .before .before .before .before .before .before .before .before .validity .ensures) (c .before .before .before .before .before .before .before .before .validity-four .ensures) (c .before .before .before .before .before .before .before .validity-four2 .ensures) (c .before .before .before .before .before .before .same-four .ensures) (c .before .before .before .before .before .of-pair .ensures) (c .before .before .before .enum-told2 .given .1) _ _ _ (c .before .before .before .before .before .before .before .before .before .before .before .solve .ensures .1) (c .before .compare-formed .ensures) (c .add .ensures)
+
+pub compare-pair-spec : {M : Type 1} → statement M
+compare-pair-spec =
+    tie.close
+    (tie.spec
+    slice-aggregate-solve
+    solve-requires
+    validity-requires
+    validity-four-requires
+    validity-four-requires-2
+    same-four-requires
+    of-pair-requires
+    enum-told
+    enum-told-2
+    slice-aggregate-compare-formed
+    compare-formed-requires
+    add-requires
+    returns
+    returns-2)

@@ -1,0 +1,69 @@
+-- All that is compared of a pair, and of a series of pairs.
+use mathlib.Core.Bool.{Bool, cond}
+use mathlib.Core.List.{List}
+use Prim.Native.Nat.{ℕ, _+_, _*_}
+use lib.ListN.{length}
+use lib.Dec.{eqb}
+use Rattle.mask.specs.Logic.{not, and, or}
+use Rattle.machine.specs.declared.Pair.{Pair}
+use Rattle.machine.specs.declared.Validity.{Validity}
+use Rattle.machine.specs.declared.Validity.the-variants.{Valid, Refused}
+use Rattle.machine.specs.Machines.{nC, setsC, pairs}
+use Rattle.machine.specs.WellFormed.{pairValidity}
+use Rattle.machine.specs.Table.{entries}
+use Rattle.solver.specs.Solver.{solveValidity, solvedTable}
+use Rattle.brute.specs.Numbers.{pairOf}
+use Rattle.brute.specs.Lifting.{liftedTable}
+use Rattle.brute.specs.Ranking.{tableRanked}
+use Rattle.comparison.specs.declared.pairs.Series.{Series}
+use Rattle.comparison.specs.declared.tally.Tally.{Tally}
+use Rattle.comparison.specs.Answers.{validityFour, sameFour}
+use Rattle.comparison.specs.Tallies.{plus, total, ofPair, ofSolution}
+use Rattle.comparison.specs.Tables.{zeros, within, tableTally, tableOf}
+use Rattle.comparison.specs.Lassos.{lassosTally}
+
+-- the solver's table passes, and where every table was tried, it is Carried exactly if some table is
+unfoldable pub verdictFits : Tally → Bool → ℕ → Bool
+verdictFits own every carrying =
+    and (not (eqb (own .passing) 0)) (or (not every) (cond (eqb (own .carrying) 0) (eqb carrying 0) (not (eqb carrying 0))))
+
+-- what is said of the solver's table S fits, and it covers what the lifted table L covers, and no more, and has the ranks
+unfoldable pub solutionAgrees : Pair → ℕ → Bool → List ℕ → List ℕ → Bool
+solutionAgrees p n fits L S = and fits (and (within n L S) (and (within n S L) (tableRanked p L S)))
+
+-- the solver's table S of n entries beside the other algorithm's
+unfoldable pub solutionTally : Pair → ℕ → Bool → ℕ → List ℕ → Tally
+solutionTally p n every carrying S =
+    let own = tableTally p n S S in
+    ofSolution (own .carrying) (solutionAgrees p n (verdictFits own every carrying) (liftedTable p zeros) S)
+
+-- a further count, where nothing is refused
+unfoldable pub plusUnless : Validity → Tally → Tally → Tally
+plusUnless Valid x y = plus x y
+plusUnless (Refused r) x y = x
+
+module _ (s : Series) where
+  -- the tables of a pair, S being the solver's
+  unfoldable pub tablesTally : Pair → List ℕ → Tally
+  tablesTally p S = total (s .tables) (λ x. tableTally p (entries p) S (tableOf (s .every) (setsC p * pairs p + 2) (entries p) S x zeros))
+
+  -- a well-formed pair
+  unfoldable pub formedTally : Pair → List ℕ → Tally
+  formedTally p S =
+      let tables = tablesTally p S in
+      plus (plus tables (solutionTally p (entries p) (s .every) (tables .carrying) S)) (lassosTally p S (nC p) (s .stem))
+
+  -- any pair
+  unfoldable pub pairTally : Pair → Tally
+  pairTally p =
+      let v = solveValidity p (length zeros) in
+      let tried = ofPair (sameFour (validityFour v) (validityFour (pairValidity p))) in
+      plusUnless v tried (formedTally p (solvedTable p zeros))
+
+  -- the pairs of concrete machine number x
+  unfoldable pub rowTally : ℕ → Tally
+  rowTally x = total (s .abstractions .count) (λ i. pairTally (pairOf (s .concrete) (s .abstraction) x (i * s .abstractions .step)))
+
+  -- all pairs of the series
+  unfoldable pub seriesTally : Tally
+  seriesTally = total (s .concretes .count) (λ i. rowTally (i * s .concretes .step))

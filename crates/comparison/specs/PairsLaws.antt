@@ -1,0 +1,109 @@
+-- Laws of what is compared of a pair, case by case.
+use mathlib.Core.Bool.{Bool, false, true}
+use mathlib.Core.List.{List}
+use mathlib.Core.Path.{_≡_, _∙_, ap, sym}
+use Prim.Native.Nat.{ℕ, _+_, _*_}
+use lib.ListN.{length}
+use lib.Dec.{eqb}
+use borrow.Author.Tests.{eq-eqb, ne-eqb}
+use Rattle.mask.specs.Logic.{not}
+use Rattle.mask.specs.LogicLaws.{and-false-l, and-i, and-true-l, not-f, not-i, or-false-l, or-l}
+use Rattle.machine.specs.declared.Pair.{Pair}
+use Rattle.machine.specs.declared.Refusal.{Refusal}
+use Rattle.machine.specs.declared.Validity.{Validity}
+use Rattle.machine.specs.declared.Validity.the-variants.{Valid, Refused}
+use Rattle.machine.specs.Machines.{nC, setsC, pairs}
+use Rattle.machine.specs.Table.{entries}
+use Rattle.machine.specs.WellFormed.{pairValidity, wellFormed}
+use Rattle.machine.specs.WellFormedLaws.{then-valid, valid-is-well}
+use Rattle.solver.specs.Solver.{solveValidity, solvedTable}
+use Rattle.brute.specs.Numbers.{pairOf}
+use Rattle.comparison.specs.declared.pairs.Series.{Series}
+use Rattle.comparison.specs.Answers.{validityFour, sameFour}
+use Rattle.comparison.specs.Lassos.{lassosTally}
+use Rattle.comparison.specs.declared.tally.Tally.{Tally}
+use Rattle.brute.specs.Lifting.{liftedTable}
+use Rattle.brute.specs.Ranking.{tableRanked}
+use Rattle.comparison.specs.Pairs.{verdictFits, solutionAgrees, solutionTally, tablesTally, formedTally, plusUnless, pairTally, rowTally, seriesTally}
+use Rattle.comparison.specs.Tables.{zeros, within, tableTally, tableOf}
+use Rattle.comparison.specs.Tallies.{plus, total, ofPair, ofSolution}
+
+module _ (own : Tally) (every : Bool) (carrying : ℕ) where
+  pub fits-refused : own .passing ≡ 0 → verdictFits own every carrying ≡ false
+  unfolding verdictFits
+  fits-refused e = and-false-l _ (not-f (eq-eqb _ 0 e))
+
+  module _ (h : own .passing ≡ 0 → ⊥) where
+    pub fits-some : every ≡ false → verdictFits own every carrying ≡ true
+    unfolding verdictFits
+    fits-some t = and-i (not-i (ne-eqb _ 0 h)) (or-l _ (not-i t))
+
+    module _ (t : every ≡ true) where
+      pub fits-none : own .carrying ≡ 0 → verdictFits own every carrying ≡ eqb carrying 0
+      unfolding verdictFits
+      fits-none e = and-true-l _ (not-i (ne-eqb _ 0 h)) ∙ or-false-l _ (not-f t) ∙ rw (eq-eqb _ 0 e)
+
+      pub fits-carried : (own .carrying ≡ 0 → ⊥) → verdictFits own every carrying ≡ not (eqb carrying 0)
+      unfolding verdictFits
+      fits-carried e = and-true-l _ (not-i (ne-eqb _ 0 h)) ∙ or-false-l _ (not-f t) ∙ rw (ne-eqb _ 0 e)
+
+module _ (p : Pair) (n : ℕ) (fits : Bool) (L S : List ℕ) where
+  pub agrees-unfit : fits ≡ false → solutionAgrees p n fits L S ≡ false
+  unfolding solutionAgrees
+  agrees-unfit t = and-false-l _ t
+
+  module _ (f : fits ≡ true) where
+    pub agrees-more : within n L S ≡ false → solutionAgrees p n fits L S ≡ false
+    unfolding solutionAgrees
+    agrees-more t = and-true-l _ f ∙ and-false-l _ t
+
+    module _ (w : within n L S ≡ true) where
+      pub agrees-less : within n S L ≡ false → solutionAgrees p n fits L S ≡ false
+      unfolding solutionAgrees
+      agrees-less t = and-true-l _ f ∙ and-true-l _ w ∙ and-false-l _ t
+
+      pub agrees-ranked : within n S L ≡ true → solutionAgrees p n fits L S ≡ tableRanked p L S
+      unfolding solutionAgrees
+      agrees-ranked t = and-true-l _ f ∙ and-true-l _ w ∙ and-true-l _ t
+
+module _ (p : Pair) (n : ℕ) (every : Bool) (carrying : ℕ) (S : List ℕ) where
+  pub solution-is : (own : Tally) (fits : Bool) (L : List ℕ) (agrees : Bool) (r : Tally) → own ≡ tableTally p n S S → fits ≡ verdictFits own every carrying
+      → L ≡ liftedTable p zeros → agrees ≡ solutionAgrees p n fits L S → r ≡ ofSolution (own .carrying) agrees → r ≡ solutionTally p n every carrying S
+  unfolding solutionTally
+  solution-is own fits L agrees r eo ef el ea er = rw (er, ea, el, ef, eo)
+
+module _ (s : Series) (p : Pair) (S : List ℕ) where
+  pub formed-is : (tables solution lassos first r : Tally)
+      → tables ≡ total (s .tables) (λ x. tableTally p (entries p) S (tableOf (s .every) (setsC p * pairs p + 2) (entries p) S x zeros))
+      → solution ≡ solutionTally p (entries p) (s .every) (tables .carrying) S → lassos ≡ lassosTally p S (nC p) (s .stem)
+      → first ≡ plus tables solution → r ≡ plus first lassos → r ≡ formedTally s p S
+  unfolding formedTally tablesTally
+  formed-is tables solution lassos first r et es el ef er = rw (er, ef, el, es, et)
+
+pub solved-well : (p : Pair) (n : ℕ) (v : Validity) → v ≡ solveValidity p n → v ≡ Valid → wellFormed p ≡ true
+unfolding solveValidity
+solved-well p n v ev e = valid-is-well p (then-valid _ _ (sym ev ∙ e) .1)
+
+-- a pair, with the solver's answer v, the plain one u, and the table S that the solver left
+module _ (s : Series) (p : Pair) (v u : Validity) (x y : Refusal) (same : Bool) (tried : Tally) (ev : v ≡ solveValidity p (length zeros)) (eu : u ≡ pairValidity p) (ex : x ≡ validityFour v)
+    (ey : y ≡ validityFour u) (es : same ≡ sameFour x y) (et : tried ≡ ofPair same) where
+  pair-at : pairTally s p ≡ plusUnless v tried (formedTally s p (solvedTable p zeros))
+  unfolding pairTally
+  pair-at = rw (et, es, ey, ex, eu, ev)
+
+  pub pair-refused : (r : Refusal) → v ≡ Refused r → tried ≡ pairTally s p
+  unfolding plusUnless
+  pair-refused r e = sym (pair-at ∙ rw e)
+
+  pub pair-formed : v ≡ Valid → (S : List ℕ) (formed r : Tally) → S ≡ solvedTable p zeros → formed ≡ formedTally s p S → r ≡ plus tried formed → r ≡ pairTally s p
+  unfolding plusUnless
+  pair-formed e S formed r eS ef er = rw (er, ef, eS) (sym (pair-at ∙ rw e))
+
+module _ (s : Series) where
+  pub row-is : (x n : ℕ) (r : Tally) → n ≡ s .abstractions .count → r ≡ total n (λ i. pairTally s (pairOf (s .concrete) (s .abstraction) x (i * s .abstractions .step))) → r ≡ rowTally s x
+  unfolding rowTally
+  row-is x n r e er = er ∙ ap (λ k. total k (λ i. pairTally s (pairOf (s .concrete) (s .abstraction) x (i * s .abstractions .step)))) e
+
+  pub series-is : (n : ℕ) (r : Tally) → n ≡ s .concretes .count → r ≡ total n (λ i. rowTally s (i * s .concretes .step)) → r ≡ seriesTally s
+  unfolding seriesTally
+  series-is n r e er = er ∙ ap (λ k. total k (λ i. rowTally s (i * s .concretes .step))) e

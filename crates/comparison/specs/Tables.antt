@@ -1,0 +1,42 @@
+-- The check beside the plain reading, on numbered tables.
+use mathlib.Core.Bool.{Bool, cond}
+use mathlib.Core.List.{List}
+use Prim.Native.Nat.{ℕ, _+_, _/_, _%_}
+use lib.ListN.{length, getD, replicate}
+use lib.Dec.{eqb, leb, ltb}
+use Rattle.mask.specs.Bounded.{every}
+use Rattle.mask.specs.Logic.{not, and, or}
+use Rattle.mask.specs.Tables.{table}
+use Rattle.machine.specs.declared.Pair.{Pair}
+use Rattle.machine.specs.declared.Refusal.{Refusal}
+use Rattle.machine.specs.Table.{blank}
+use Rattle.machine.specs.Verdict.{checkVerdict}
+use Rattle.brute.specs.Numbers.{entryOf, numbered}
+use Rattle.comparison.specs.declared.tally.Tally.{Tally}
+use Rattle.comparison.specs.Answers.{verdictFour, sameFour}
+use Rattle.comparison.specs.Tallies.{ofTable}
+
+-- a table or a run's buffer, as it is lent
+abbrev pub zeros : List ℕ
+zeros = replicate 28672 0
+
+-- of n entries, S covers each that T covers
+unfoldable pub within : ℕ → List ℕ → List ℕ → Bool
+within n T S = every n (λ e. or (eqb (getD T e 0) blank) (not (eqb (getD S e 0) blank)))
+
+-- two answers about T are the same, and S covers it if it passes
+unfoldable pub tableAgrees : ℕ → Refusal → Refusal → List ℕ → List ℕ → Bool
+tableAgrees n x y S T = and (sameFour x y) (or (ltb (x .number) 100) (within n T S))
+
+-- one table T of n entries, S being the solver's; the contracts of check and plain reading have the same answer
+unfoldable pub tableTally : Pair → ℕ → List ℕ → List ℕ → Tally
+tableTally p n S T = let v = verdictFour (checkVerdict p T) in ofTable (leb 100 (v .number)) (eqb (v .number) 100) (tableAgrees n v v S T)
+
+-- the n entries of S, entry x / (top + 1) changed to what digit x % (top + 1) stands for, laid over the front of T
+unfoldable pub altered : ℕ → ℕ → ℕ → List ℕ → List ℕ → List ℕ
+altered top x n S T =
+    table (length T) (λ e. cond (ltb e n) (cond (eqb e (x / (top + 1))) (entryOf (x % (top + 1))) (getD S e 0)) (getD T e 0))
+
+-- table number x: one of all tables, or S with one entry changed
+unfoldable pub tableOf : Bool → ℕ → ℕ → List ℕ → ℕ → List ℕ → List ℕ
+tableOf every top n S x T = cond every (numbered top x n T) (altered top x n S T)

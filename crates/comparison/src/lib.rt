@@ -1,0 +1,11 @@
+// Solver, check and player beside their brute-force versions, on series of small pairs. What is compared is counted, and so is what differs.
+mod answers;
+mod lassos;
+mod pairs;
+mod tables;
+mod tally;
+
+pub use pairs::Numbers;
+pub use pairs::Series;
+pub use pairs::compare;
+pub use tally::Tally;

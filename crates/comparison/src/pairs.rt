@@ -1,0 +1,139 @@
+// All that is compared of a pair, and of a series of pairs.
+ghost use mathlib.Core.Bool.{true};
+ghost use mathlib.Core.Path.{_≡_};
+ghost use Rattle.machine.specs.WellFormed.{wellFormed};
+ghost use Rattle.comparison.specs.Pairs.{verdictFits, solutionAgrees, solutionTally, formedTally, pairTally, rowTally, seriesTally};
+use crate::answers::same_four;
+use crate::answers::validity_four;
+use crate::lassos::compare_lassos;
+use crate::tables::compare_table;
+use crate::tables::compare_tables;
+use crate::tables::is_within;
+use crate::tally::Tally;
+use crate::tally::add;
+use crate::tally::none;
+use crate::tally::of_pair;
+use crate::tally::of_solution;
+use brute::Shape;
+use machine::Pair;
+use machine::Validity;
+
+// The numbers 0, step, 2 x step, .., so many of them.
+pub struct Numbers {
+    pub count: u32,
+    pub step: u32,
+}
+
+// The pairs of some concrete and some abstract machines. Tables: the first `tables` of all tables, or of the solver's with one entry changed.
+// Lassos: those with a stem of at most `stem` states.
+pub struct Series {
+    pub concrete: Shape,
+    pub concretes: Numbers,
+    pub abstraction: Shape,
+    pub abstractions: Numbers,
+    pub every: bool,
+    pub tables: u64,
+    pub stem: usize,
+}
+
+// Whether the solver's table, whose own count is given, passes each line; and where every table was tried, whether it is Carried exactly
+// if some table is.
+fn verdict_fits(own: Tally, every: bool, carrying: u64) -> bool
+    ensures { λ r. ⌜ r ≡ verdictFits own every carrying ⌝ }
+{
+    if own.passing == 0 {
+        return false;
+    }
+    if !every {
+        return true;
+    }
+    if own.carrying == 0 {
+        carrying == 0
+    } else {
+        carrying != 0
+    }
+}
+
+// Whether what is said of the solver's table fits, and it covers what the lifted one covers, and no more, and has the ranks.
+fn solution_agrees(p: Pair, n: usize, fits: bool, lifted: &[u16], solved: &[u16]) -> bool
+    ensures { λ r. ⌜ r ≡ solutionAgrees p n fits (now (lifted .entry)) (now (solved .entry)) ⌝ }
+{
+    if !fits {
+        return false;
+    }
+    if !is_within(n, lifted, solved) {
+        return false;
+    }
+    if !is_within(n, solved, lifted) {
+        return false;
+    }
+    brute::is_ranked(p, lifted, solved)
+}
+
+// The solver's table of n entries beside the other algorithm's.
+fn compare_solution(p: Pair, n: usize, every: bool, carrying: u64, solved: &[u16]) -> Tally
+    ensures { λ r. ⌜ r ≡ solutionTally p n every carrying (now (solved .entry)) ⌝ }
+{
+    let own = compare_table(p, n, solved, solved);
+    let fits = verdict_fits(own, every, carrying);
+    let mut lifted = [0u16; 28672];
+    brute::lift(p, &mut lifted);
+    let agrees = solution_agrees(p, n, fits, &lifted, solved);
+    of_solution(own.carrying, agrees)
+}
+
+// A well-formed pair.
+fn compare_formed(p: Pair, s: Series, solved: &[u16]) -> Tally
+    requires { ⌜ wellFormed p ≡ true ⌝ }
+    ensures { λ r. ⌜ r ≡ formedTally s p (now (solved .entry)) ⌝ }
+{
+    let concrete = p.concrete;
+    let abstraction = p.abstraction;
+    let pairs = concrete.states * abstraction.states;
+    let n = abstraction.sets * pairs;
+    let top = concrete.sets * pairs + 2;
+    let tables = compare_tables(p, s.every, top as u16, n, s.tables, solved);
+    let solution = compare_solution(p, n, s.every, tables.carrying, solved);
+    let lassos = compare_lassos(p, solved, concrete.states as u8, s.stem);
+    add(add(tables, solution), lassos)
+}
+
+// Any pair.
+fn compare_pair(p: Pair, s: Series) -> Tally
+    ensures { λ r. ⌜ r ≡ pairTally s p ⌝ }
+{
+    let mut solved = [0u16; 28672];
+    let answer = solver::solve(p, &mut solved);
+    let plain = brute::validity(p);
+    let tried = of_pair(same_four(validity_four(answer), validity_four(plain)));
+    match answer {
+        Validity::Refused(_) => tried,
+        Validity::Valid => add(tried, compare_formed(p, s, &solved)),
+    }
+}
+
+// The pairs of one concrete machine.
+fn compare_row(s: Series, x: u64) -> Tally
+    ensures { λ r. ⌜ r ≡ rowTally s x ⌝ }
+{
+    let numbers = s.abstractions;
+    let mut sum = none();
+    for i in 0..numbers.count {
+        let y = i as u64 * numbers.step as u64;
+        let p = brute::pair_of(s.concrete, s.abstraction, x, y);
+        sum = add(sum, compare_pair(p, s));
+    }
+    sum
+}
+
+// All pairs of a series.
+pub fn compare(s: Series) -> Tally
+    ensures { λ r. ⌜ r ≡ seriesTally s ⌝ }
+{
+    let numbers = s.concretes;
+    let mut sum = none();
+    for i in 0..numbers.count {
+        sum = add(sum, compare_row(s, i as u64 * numbers.step as u64));
+    }
+    sum
+}

@@ -1,0 +1,112 @@
+// Counts of what was compared. They are added modulo 2^64.
+ghost use mathlib.Core.Bool.{cond};
+ghost use mathlib.Core.Path.{_≡_};
+ghost use Rattle.comparison.specs.Tallies.{nothing, plus, ofPair, ofSolution, ofTable, ofLasso};
+
+pub struct Tally {
+    // pairs tried, those that are well formed, and of these those that the solver's table carries
+    pub pairs: u64,
+    pub formed: u64,
+    pub carried: u64,
+    // tables that were checked, those that pass each line, and of these those that are Carried
+    pub tables: u64,
+    pub passing: u64,
+    pub carrying: u64,
+    // lassos that were played, and those that gave a run
+    pub lassos: u64,
+    pub runs: u64,
+    // comparisons that failed
+    pub differing: u64,
+}
+
+// No count at all.
+pub fn none() -> Tally
+    ensures { λ r. ⌜ r ≡ nothing ⌝ }
+{
+    Tally {
+        pairs: 0,
+        formed: 0,
+        carried: 0,
+        tables: 0,
+        passing: 0,
+        carrying: 0,
+        lassos: 0,
+        runs: 0,
+        differing: 0,
+    }
+}
+
+// 1 for a test that holds.
+fn one_if(b: bool) -> u64
+    ensures { λ r. ⌜ r ≡ cond b 1 0 ⌝ }
+{
+    if b { 1 } else { 0 }
+}
+
+// 1 for a test that fails.
+fn one_unless(b: bool) -> u64
+    ensures { λ r. ⌜ r ≡ cond b 0 1 ⌝ }
+{
+    if b { 0 } else { 1 }
+}
+
+// One pair, with its refusals compared.
+pub fn of_pair(agrees: bool) -> Tally
+    ensures { λ r. ⌜ r ≡ ofPair agrees ⌝ }
+{
+    let mut t = none();
+    t.pairs = 1;
+    t.differing = one_unless(agrees);
+    t
+}
+
+// The solver's table of one well-formed pair; `carried` is 1 where it is Carried, and else 0.
+pub fn of_solution(carried: u64, agrees: bool) -> Tally
+    ensures { λ r. ⌜ r ≡ ofSolution carried agrees ⌝ }
+{
+    let mut t = none();
+    t.formed = 1;
+    t.carried = carried;
+    t.differing = one_unless(agrees);
+    t
+}
+
+// One table.
+pub fn of_table(passing: bool, carried: bool, agrees: bool) -> Tally
+    ensures { λ r. ⌜ r ≡ ofTable passing carried agrees ⌝ }
+{
+    let mut t = none();
+    t.tables = 1;
+    t.passing = one_if(passing);
+    t.carrying = one_if(carried);
+    t.differing = one_unless(agrees);
+    t
+}
+
+// One lasso.
+pub fn of_lasso(runs: bool, agrees: bool) -> Tally
+    ensures { λ r. ⌜ r ≡ ofLasso runs agrees ⌝ }
+{
+    let mut t = none();
+    t.lassos = 1;
+    t.runs = one_if(runs);
+    t.differing = one_unless(agrees);
+    t
+}
+
+// Both counts together.
+pub fn add(x: Tally, y: Tally) -> Tally
+    ensures { λ r. ⌜ r ≡ plus x y ⌝ }
+{
+    Tally {
+        pairs: std::num::wrapping_add_u64(x.pairs, y.pairs),
+        formed: std::num::wrapping_add_u64(x.formed, y.formed),
+        carried: std::num::wrapping_add_u64(x.carried, y.carried),
+        tables: std::num::wrapping_add_u64(x.tables, y.tables),
+        passing: std::num::wrapping_add_u64(x.passing, y.passing),
+        carrying: std::num::wrapping_add_u64(x.carrying, y.carrying),
+        lassos: std::num::wrapping_add_u64(x.lassos, y.lassos),
+        runs: std::num::wrapping_add_u64(x.runs, y.runs),
+        differing: std::num::wrapping_add_u64(x.differing, y.differing),
+    }
+}
