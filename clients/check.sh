@@ -5,6 +5,8 @@ set -eu
 cd "$(dirname "$0")/.."
 work=$(mktemp -d)
 trap 'rm -rf "$work"' EXIT
+# both at once first, since crates that do not depend on each other are proved side by side
+rt check console filesolver >"$work/log" 2>&1 || { tail -n 20 "$work/log"; exit 1; }
 for name in console filesolver; do
     rt staticlib "$name" >"$work/log" 2>&1 || { tail -n 20 "$work/log"; exit 1; }
 done

@@ -13,8 +13,6 @@ pub mod Table
 pub mod Lines
 pub mod Verdict
 pub mod Player
--- the shelf examples
-pub mod Cases
 -- laws
 pub mod StepLaws
 pub mod WellFormedLaws

@@ -1,0 +1,2 @@
+-- the shelf examples
+pub mod Cases
