@@ -1,14 +1,15 @@
 -- Laws of refusals 13 to 15, as the tests of the code go.
-use mathlib.Core.Bool.{true, false}
+use mathlib.Core.Bool as B
+use mathlib.Core.Bool.{Bool, true, false}
 use mathlib.Core.List.{List}
 use mathlib.Core.Path.{_≡_, refl, sym, ap, _∙_}
 use Prim.Native.Nat.{ℕ, suc, _-_, _≤_, _<_}
 use native.Mathlib.Omega.{arith}
 use lib.ListN.{length, getD, List·getD-eq-default}
 use lib.Dec.{eqb, ltb}
-use borrow.Author.Tests.{eqb-true, eqb-false, eq-eqb, ne-eqb, lt-ltb, le-ltb, le-leb, lt-leb}
+use borrow.Author.Tests.{eqb-true, eqb-false, eq-eqb, ne-eqb, lt-ltb, le-ltb, le-leb, lt-leb, not-true, not-false}
 use Rattle.mask.specs.Logic.{not, and}
-use Rattle.mask.specs.LogicLaws.{cond-cases, or-l, or-r, or-false, or-false-l, not-i, not-f, and-true-l, and-false-l}
+use Rattle.mask.specs.LogicLaws.{cond-cases, or-l, or-r, or-false, or-false-l, not-i, not-f, not-is, and-true-l, and-false-l}
 use Rattle.mask.specs.Bits.{hasBit}
 use Rattle.mask.specs.BitsLaws.{has-none}
 use Rattle.mask.specs.Bounded.{first}
@@ -57,18 +58,6 @@ module _ (m : Machine) (l : Lasso) (i : ℕ) where
     pub start : i ≡ 0 → starts m (moment l 0) ≡ true
     pub entered : (i ≡ 0 → ⊥) → moves m (moment l (i - 1)) (moment l i) ≡ true
 
-  pub bad-state : m .states ≤ moment l i → badStep m l i ≡ true
-  unfolding badStep
-  bad-state h = or-l _ (le-leb _ _ h)
-
-  pub bad-start : i ≡ 0 → starts m (moment l i) ≡ false → badStep m l i ≡ true
-  unfolding badStep
-  bad-start e f = or-r _ (or-l _ (rw (eq-eqb i 0 e) (not-i (ap (λ (j : ℕ). starts m (moment l j)) (sym e) ∙ f))))
-
-  pub bad-entry : (i ≡ 0 → ⊥) → moves m (moment l (i - 1)) (moment l i) ≡ false → badStep m l i ≡ true
-  unfolding badStep
-  bad-entry d f = or-r _ (or-l _ (rw (ne-eqb i 0 d) (not-i f)))
-
   -- what is left to test where the state is one of the machine's and is entered rightly
   rest : moment l i < m .states → Entered → badStep m l i ≡ and (eqb (suc i) (lassoLength l)) (not (moves m (moment l i) (moment l (suc i))))
   unfolding badStep
@@ -76,13 +65,46 @@ module _ (m : Machine) (l : Lasso) (i : ℕ) where
       (not (starts m (moment l 0))) (not (moves m (moment l (i - 1)) (moment l i)))
       (λ t. not-f (r .start (eqb-true _ _ t))) (λ t. not-f (r .entered (eqb-false _ _ t))))
 
-  -- before the last position nothing is; at the last position, the closing step
-  pub good-before : moment l i < m .states → Entered → suc i < lassoLength l → badStep m l i ≡ false
-  good-before h r k = rest h r ∙ and-false-l _ (ne-eqb (suc i) (lassoLength l) (λ e. omega arith))
+  -- s is the state at position i
+  module _ (s : ℕ) (at : s ≡ moment l i) where
+    pub bad-state : m .states ≤ s → true ≡ badStep m l i
+    unfolding badStep
+    bad-state h = sym (or-l _ (le-leb (m .states) (moment l i) (rw (← at) h)))
 
-  pub closing : moment l i < m .states → Entered → suc i ≡ lassoLength l
-      → badStep m l i ≡ not (moves m (moment l i) (moment l (length (l .stem))))
-  closing h r e = rest h r ∙ and-true-l _ (eq-eqb _ _ e) ∙ ap (λ (s : ℕ). not (moves m (moment l i) s)) (moment-closing l i e)
+    -- r tells whether s is a start
+    module _ (e : i ≡ 0) (r : Bool) (is : r ≡ hasBit (m .start) s) where
+      starts-is : starts m (moment l 0) ≡ r
+      unfolding starts
+      starts-is = cc (e, at, is)
+
+      pub bad-start : B.not r ≡ true → true ≡ badStep m l i
+      unfolding badStep
+      bad-start t = sym (or-r _ (or-l _ (rw (eq-eqb i 0 e) (not-i (starts-is ∙ not-true r t)))))
+
+      pub good-start : B.not r ≡ false → Entered
+      good-start t = record { start = λ z. starts-is ∙ not-false r t; entered = λ n. absurd (n e) }
+
+    -- r tells whether p, the state before, moves to s
+    module _ (n : i ≡ 0 → ⊥) (p : ℕ) (before : p ≡ moment l (i - 1)) (r : Bool) (is : r ≡ moves m p s) where
+      entry-is : moves m (moment l (i - 1)) (moment l i) ≡ r
+      entry-is = cc (before, at, is)
+
+      pub bad-entry : B.not r ≡ true → true ≡ badStep m l i
+      unfolding badStep
+      bad-entry t = sym (or-r _ (or-l _ (rw (ne-eqb i 0 n) (not-i (entry-is ∙ not-true r t)))))
+
+      pub good-entry : B.not r ≡ false → Entered
+      good-entry t = record { start = λ e. absurd (n e); entered = λ z. entry-is ∙ not-false r t }
+
+    -- before the last position nothing is left; at the last position, the closing step
+    module _ (h : s < m .states) (b : Entered) where
+      pub good-before : suc i < lassoLength l → false ≡ badStep m l i
+      good-before k = sym (rest (rw (← at) h) b ∙ and-false-l _ (ne-eqb (suc i) (lassoLength l) (λ e. omega arith)))
+
+      pub closing : suc i ≡ lassoLength l → (t : ℕ) → t ≡ moment l (length (l .stem)) → (r : Bool) → r ≡ moves m s t → B.not r ≡ badStep m l i
+      closing e t back r is =
+          let c : moves m (moment l i) (moment l (suc i)) ≡ r = cc (at, is, back, moment-closing l i e) in
+          sym (rest (rw (← at) h) b ∙ and-true-l _ (eq-eqb _ _ e) ∙ ap not c ∙ not-is r)
 
 -- ---- 15
 pub missed-is : (m : Machine) (l : Lasso) (k : ℕ) → missedSet m l k ≡ noneIn (getD (m .fairness) k 0) (l .loop)
