@@ -3,6 +3,6 @@ fn main() {
     let dir = std::env::var("CARGO_MANIFEST_DIR").unwrap();
     println!("cargo:rustc-link-search=native={dir}/../target/staticlib");
     println!("cargo:rustc-link-lib=static=console");
-    println!("cargo:rustc-link-lib=static=filesolver");
+    println!("cargo:rustc-link-lib=static=restore");
     println!("cargo:rerun-if-changed={dir}/../target/staticlib");
 }

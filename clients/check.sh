@@ -6,13 +6,13 @@ cd "$(dirname "$0")/.."
 work=$(mktemp -d)
 trap 'rm -rf "$work"' EXIT
 # both at once first, since crates that do not depend on each other are proved side by side
-rt check console filesolver >"$work/log" 2>&1 || { tail -n 20 "$work/log"; exit 1; }
-for name in console filesolver; do
+rt check console restore >"$work/log" 2>&1 || { tail -n 20 "$work/log"; exit 1; }
+for name in console restore; do
     rt staticlib "$name" >"$work/log" 2>&1 || { tail -n 20 "$work/log"; exit 1; }
 done
 flags='-std=c11 -O2 -Wall -Wextra -Werror'
 cc $flags -o "$work/console" clients/console.c target/staticlib/libconsole.a
-cc $flags -o "$work/restore" clients/restore.c target/staticlib/libfilesolver.a target/staticlib/libconsole.a
+cc $flags -o "$work/restore" clients/restore.c target/staticlib/librestore.a target/staticlib/libconsole.a
 
 failed=0
 tried=0

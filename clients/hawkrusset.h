@@ -28,7 +28,7 @@ uint32_t console_answer(const uint8_t *bytes, size_t length);
  * The answer is the length of the new file, which stands at the start of `out`; the bytes after it, and `spot`, are unchanged. Or the
  * answer is 0: then `spot` has the refusal's number (1 for a buffer of fewer than 59,392 bytes) and the three numbers of its spot, and
  * `out` is unchanged. `bytes`, `out` and `spot` must not overlap.
- * libfilesolver.a has it (rt staticlib filesolver).
+ * librestore.a has it (rt staticlib restore).
  */
 size_t solve_file(const uint8_t *bytes, size_t length, uint8_t *out, size_t room, uint64_t spot[4]);
 

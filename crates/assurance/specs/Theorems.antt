@@ -25,7 +25,7 @@ use Rattle.machine.specs.VerdictLaws.{answered}
 use Rattle.theory.specs.EntriesLaws.{entry-same, covers-same, each-same, verdict-same, front-same}
 use Rattle.theory.specs.FixpointTheorems.{family-is-figure2}
 use Rattle.theory.specs.RankTheorems.{rank-of-goals, rank-is-first, rank-is-blank, table-holds-ranks, solver-table-passes, solver-table-covers, carried-exactly}
-use Rattle.plays.specs.Theorems.{carried-is-sound}
+use Rattle.soundness.specs.Theorems.{carried-is-sound}
 use Rattle.codec.specs.FileLaws.{write-read, read-write, written-reads, read-writes}
 use Rattle.solver.specs.Solver.{solveValidity, solvedUnless, solvedTable}
 use Rattle.assurance.specs.Statements.{FilesReadBack, FilesAreWritten, FilesAreSound, SolvedPasses, SolvedCovers, SolvedIsCarried, SolvedIsFigure2, SolvedGoals, SolvedRanks, SolvedRest}

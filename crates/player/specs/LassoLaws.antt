@@ -20,7 +20,7 @@ use Rattle.machine.specs.Refusals.{refusal, bad-lasso-length, bad-lasso-step, u
 use Rattle.machine.specs.Machines.{successors, moves, starts, fairSet, inFairSet}
 use Rattle.machine.specs.Lassos.{Lasso, lassoLength, moment}
 use Rattle.machine.specs.Player.{badLength, badStep, missedSet, lassoValidity}
-use Rattle.plays.specs.PlayLaws.{moment-loop, moment-again}
+use Rattle.soundness.specs.PlayLaws.{moment-loop, moment-again}
 use Rattle.player.specs.Given.{noneIn}
 
 -- ---- states and moves

@@ -16,8 +16,8 @@ use Rattle.mask.specs.BoundedLaws.{first-is, first-before, some-of}
 use Rattle.machine.specs.declared.Pair.{Pair}
 use Rattle.machine.specs.Lassos.{Lasso}
 use Rattle.machine.specs.Player.{placeAt, loopStart, samePlace, lastRound, earlierRound}
-use Rattle.plays.specs.Statements.{IsRun}
-use Rattle.plays.specs.PlayerLaws.{Playable, player-run}
+use Rattle.soundness.specs.Statements.{IsRun}
+use Rattle.soundness.specs.PlayerLaws.{Playable, player-run}
 use Rattle.player.specs.Places.{placeNumber, Marks}
 use Rattle.player.specs.PlaceLaws.{on-track}
 

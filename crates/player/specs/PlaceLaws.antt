@@ -19,10 +19,10 @@ use Rattle.machine.specs.StepLaws.{next-lt}
 use Rattle.machine.specs.Table.{entry}
 use Rattle.machine.specs.Lines.{nonBlank}
 use Rattle.machine.specs.Player.{startPartner, sectionAfter, follow, stepTo, placeAt}
-use Rattle.plays.specs.PlayLaws.{play-at, again-times, moment-again}
-use Rattle.plays.specs.AnswerLaws.{Covered}
-use Rattle.plays.specs.SoundLaws.{covered-at}
-use Rattle.plays.specs.PlayerLaws.{Playable, good-play}
+use Rattle.soundness.specs.PlayLaws.{play-at, again-times, moment-again}
+use Rattle.soundness.specs.AnswerLaws.{Covered}
+use Rattle.soundness.specs.SoundLaws.{covered-at}
+use Rattle.soundness.specs.PlayerLaws.{Playable, good-play}
 use Rattle.player.specs.declared.Place.{Place}
 use Rattle.player.specs.Places.{momentOf, onward, startsBefore, Placed, OnPlay, Stepped}
 

@@ -9,7 +9,7 @@ use Rattle.machine.specs.declared.Pair.{Pair}
 use Rattle.machine.specs.Lassos.{Lasso, moment}
 use Rattle.machine.specs.Step.{stateOf}
 use Rattle.machine.specs.Player.{startPartner, placeAt, loopStart, lastRound, earlierRound}
-use Rattle.plays.specs.PlayerLaws.{Playable, player-run}
+use Rattle.soundness.specs.PlayerLaws.{Playable, player-run}
 use Rattle.player.specs.declared.Place.{Place}
 use Rattle.player.specs.declared.Played.the-variants.{Run}
 use Rattle.player.specs.Answers.{runOf}

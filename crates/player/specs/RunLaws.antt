@@ -11,7 +11,7 @@ use Rattle.machine.specs.declared.Pair.{Pair}
 use Rattle.machine.specs.WellFormedLaws.{mul-bound}
 use Rattle.machine.specs.Lassos.{Lasso}
 use Rattle.machine.specs.Player.{placeAt, loopStart, lastRound, earlierRound, stemLength, loopLength, run}
-use Rattle.plays.specs.PlayerLaws.{Playable, player-run}
+use Rattle.soundness.specs.PlayerLaws.{Playable, player-run}
 use Rattle.player.specs.declared.Place.{Place}
 use Rattle.player.specs.Places.{momentOf, Placed, writtenTo, written}
 

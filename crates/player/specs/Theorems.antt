@@ -12,8 +12,8 @@ use Rattle.machine.specs.declared.Validity.the-variants.{Valid, Refused}
 use Rattle.machine.specs.WellFormedLaws.{then-valid}
 use Rattle.machine.specs.Lassos.{Lasso}
 use Rattle.machine.specs.Player.{played, refused, playedUnless, keptUnless, allValidity, playerAnswer, playerBuffer, playValidity, run, stemLength, loopLength}
-use Rattle.plays.specs.Statements.{IsRun}
-use Rattle.plays.specs.PlayerLaws.{playable, good-play, player-run}
+use Rattle.soundness.specs.Statements.{IsRun}
+use Rattle.soundness.specs.PlayerLaws.{playable, good-play, player-run}
 use Rattle.player.specs.Statements.{lassoIn, RunGiven, GivenRunIsRight, RefusalKeepsBuffer}
 use Rattle.player.specs.AnswerLaws.{buffer-long}
 

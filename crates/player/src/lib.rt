@@ -13,7 +13,7 @@ ghost use Rattle.machine.specs.Step.{partner, stateOf};
 ghost use Rattle.machine.specs.Table.{entry};
 ghost use Rattle.machine.specs.Lines.{nonBlank};
 ghost use Rattle.machine.specs.Player.{badStep, lassoValidity, startPartner, playerAnswer, playerBuffer};
-ghost use Rattle.plays.specs.PlayerLaws.{Playable};
+ghost use Rattle.soundness.specs.PlayerLaws.{Playable};
 ghost use Rattle.player.specs.Answers.{playedOf, runOf};
 ghost use Rattle.player.specs.Given.{given, noneIn};
 ghost use Rattle.player.specs.Places.{Tabled, OnPlay, Stepped, onward, written};

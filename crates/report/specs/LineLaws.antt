@@ -6,10 +6,10 @@ use native.Mathlib.Nat.{sub-zero, zero-sub}
 use native.Mathlib.Omega.{arith}
 use lib.ListN.{length, take, drop, set, replicate, length-append, length-replicate}
 use lib.Seq.{sets, sets-eq, take-append-seam, drop-append-add}
-use Rattle.decimal.specs.declared.Digits.{Digits}
-use Rattle.decimal.specs.Decimal.{decimal}
-use Rattle.decimal.specs.Answers.{digitsFor}
-use Rattle.decimal.specs.DigitsLaws.{digits-start, digits-word}
+use Rattle.text.specs.declared.Digits.{Digits}
+use Rattle.text.specs.Decimal.{decimal}
+use Rattle.text.specs.Answers.{digitsFor}
+use Rattle.text.specs.DigitsLaws.{digits-start, digits-word}
 use Rattle.report.specs.declared.Line.{Line}
 use Rattle.report.specs.Answers.{lineOf}
 

@@ -2,7 +2,7 @@
 use mathlib.Core.List.{List, [], _∷_, _++_}
 use Prim.Native.Nat.{ℕ}
 use lib.ListN.{take}
-use Rattle.decimal.specs.Decimal.{decimal}
+use Rattle.text.specs.Decimal.{decimal}
 use Rattle.machine.specs.declared.Refusal.{Refusal}
 use Rattle.machine.specs.Verdict.{Verdict, carried, notCarried, refused}
 use Rattle.verdict.specs.Outcomes.{Outcome, says, noTable, fileOutcome}

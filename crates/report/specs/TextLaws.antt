@@ -4,7 +4,7 @@ use mathlib.Core.Path.{_≡_, refl, sym, ap, _∙_}
 use Prim.Native.Nat.{ℕ, _≤_}
 use lib.ListN.{length, take}
 use lib.Seq.{take-all}
-use Rattle.decimal.specs.Decimal.{decimal}
+use Rattle.text.specs.Decimal.{decimal}
 use Rattle.machine.specs.declared.Refusal.{Refusal}
 use Rattle.verdict.specs.declared.FileVerdict.{FileVerdict}
 use Rattle.verdict.specs.declared.FileVerdict.the-variants.{Carried, NotCarried, NoTable, Refused}

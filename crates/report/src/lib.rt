@@ -3,7 +3,7 @@ ghost use mathlib.Core.List.{List, [], _∷_, _++_};
 ghost use mathlib.Core.Path.{_≡_};
 ghost use Prim.Native.Nat.{ℕ, _+_, _≤_};
 ghost use lib.ListN.{length};
-ghost use Rattle.decimal.specs.Decimal.{decimal};
+ghost use Rattle.text.specs.Decimal.{decimal};
 ghost use Rattle.verdict.specs.Outcomes.{outcomeOf};
 ghost use Rattle.report.specs.Text.{refusalLine, outcomeLine, shelfLine};
 ghost use Rattle.report.specs.Answers.{lineOf};
@@ -23,7 +23,7 @@ fn started(word: &[u8]) -> Line
     ensures { λ r. ⌜ r .length ≡ length (now (word .entry)) ⌝ }
 {
     let mut text = [0u8; 128];
-    decimal::put(&mut text, 0, word);
+    text::put(&mut text, 0, word);
     Line {
         text,
         length: word.len(),
@@ -38,10 +38,10 @@ fn numbered(line: Line, n: usize, after: u8) -> Line
 {
     let mut text = line.text;
     let at = line.length;
-    let digits = decimal::digits_of(n);
+    let digits = text::digits_of(n);
     let bytes = digits.bytes;
     let start = digits.start;
-    decimal::put(&mut text, at, &bytes[start..]);
+    text::put(&mut text, at, &bytes[start..]);
     let end = at + (20 - start);
     text[end] = after;
     Line {

@@ -9,7 +9,7 @@ fn main() {
     let mut input = [0u8; 59904];
     let count = io::read_full(STDIN_FILENO, &mut input);
     let mut out = [0u8; 59392];
-    let size = filesolver::solve_bytes(&input[..count], &mut out);
+    let size = restore::solve_bytes(&input[..count], &mut out);
     match size {
         Size::Bytes(n) => {
             io::write_all(STDOUT_FILENO, &out[..n]);

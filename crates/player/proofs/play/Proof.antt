@@ -20,7 +20,7 @@ use Rattle.linecheck.specs.declared.Answer.{Answer}
 use Rattle.linecheck.specs.declared.Answer.the-variants.{Carried, NotCarried, Refused}
 use Rattle.linecheck.specs.Answers.{verdictOf}
 use Rattle.linecheck.proofs.Answer as answer
-use Rattle.plays.specs.PlayerLaws.{GoodLasso, good-lasso, Playable, playable}
+use Rattle.soundness.specs.PlayerLaws.{GoodLasso, good-lasso, Playable, playable}
 use Rattle.player.specs.Answers.{playedOf}
 use Rattle.player.specs.Given.{given}
 use Rattle.player.specs.AnswerLaws.{Passes, check-passes, stopped-by, short-run, check-stops, lasso-stops, start-stops, play-valid, run-answer, run-buffer}

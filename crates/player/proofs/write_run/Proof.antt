@@ -6,7 +6,7 @@ use native.Mathlib.Omega.{arith}
 use lib.ListN.{length, getD, replicate, length-replicate, getD-replicate}
 use borrow.Author.Needs.{needs}
 use Rattle.machine.specs.Lassos.{Lasso}
-use Rattle.plays.specs.PlayerLaws.{Playable}
+use Rattle.soundness.specs.PlayerLaws.{Playable}
 use Rattle.player.specs.declared.Place.{Place}
 use Rattle.player.specs.Given.{given}
 use Rattle.player.specs.Places.{Playing, NotEnded}

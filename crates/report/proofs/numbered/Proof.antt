@@ -2,8 +2,8 @@ use mathlib.Core.Path.{_≡_, ap}
 use lib.ListN.{length}
 use Prim.Native.Nat.{_≤_}
 use native.Mathlib.Omega.{arith}
-use Rattle.decimal.specs.declared.Digits.{Digits}
-use Rattle.decimal.specs.DigitsLaws.{digits-start}
+use Rattle.text.specs.declared.Digits.{Digits}
+use Rattle.text.specs.DigitsLaws.{digits-start}
 use Rattle.report.specs.LineLaws.{numbered-line}
 use borrow.Author.Needs.{needs}
 use Rattle.report.proofs.numbered.Statement.{statement}

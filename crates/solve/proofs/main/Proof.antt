@@ -3,7 +3,7 @@ use Prim.Native.Nat.{ℕ, _≤_}
 use native.Mathlib.Omega.{arith}
 use lib.ListN.{length, length-replicate}
 use lib.Seq.{length-take-le}
-use Rattle.filesolver.specs.SolvingLaws.{size-bytes, solved-small}
+use Rattle.restore.specs.SolvingLaws.{size-bytes, solved-small}
 use borrow.Author.Needs.{needs}
 use Rattle.solve.proofs.main.Statement.{statement}
 use Rattle.solve.proofs.main.Tie as tie

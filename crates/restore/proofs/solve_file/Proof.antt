@@ -1,0 +1,69 @@
+use mathlib.Core.Path.{sym, ap, _∙_}
+use denote.Ref.{now}
+use Rattle.codec.specs.Reader.{Sized}
+use Rattle.restore.specs.Solving.{lengthOf, spotAfter}
+use Rattle.restore.specs.SolvingLaws.{size-bytes, size-refused}
+use borrow.Author.Needs.{needs}
+use Rattle.restore.proofs.solve_file.Statement.{statement}
+use Rattle.restore.proofs.solve_file.Tie as tie
+
+solve-bytes-requires : tie.Need-solve-bytes-requires
+solve-bytes-requires c κs = search needs
+
+enum-known-n : tie.Need-enum-known-n
+enum-known-n c = search needs
+
+enum-known-r : tie.Need-enum-known-r
+enum-known-r c = search needs
+
+cast-spot : tie.Need-cast-spot
+cast-spot c = search needs
+
+element-write-spot : tie.Need-element-write-spot
+element-write-spot c = search needs
+
+element-write-spot-2 : tie.Need-element-write-spot-2
+element-write-spot-2 c = search needs
+
+element-write-spot-3 : tie.Need-element-write-spot-3
+element-write-spot-3 c = search needs
+
+element-write-spot-4 : tie.Need-element-write-spot-4
+element-write-spot-4 c = search needs
+
+same-length : tie.Need-same-length
+same-length c = search needs
+
+returns : tie.Need-returns
+unfolding lengthOf spotAfter
+returns c =
+    let made = c .before .before .before .before .before .solve-bytes .ensures in
+    let told = size-bytes _ _ (sym (made .0) ∙ c .before .n .given .1) in
+    (sym (ap lengthOf told), (made .1, sym (ap (λ (z : Sized). spotAfter z (now (c .before .before .before .before .before .before .before .before .before .args .spot))) told)))
+
+same-length-2 : tie.Need-same-length-2
+same-length-2 c = search needs
+
+returns-2 : tie.Need-returns-2
+unfolding lengthOf spotAfter
+returns-2 c =
+    let made = c .before .before .before .before .before .before .solve-bytes .ensures in
+    let told = size-refused _ _ (sym (made .0) ∙ c .before .before .r .given .1) in
+    (sym (ap lengthOf told), (made .1, sym (ap (λ (z : Sized). spotAfter z (now (c .before .before .before .before .before .before .before .before .before .before .args .spot))) told)))
+
+pub solve-file-spec : {M : Type 1} → statement M
+solve-file-spec =
+    tie.close
+    (tie.spec
+    solve-bytes-requires
+    enum-known-n
+    enum-known-r
+    cast-spot
+    element-write-spot
+    element-write-spot-2
+    element-write-spot-3
+    element-write-spot-4
+    same-length
+    returns
+    same-length-2
+    returns-2)

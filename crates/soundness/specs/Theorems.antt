@@ -1,0 +1,23 @@
+-- The statements' proofs.
+use Rattle.machine.specs.Lassos.{moment}
+use Rattle.machine.specs.WellFormedLaws.{well-pair, valid-is-well}
+use Rattle.machine.specs.VerdictLaws.{carried-at}
+use Rattle.soundness.specs.Statements.{PassingIsSound, CarriedIsSound, PlayerIsRight}
+use Rattle.soundness.specs.PlayLaws.{play-at}
+use Rattle.soundness.specs.AnswerLaws.{start-found}
+use Rattle.soundness.specs.SoundLaws.{returns, closes, agrees}
+use Rattle.soundness.specs.PlayerLaws.{playable, player-run}
+
+pub passing-is-sound : PassingIsSound
+passing-is-sound p T well passing start l play =
+    let w = well-pair p well in
+    let y = play-at (p .concrete) l play in
+    let s = start-found p T w passing (moment l 0) (y .bound 0) (start (moment l 0) (y .bound 0) (y .start)) in
+    let r = returns p T w passing l y s in
+    (_, closes p T w passing l y s (r .0) (r .1) (r .2) (r .4), agrees p T w passing l y s (r .0) (r .1) (r .2) (r .4))
+
+pub carried-is-sound : CarriedIsSound
+carried-is-sound p T n e = let c = carried-at p T n e in passing-is-sound p T (valid-is-well p (c .valid)) (c .passing) (c .start)
+
+pub player-is-right : PlayerIsRight
+player-is-right p T l e = player-run p T l (playable p T l e)
