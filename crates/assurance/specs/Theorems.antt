@@ -15,13 +15,15 @@ use Rattle.machine.specs.declared.Refusal.{Refusal}
 use Rattle.machine.specs.declared.Validity.the-variants.{Valid}
 use Rattle.machine.specs.Machines.{nC, nA, setsA}
 use Rattle.machine.specs.WellFormed.{wellFormed}
-use Rattle.machine.specs.WellFormedLaws.{well-pair, well-is-valid, then-of, entries-small}
+use Rattle.machine.specs.WellFormedLaws.{well-pair, well-is-valid, entries-small}
 use Rattle.machine.specs.Game.{mem, family}
 use Rattle.machine.specs.Ranks.{rank, solverTable}
-use Rattle.machine.specs.Table.{entry, covers, entries}
+use Rattle.machine.specs.Table.{entry, covers, entries, tableRoom}
 use Rattle.machine.specs.LinesLaws.{covers-at, covers-of}
-use Rattle.machine.specs.Verdict.{tableRoom, bufferValidity, orElse, carried, refused, linesVerdict, checkVerdict}
+use Rattle.machine.specs.Verdict.{orElse, carried, refused, linesVerdict, checkVerdict}
 use Rattle.machine.specs.VerdictLaws.{answered}
+use Rattle.machine.specs.RefusalsLaws.{then-of}
+use Rattle.machine.specs.Refusals.{bufferValidity}
 use Rattle.theory.specs.EntriesLaws.{entry-same, covers-same, each-same, verdict-same, front-same}
 use Rattle.theory.specs.FixpointTheorems.{family-is-figure2}
 use Rattle.theory.specs.RankTheorems.{rank-of-goals, rank-is-first, rank-is-blank, table-holds-ranks, solver-table-passes, solver-table-covers, carried-exactly}

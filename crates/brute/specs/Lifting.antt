@@ -9,11 +9,10 @@ use Rattle.machine.specs.declared.Pair.{Pair}
 use Rattle.machine.specs.declared.Validity.{Validity}
 use Rattle.machine.specs.declared.Validity.the-variants.{Valid, Refused}
 use Rattle.machine.specs.Machines.{nA, setsC, pairs}
-use Rattle.machine.specs.Refusals.{andThen}
+use Rattle.machine.specs.Refusals.{andThen, bufferValidity}
 use Rattle.machine.specs.WellFormed.{pairValidity}
-use Rattle.machine.specs.Table.{blank, entries}
+use Rattle.machine.specs.Table.{blank, entries, tableRoom}
 use Rattle.machine.specs.Lines.{passes, passesEach}
-use Rattle.machine.specs.Verdict.{bufferValidity, tableRoom}
 
 -- the entry after r: one more, and blank after the greatest rank
 unfoldable pub raised : ℕ → ℕ → ℕ

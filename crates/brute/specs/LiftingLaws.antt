@@ -12,14 +12,14 @@ use Rattle.mask.specs.LogicLaws.{refute}
 use Rattle.machine.specs.Lines.{linesValidity, passes, passesEach}
 use Rattle.machine.specs.LinesLaws.{lines-valid, valid-passes}
 use Rattle.machine.specs.Machines.{nA, pairs, setsA, setsC}
-use Rattle.machine.specs.Refusals.{andThen}
-use Rattle.machine.specs.Table.{blank, entries}
-use Rattle.machine.specs.Verdict.{bufferValidity, tableRoom}
+use Rattle.machine.specs.Refusals.{andThen, bufferValidity}
+use Rattle.machine.specs.Table.{blank, entries, tableRoom}
 use Rattle.machine.specs.WellFormed.{pairValidity}
-use Rattle.machine.specs.WellFormedLaws.{WellPair, entries-small, mul-bound, ranks-small, refused-not-valid, some-pairs}
+use Rattle.machine.specs.WellFormedLaws.{WellPair, entries-small, mul-bound, ranks-small, some-pairs}
 use Rattle.machine.specs.declared.Pair.{Pair}
 use Rattle.machine.specs.declared.Refusal.{Refusal}
 use Rattle.machine.specs.declared.Validity.the-variants.{Refused, Valid}
+use Rattle.machine.specs.RefusalsLaws.{refused-not-valid}
 use Rattle.brute.specs.Lifting.{entryPasses, lifted, liftedAt, liftedTable, raised, swept, unlessRefused, zeroed}
 use Rattle.brute.specs.TargetLaws.{room-valid}
 

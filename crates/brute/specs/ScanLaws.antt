@@ -25,7 +25,6 @@ use Rattle.machine.specs.Step.{better, found, least, partner, stateOf}
 use Rattle.machine.specs.StepLaws.{next-lt}
 use Rattle.machine.specs.Table.{blank, covers, entry, entryIndex}
 use Rattle.machine.specs.WellFormed.{pairValidity}
-use Rattle.machine.specs.WellFormedLaws.{valid-next}
 use Rattle.machine.specs.declared.Machine.{Machine}
 use Rattle.machine.specs.declared.Pair.{Pair}
 use Rattle.machine.specs.declared.Partner.{Partner}
@@ -34,6 +33,7 @@ use Rattle.machine.specs.declared.Refusal.{Refusal}
 use Rattle.machine.specs.declared.Validity.the-variants.{Refused, Valid}
 use Rattle.brute.specs.Runs.{playedPlain}
 use Rattle.machine.specs.Player.{played, refused}
+use Rattle.machine.specs.RefusalsLaws.{valid-next}
 
 -- the best of the states below n that pass q, and what a later one has to stay below
 pub record Scanned (q : ℕ → Bool) (key : ℕ → ℕ) (n : ℕ) (best : Partner) (limit : ℕ) : Type 0 where

@@ -17,10 +17,10 @@ use Rattle.mask.specs.LogicLaws.{and-false-l, and-true-l, clash, not-e, not-f, 
 use Rattle.machine.specs.Lines.{atMost, goalLine, linesValidity, lower, nonBlank, passes, rankLine}
 use Rattle.machine.specs.Machines.{inFairSet, matched, moves, nA, nC, next, pairs, setsA, setsC, starts, successors}
 use Rattle.machine.specs.Ranks.{levelOf, setOf}
-use Rattle.machine.specs.Refusals.{andThen, failing-entry, refusal, short-buffer}
+use Rattle.machine.specs.Refusals.{andThen, failing-entry, refusal, short-buffer, bufferValidity}
 use Rattle.machine.specs.Step.{steps}
-use Rattle.machine.specs.Table.{blank, covers, entry}
-use Rattle.machine.specs.Verdict.{bufferValidity, checkVerdict, linesVerdict, orElse, refused, startCovered, startVerdict, tableRoom}
+use Rattle.machine.specs.Table.{blank, covers, entry, tableRoom}
+use Rattle.machine.specs.Verdict.{checkVerdict, linesVerdict, orElse, refused, startCovered, startVerdict}
 use Rattle.machine.specs.WellFormed.{pairValidity}
 use Rattle.machine.specs.WellFormedLaws.{WellPair}
 use Rattle.machine.specs.WellFormedLaws.{mul-bound}

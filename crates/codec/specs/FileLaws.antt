@@ -18,12 +18,12 @@ use Rattle.machine.specs.declared.Pair.{Pair}
 use Rattle.machine.specs.declared.Refusal.{Refusal}
 use Rattle.machine.specs.declared.Validity.{Validity}
 use Rattle.machine.specs.declared.Validity.the-variants.{Valid, Refused}
-use Rattle.machine.specs.Refusals.{refusal, andThen, wrong-length, bad-block, bad-padding, beyond-counts, no-start, no-successor}
+use Rattle.machine.specs.Refusals.{refusal, andThen, wrong-length, bad-block, bad-padding, beyond-counts, no-start, no-successor, bufferValidity}
 use Rattle.machine.specs.Machines.{nC, nA, setsC, setsA}
-use Rattle.machine.specs.Table.{entries}
-use Rattle.machine.specs.Verdict.{bufferValidity, tableRoom}
+use Rattle.machine.specs.Table.{entries, tableRoom}
 use Rattle.machine.specs.WellFormed.{beyondCounts, stuckState, contentValidity, pairValidity}
-use Rattle.machine.specs.WellFormedLaws.{then-valid, valid-next, valid-is-well}
+use Rattle.machine.specs.WellFormedLaws.{valid-is-well}
+use Rattle.machine.specs.RefusalsLaws.{then-answer, valid-next}
 use Rattle.codec.specs.Format.{letters, fileLength, fileOf}
 use Rattle.codec.specs.Reader.{Read, taken, checkHolds, numberHolds, blockHolds, headerByte, noteOf, headerHolds, countsHold, firstValidity, demanded, badBlock, paddingHolds, blocksValidity, machineAt, pairOf, entriesOf, readValidity, takenUnless, readAnswer, tableUnless, readTable, sizedUnless, sizeOf}
 use Rattle.codec.specs.Reader as R
@@ -60,9 +60,9 @@ was-taken : (f lent : List ℕ) (p : Pair) (note : Bool) → readAnswer f lent �
 unfolding readAnswer readValidity readTable tableUnless
 was-taken f lent p note e =
     let t = taken-at (readValidity f (length lent)) (pairOf f) p (noteOf f) note e in
-    let a = then-valid (bufferValidity tableRoom (length lent)) _ (t .0) in
-    let b = then-valid (firstValidity f) _ (a .1) in
-    let c = then-valid (blocksValidity f) _ (b .1) in
+    let a = then-answer (bufferValidity tableRoom (length lent)) _ (t .0) in
+    let b = then-answer (firstValidity f) _ (a .1) in
+    let c = then-answer (blocksValidity f) _ (b .1) in
     record {
       room = a .0;
       start = b .0;
@@ -104,7 +104,7 @@ pub written-reads : WrittenReads
 unfolding writeAnswer writeBuffer bufferUnless writeValidity
 written-reads p note T buffer lent n r b room e =
     let t = bytes-at (writeValidity p (length T) (length buffer)) (fileLength (nC p) (nA p) (setsC p) (setsA p) note) n e in
-    let v = then-valid (bufferValidity fileRoom (length buffer)) (pairValidity p) (then-valid (bufferValidity tableRoom (length T)) _ (t .0) .1) .1 in
+    let v = then-answer (bufferValidity fileRoom (length buffer)) (pairValidity p) (then-answer (bufferValidity tableRoom (length T)) _ (t .0) .1) .1 in
     let file = fileOf p note T in
     rw (t .0, take-at file (drop (length file) buffer) n (file-length p note T ∙ t .1)) (write-read p note T lent r (valid-is-well p v) b room .0)
 

@@ -20,7 +20,7 @@ use Rattle.mask.specs.TablesLaws.{table-at, table-past}
 use Rattle.machine.specs.declared.Validity.the-variants.{Valid}
 use Rattle.machine.specs.Machines.{nC, nA, setsC, setsA}
 use Rattle.machine.specs.Table.{entries}
-use Rattle.machine.specs.WellFormedLaws.{valid-next}
+use Rattle.machine.specs.RefusalsLaws.{valid-next}
 use Rattle.codec.specs.Format.{byteOf, numbers, numberAt, letters, header, tableBytes, payload, payloadLength, blocksFor, checkAt, blockFront, block, blocked, fileOf}
 use Rattle.codec.specs.Reader.{checkHolds, numberHolds, blockHolds, payloadOf, headerByte, noteOf, headerHolds, firstValidity, demanded, badBlock, paddingHolds, blocksValidity, machineAt, pairOf, entriesOf}
 use Rattle.codec.specs.Loading.{payloadDemanded}

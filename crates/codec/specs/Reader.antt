@@ -12,11 +12,10 @@ use Rattle.machine.specs.declared.Pair.{Pair}
 use Rattle.machine.specs.declared.Refusal.{Refusal}
 use Rattle.machine.specs.declared.Validity.{Validity}
 use Rattle.machine.specs.declared.Validity.the-variants.{Valid, Refused}
-use Rattle.machine.specs.Refusals.{refusal, andThen, bad-length, bad-first-block, bad-header, bad-counts, wrong-length, bad-block, bad-padding}
+use Rattle.machine.specs.Refusals.{refusal, andThen, bad-length, bad-first-block, bad-header, bad-counts, wrong-length, bad-block, bad-padding, bufferValidity}
 use Rattle.machine.specs.Machines.{nC, nA, setsC, setsA}
 use Rattle.machine.specs.WellFormed.{countsOk, pairValidity}
-use Rattle.machine.specs.Table.{entries}
-use Rattle.machine.specs.Verdict.{bufferValidity, tableRoom}
+use Rattle.machine.specs.Table.{entries, tableRoom}
 use Rattle.codec.specs.Format.{letters, numberAt, payloadLength, fileLength, checkAt}
 
 -- what a reading can be: the machines, the note whether a table came and the lent table's final content, or a refusal

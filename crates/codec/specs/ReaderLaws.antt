@@ -21,8 +21,9 @@ use Rattle.machine.specs.declared.Validity.{Validity}
 use Rattle.machine.specs.declared.Validity.the-variants.{Valid, Refused}
 use Rattle.machine.specs.Refusals.{refusal, andThen, short-buffer, wrong-length}
 use Rattle.machine.specs.WellFormed.{pairValidity}
-use Rattle.machine.specs.WellFormedLaws.{valid-next, then-of, counts-at, mul-bound}
-use Rattle.machine.specs.Verdict.{tableRoom}
+use Rattle.machine.specs.WellFormedLaws.{counts-at, mul-bound}
+use Rattle.machine.specs.RefusalsLaws.{valid-next, then-of}
+use Rattle.machine.specs.Table.{tableRoom}
 use Rattle.codec.specs.declared.Reading.the-variants as reading
 use Rattle.codec.specs.declared.Size.the-variants as size
 use Rattle.codec.specs.Format.{numberAt, payloadLength, fileLength, blocksFor}

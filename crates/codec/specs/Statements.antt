@@ -8,8 +8,7 @@ use Rattle.mask.specs.Tables.{table}
 use Rattle.machine.specs.declared.Machine.{Machine}
 use Rattle.machine.specs.declared.Pair.{Pair}
 use Rattle.machine.specs.declared.Refusal.{Refusal}
-use Rattle.machine.specs.Table.{entries}
-use Rattle.machine.specs.Verdict.{tableRoom}
+use Rattle.machine.specs.Table.{entries, tableRoom}
 use Rattle.machine.specs.WellFormed.{wellFormed}
 use Rattle.codec.specs.Format.{fileOf}
 use Rattle.codec.specs.Reader.{taken, firstValidity, demanded, entriesOf, readAnswer, readTable, sizeOf}

@@ -18,8 +18,7 @@ use Rattle.machine.specs.declared.Pair.{Pair}
 use Rattle.machine.specs.declared.Validity.the-variants.{Valid}
 use Rattle.machine.specs.Refusals.{andThen}
 use Rattle.machine.specs.Machines.{nC, nA, setsC, setsA}
-use Rattle.machine.specs.Table.{entries}
-use Rattle.machine.specs.Verdict.{tableRoom}
+use Rattle.machine.specs.Table.{entries, tableRoom}
 use Rattle.machine.specs.WellFormed.{pairValidity}
 use Rattle.machine.specs.WellFormedLaws.{WellPair, well-pair, well-is-valid, counts-of}
 use Rattle.codec.specs.Format.{numbers, numberAt, letters, header, tableBytes, payload, payloadLength, blocksFor, checkAt, blockFront, blocked, fileOf}

@@ -6,10 +6,10 @@ use lib.ListN.{length, drop}
 use Rattle.machine.specs.declared.Pair.{Pair}
 use Rattle.machine.specs.declared.Validity.{Validity}
 use Rattle.machine.specs.declared.Validity.the-variants.{Valid, Refused}
-use Rattle.machine.specs.Refusals.{andThen}
+use Rattle.machine.specs.Refusals.{andThen, bufferValidity}
 use Rattle.machine.specs.Machines.{nC, nA, setsC, setsA}
 use Rattle.machine.specs.WellFormed.{pairValidity}
-use Rattle.machine.specs.Verdict.{bufferValidity, tableRoom}
+use Rattle.machine.specs.Table.{tableRoom}
 use Rattle.codec.specs.Format.{fileLength, fileOf}
 use Rattle.codec.specs.Reader.{Sized, sizedUnless}
 

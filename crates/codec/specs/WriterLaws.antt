@@ -15,11 +15,10 @@ use Rattle.mask.specs.TablesLaws.{table-length, table-cong}
 use Rattle.machine.specs.declared.Machine.{Machine}
 use Rattle.machine.specs.declared.Pair.{Pair}
 use Rattle.machine.specs.Machines.{observation, successors, fairSet, nC, nA, setsC, setsA}
-use Rattle.machine.specs.Table.{entries}
+use Rattle.machine.specs.Table.{entries, tableRoom}
 use Rattle.machine.specs.declared.Refusal.{Refusal}
 use Rattle.machine.specs.declared.Validity.the-variants.{Valid, Refused}
-use Rattle.machine.specs.Refusals.{refusal, andThen, short-buffer}
-use Rattle.machine.specs.Verdict.{bufferValidity, tableRoom}
+use Rattle.machine.specs.Refusals.{refusal, andThen, short-buffer, bufferValidity}
 use Rattle.machine.specs.WellFormed.{pairValidity}
 use Rattle.machine.specs.WellFormedLaws.{WellPair}
 use Rattle.codec.specs.declared.Size.the-variants as size

@@ -17,7 +17,7 @@ ghost use lib.Dec.{eqb};
 ghost use Rattle.mask.specs.Bounded.{every};
 ghost use Rattle.machine.specs.Refusals.{refusal, andThen};
 ghost use Rattle.machine.specs.WellFormed.{pairValidity};
-ghost use Rattle.machine.specs.Verdict.{tableRoom};
+ghost use Rattle.machine.specs.Table.{tableRoom};
 ghost use Rattle.codec.specs.Format.{letters, numberAt, payloadLength};
 ghost use Rattle.codec.specs.Reader.{checkHolds, numberHolds, blockHolds, headerByte, noteOf, headerHolds, countsHold, firstValidity, demanded, badBlock, paddingHolds, blocksValidity, machineAt, pairOf, entriesOf, Read, taken, takenUnless, readAnswer, tableUnless, readTable, zeroMachine, sizeOf};
 ghost use Rattle.codec.specs.Answers.{showFor, sizeFor};

@@ -15,7 +15,8 @@ use Rattle.machine.specs.declared.Validity.the-variants.{Valid, Refused}
 use Rattle.machine.specs.Machines.{nC, setsC, pairs}
 use Rattle.machine.specs.Table.{entries}
 use Rattle.machine.specs.WellFormed.{pairValidity, wellFormed}
-use Rattle.machine.specs.WellFormedLaws.{then-valid, valid-is-well}
+use Rattle.machine.specs.WellFormedLaws.{valid-is-well}
+use Rattle.machine.specs.RefusalsLaws.{then-answer}
 use Rattle.solver.specs.Solver.{solveValidity, solvedTable}
 use Rattle.brute.specs.Numbers.{pairOf}
 use Rattle.comparison.specs.declared.pairs.Series.{Series}
@@ -82,7 +83,7 @@ module _ (s : Series) (p : Pair) (S : List ℕ) where
 
 pub solved-well : (p : Pair) (n : ℕ) (v : Validity) → v ≡ solveValidity p n → v ≡ Valid → wellFormed p ≡ true
 unfolding solveValidity
-solved-well p n v ev e = valid-is-well p (then-valid _ _ (sym ev ∙ e) .1)
+solved-well p n v ev e = valid-is-well p (then-answer _ _ (sym ev ∙ e) .1)
 
 -- a pair, with the solver's answer v, the plain one u, and the table S that the solver left
 module _ (s : Series) (p : Pair) (v u : Validity) (x y : Refusal) (same : Bool) (tried : Tally) (ev : v ≡ solveValidity p (length zeros)) (eu : u ≡ pairValidity p) (ex : x ≡ validityFour v)

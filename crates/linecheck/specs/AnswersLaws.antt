@@ -10,12 +10,12 @@ use Rattle.mask.specs.Bounded.{count}
 use Rattle.machine.specs.declared.Pair.{Pair}
 use Rattle.machine.specs.declared.Refusal.{Refusal}
 use Rattle.machine.specs.declared.Validity.the-variants.{Valid, Refused}
-use Rattle.machine.specs.Refusals.{refusal, andThen, short-buffer}
+use Rattle.machine.specs.Refusals.{refusal, andThen, short-buffer, bufferValidity}
 use Rattle.machine.specs.Machines.{nC}
 use Rattle.machine.specs.WellFormed.{pairValidity}
-use Rattle.machine.specs.Table.{blank, entries, coveredCount}
+use Rattle.machine.specs.Table.{blank, entries, coveredCount, tableRoom}
 use Rattle.machine.specs.Lines.{linesValidity}
-use Rattle.machine.specs.Verdict.{tableRoom, carried, notCarried, refused, bufferValidity, lackingStart, startVerdict, orElse, linesVerdict, checkVerdict}
+use Rattle.machine.specs.Verdict.{carried, notCarried, refused, lackingStart, startVerdict, orElse, linesVerdict, checkVerdict}
 
 module _ (p : Pair) (T : List ℕ) where
   -- ---- of a table that passes each line

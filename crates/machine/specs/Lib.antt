@@ -15,6 +15,7 @@ pub mod Verdict
 pub mod Player
 -- laws
 pub mod StepLaws
+pub mod RefusalsLaws
 pub mod WellFormedLaws
 pub mod BeyondLaws
 pub mod PartnerLaws

@@ -6,9 +6,7 @@ use lib.Dec.{eqb, leb, ltb}
 use Rattle.mask.specs.Logic.{not, and, or}
 use Rattle.mask.specs.Bounded.{every, first}
 use Rattle.machine.specs.declared.Pair.{Pair}
-use Rattle.machine.specs.declared.Validity.{Validity}
-use Rattle.machine.specs.declared.Validity.the-variants.{Valid, Refused}
-use Rattle.machine.specs.Refusals.{refusal, failing-entry}
+use Rattle.machine.specs.Refusals.{Tested, valid, refused, refusal, failing-entry}
 use Rattle.machine.specs.Machines.{inFairSet, matched, next, nC, nA, setsC, setsA, pairs}
 use Rattle.machine.specs.Step.{steps}
 use Rattle.machine.specs.Table.{blank, entry, covers}
@@ -54,9 +52,9 @@ module _ (p : Pair) (T : List ℕ) where
   passesEach = every (setsA p) (λ j. every (nC p) (λ c. every (nA p) (passes j c)))
 
   -- 12, with the first entry that fails, by section, c and a; the spot's section is counted from 1
-  unfoldable pub linesValidity : Validity
+  unfoldable pub linesValidity : Tested
   linesValidity =
       let j = first (setsA p) (λ j. not (every (nC p) (λ c. every (nA p) (passes j c)))) in
       let c = first (nC p) (λ c. not (every (nA p) (passes j c))) in
       let a = first (nA p) (λ a. not (passes j c a)) in
-      cond (ltb j (setsA p)) (Refused (refusal failing-entry (suc j) c a)) Valid
+      cond (ltb j (setsA p)) (refused (refusal failing-entry (suc j) c a)) valid

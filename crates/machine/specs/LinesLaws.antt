@@ -14,12 +14,11 @@ use Rattle.mask.specs.LogicLaws.{dec, clash, both, cond-cases, and-l, and-r, an
 use Rattle.mask.specs.Bounded.{every, first}
 use Rattle.mask.specs.BoundedLaws.{every-at, every-of, every-not, first-is, first-none, first-before}
 use Rattle.machine.specs.declared.Pair.{Pair}
-use Rattle.machine.specs.declared.Validity.the-variants.{Valid, Refused}
-use Rattle.machine.specs.Refusals.{refusal, failing-entry}
+use Rattle.machine.specs.Refusals.{valid, refused, refusal, failing-entry}
+use Rattle.machine.specs.RefusalsLaws.{valid-next}
 use Rattle.machine.specs.Machines.{inFairSet, matched, next, nC, nA, setsC, setsA, pairs}
 use Rattle.machine.specs.Step.{steps}
 use Rattle.machine.specs.StepLaws.{Steps, steps-at, steps-of, steps-cong}
-use Rattle.machine.specs.WellFormedLaws.{valid-next}
 use Rattle.machine.specs.Table.{blank, entry, covers}
 use Rattle.machine.specs.Ranks.{levelOf, setOf}
 use Rattle.machine.specs.LevelLaws.{level-low}
@@ -154,7 +153,7 @@ module _ (p : Pair) (T : List ℕ) where
   unfolding passesEach
   each-of h = every-of _ _ (λ j hj. every-of _ _ (λ c hc. every-of _ _ (λ a ha. h j c a hj hc ha)))
 
-  pub lines-valid : passesEach p T ≡ true → linesValidity p T ≡ Valid
+  pub lines-valid : passesEach p T ≡ true → linesValidity p T ≡ valid
   unfolding passesEach linesValidity
   lines-valid t =
       let e : first (setsA p) (λ j. not (every (nC p) (λ c. every (nA p) (passes p T j c)))) ≡ setsA p = first-none _ _ (λ j hj. not-f (every-at _ _ t j hj)) in
@@ -165,7 +164,7 @@ module _ (p : Pair) (T : List ℕ) where
       → ((j′ : ℕ) → j′ < j → every (nC p) (λ c. every (nA p) (passes p T j′ c)) ≡ true)
       → ((c′ : ℕ) → c′ < c → every (nA p) (passes p T j c′) ≡ true)
       → ((a′ : ℕ) → a′ < a → passes p T j c a′ ≡ true)
-      → linesValidity p T ≡ Refused (refusal failing-entry (suc j) c a)
+      → linesValidity p T ≡ refused (refusal failing-entry (suc j) c a)
   unfolding linesValidity
   lines-fail j c a hj hc ha e bj bc ba =
       let row : every (nA p) (passes p T j c) ≡ false = every-not _ _ a ha e in
@@ -175,9 +174,9 @@ module _ (p : Pair) (T : List ℕ) where
       let ea : first (nA p) (λ a. not (passes p T j c a)) ≡ a = first-is _ _ a ha (not-i e) (λ k q. not-f (ba k q)) in
       rw (ej, ec, ea, lt-ltb j (setsA p) hj)
 
-  pub valid-passes : linesValidity p T ≡ Valid → passesEach p T ≡ true
+  pub valid-passes : linesValidity p T ≡ valid → passesEach p T ≡ true
   unfolding linesValidity passesEach
-  valid-passes t = every-of _ _ (λ j hj. ⊎-elim (λ u. u) (λ u. absurd (clash (valid-next _ _ Valid t .0) (lt-ltb _ _ (earlier j hj u)))) (dec (whole j)))
+  valid-passes t = every-of _ _ (λ j hj. ⊎-elim (λ u. u) (λ u. absurd (clash (valid-next _ _ valid t .0) (lt-ltb _ _ (earlier j hj u)))) (dec (whole j)))
     where
       whole : ℕ → Bool
       whole j = every (nC p) (λ c. every (nA p) (passes p T j c))

@@ -4,7 +4,7 @@
 use mathlib.Core.Bool.{Bool, cond}
 use Prim.Native.Nat.{ℕ, suc, _*_}
 use lib.ListN.{getD}
-use lib.Dec.{eqb}
+use lib.Dec.{eqb, ltb}
 use Rattle.mask.specs.Bits.{hasBit}
 use Rattle.machine.specs.declared.Machine.{Machine}
 use Rattle.machine.specs.declared.Pair.{Pair}
@@ -59,4 +59,4 @@ matched p c a = sameObservation (observation (p .concrete) c) (observation (p .a
 
 -- "Sections run 1 to n, and after n comes 1."
 unfoldable pub next : ℕ → ℕ → ℕ
-next n j = cond (eqb (suc j) n) 0 (suc j)
+next n j = cond (ltb (suc j) n) (suc j) 0

@@ -1,8 +1,8 @@
 -- Document 01, "Player", and its refusals 13 to 16.
 use mathlib.Core.Bool.{Bool, cond}
-use mathlib.Core.List.{List, _++_}
+use mathlib.Core.List.{List}
 use Prim.Native.Nat.{ℕ, zero, suc, _+_, _-_, _*_}
-use lib.ListN.{length, getD, drop}
+use lib.ListN.{length, getD}
 use lib.Dec.{eqb, ltb, leb}
 use Rattle.mask.specs.Logic.{not, and, or}
 use Rattle.mask.specs.Bounded.{some, first}
@@ -10,17 +10,13 @@ use Rattle.mask.specs.Tables.{table}
 use Rattle.machine.specs.declared.Machine.{Machine}
 use Rattle.machine.specs.declared.Pair.{Pair}
 use Rattle.machine.specs.declared.Partner.{Partner}
-use Rattle.machine.specs.declared.Refusal.{Refusal}
-use Rattle.machine.specs.declared.Validity.{Validity}
-use Rattle.machine.specs.declared.Validity.the-variants.{Valid, Refused}
-use Rattle.machine.specs.Refusals.{refusal, andThen, bad-lasso-length, bad-lasso-step, unfair-lasso, no-start-partner}
+use Rattle.machine.specs.Refusals.{Result, Tested, answer, valid, refused, refusal, andThen, bufferValidity, bufferAfter, bad-lasso-length, bad-lasso-step, unfair-lasso, no-start-partner}
 use Rattle.machine.specs.Machines.{successors, moves, starts, inFairSet, next, setsA}
 use Rattle.machine.specs.WellFormed.{pairValidity}
 use Rattle.machine.specs.Lassos.{Lasso, lassoLength, moment}
 use Rattle.machine.specs.Step.{partner, found, stateOf}
-use Rattle.machine.specs.Table.{entry}
+use Rattle.machine.specs.Table.{tableRoom, entry}
 use Rattle.machine.specs.Lines.{nonBlank, linesValidity}
-use Rattle.machine.specs.Verdict.{bufferValidity, tableRoom}
 
 -- 13: "empty loop, or over 64 states"
 unfoldable pub badLength : Lasso → Bool
@@ -39,13 +35,13 @@ unfoldable pub missedSet : Machine → Lasso → ℕ → Bool
 missedSet m l k = not (some (length (l .loop)) (λ i. inFairSet m k (getD (l .loop) i 0)))
 
 -- 13 to 15; the spot's set is counted from 1
-unfoldable pub lassoValidity : Machine → Lasso → Validity
+unfoldable pub lassoValidity : Machine → Lasso → Tested
 lassoValidity m l =
     let i = first (lassoLength l) (badStep m l) in
     let k = first (m .sets) (missedSet m l) in
-    cond (badLength l) (Refused (refusal bad-lasso-length 0 0 0))
-    (cond (ltb i (lassoLength l)) (Refused (refusal bad-lasso-step i 0 0))
-    (cond (ltb k (m .sets)) (Refused (refusal unfair-lasso (suc k) 0 0)) Valid))
+    cond (badLength l) (refused (refusal bad-lasso-length 0 0 0))
+    (cond (ltb i (lassoLength l)) (refused (refusal bad-lasso-step i 0 0))
+    (cond (ltb k (m .sets)) (refused (refusal unfair-lasso (suc k) 0 0)) valid))
 
 -- the abstract state a and the section j
 pub record Place : Type 0 where
@@ -58,8 +54,8 @@ module _ (p : Pair) (T : List ℕ) where
   startPartner c = partner (p .abstraction .start) (nonBlank p T 0 c) (entry p T 0 c)
 
   -- 16: "first state has no non-blank start partner"
-  unfoldable pub startValidity : Lasso → Validity
-  startValidity l = cond (found (startPartner (moment l 0))) Valid (Refused (refusal no-start-partner 0 0 0))
+  unfoldable pub startValidity : Lasso → Tested
+  startValidity l = cond (found (startPartner (moment l 0))) valid (refused (refusal no-start-partner 0 0 0))
 
   -- "If the pair's entry is 0, j becomes the next section."
   unfoldable pub sectionAfter : ℕ → Place → ℕ
@@ -107,33 +103,27 @@ module _ (p : Pair) (T : List ℕ) where
   run l = table (loopStart l (lastRound l)) (λ t. placeAt l t .state)
 
   -- 5, 9 to 16
-  unfoldable pub playValidity : Lasso → Validity
+  unfoldable pub playValidity : Lasso → Tested
   playValidity l =
       andThen (pairValidity p) (andThen (linesValidity p T) (andThen (lassoValidity (p .concrete) l) (startValidity l)))
 
--- what the player can say: stem length and loop length, or a refusal
+-- what the player can say of a lasso that it takes: stem length and loop length of the run
 pub data Played : Type 0 where
   played : ℕ → ℕ → Played
-  refused : Refusal → Played
 
-unfoldable pub playedUnless : Validity → Played → Played
-playedUnless Valid v = v
-playedUnless (Refused r) v = refused r
-
--- a lent buffer is changed only where nothing is refused
-unfoldable pub keptUnless : Validity → List ℕ → List ℕ → List ℕ
-keptUnless Valid buffer out = out ++ drop (length out) buffer
-keptUnless (Refused r) buffer out = buffer
+-- "a lent buffer of 28,672 bytes"
+abbrev pub runRoom : ℕ
+runRoom = 28672
 
 -- all that the player tests, in document 01's order; the table and the buffer are lent
-unfoldable pub allValidity : Pair → List ℕ → Lasso → List ℕ → Validity
+unfoldable pub allValidity : Pair → List ℕ → Lasso → List ℕ → Tested
 allValidity p T l buffer =
-    andThen (bufferValidity tableRoom (length T)) (andThen (bufferValidity tableRoom (length buffer)) (playValidity p T l))
+    andThen (bufferValidity tableRoom (length T)) (andThen (bufferValidity runRoom (length buffer)) (playValidity p T l))
 
 -- the player's whole answer
-unfoldable pub playerAnswer : Pair → List ℕ → Lasso → List ℕ → Played
-playerAnswer p T l buffer = playedUnless (allValidity p T l buffer) (played (stemLength p T l) (loopLength p T l))
+unfoldable pub playerAnswer : Pair → List ℕ → Lasso → List ℕ → Result Played
+playerAnswer p T l buffer = andThen (allValidity p T l buffer) (answer (played (stemLength p T l) (loopLength p T l)))
 
 -- and the buffer's final content: "buffer bytes past the run are unchanged"
 unfoldable pub playerBuffer : Pair → List ℕ → Lasso → List ℕ → List ℕ
-playerBuffer p T l buffer = keptUnless (allValidity p T l buffer) buffer (run p T l)
+playerBuffer p T l buffer = bufferAfter (allValidity p T l buffer) (run p T l) buffer

@@ -1,8 +1,45 @@
--- Document 01, "Where a call is stopped": its numbers, by the names that they have in the code, and the spot.
+-- Document 01, "Where a call is stopped": what a call says, what it leaves in a lent buffer, and the refusals' numbers, by the names that they
+-- have in the code.
+use mathlib.Core.Bool.{cond}
+use mathlib.Core.List.{List, _++_}
 use Prim.Native.Nat.{ℕ}
+use lib.ListN.{length, drop}
+use lib.Dec.{ltb}
 use Rattle.machine.specs.declared.Refusal.{Refusal}
 use Rattle.machine.specs.declared.Validity.{Validity}
 use Rattle.machine.specs.declared.Validity.the-variants.{Valid, Refused}
+
+-- what a call says: an answer, or where it was stopped
+pub data Result (A : Type 0) : Type 0 where
+  answer : A → Result A
+  refused : Refusal → Result A
+
+-- what a test says: that nothing stops the call, or where it was stopped
+abbrev pub Tested : Type 0
+Tested = Result (Unit {0})
+
+abbrev pub valid : Tested
+valid = answer tt
+
+-- what document 01 says for each case of the answer of a test
+unfoldable pub testedOf : Validity → Tested
+testedOf Valid = valid
+testedOf (Refused r) = refused r
+
+-- "Tested in this order": the first refusal of two counts. The second is another test, or the answer that is given unless the first refuses.
+unfoldable pub andThen : {A : Type 0} → Tested → Result A → Result A
+andThen (answer t) w = w
+andThen (refused r) w = refused r
+
+-- what is said of an answer is said unless there was a refusal, which is passed on
+unfoldable pub passOn : {A B : Type 0} → Result A → (A → Result B) → Result B
+passOn (answer a) f = f a
+passOn (refused r) f = refused r
+
+-- a lent buffer's final content: what was made at its front, and the rest as it was. A refusal "changes no lent buffer".
+unfoldable pub bufferAfter : {A : Type 0} → Result A → List ℕ → List ℕ → List ℕ
+bufferAfter (answer a) made buffer = made ++ drop (length made) buffer
+bufferAfter (refused r) made buffer = buffer
 
 abbrev pub short-buffer : ℕ
 short-buffer = 1
@@ -56,7 +93,6 @@ no-start-partner = 16
 abbrev pub refusal : ℕ → ℕ → ℕ → ℕ → Refusal
 refusal number p q r = record { number = number; first = p; second = q; third = r }
 
--- the first of two tests that refuses
-unfoldable pub andThen : Validity → Validity → Validity
-andThen Valid v = v
-andThen (Refused r) v = Refused r
+-- 1: a lent buffer of some length is "shorter than stated"
+unfoldable pub bufferValidity : ℕ → ℕ → Tested
+bufferValidity least len = cond (ltb len least) (refused (refusal short-buffer 0 0 0)) valid

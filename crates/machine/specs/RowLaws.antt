@@ -3,7 +3,7 @@ use mathlib.Core.Bool.{true}
 use mathlib.Core.List.{List}
 use mathlib.Core.Path.{_≡_, _∙_}
 use Prim.Native.Nat.{ℕ, suc, _+_, _-_, _*_, _≤_, _<_}
-use native.Mathlib.Nat.{suc-mul}
+use native.Mathlib.Nat.{suc-mul, mod-eq-of-lt}
 use native.Mathlib.Omega.{arith}
 use lib.Dec.{leb}
 use lib.ListN.{length, getD, take, drop, length-take, length-drop}
@@ -19,13 +19,18 @@ use Rattle.machine.specs.Machines.{nC, nA}
 use Rattle.machine.specs.WellFormedLaws.{mul-bound}
 use Rattle.machine.specs.Step.{partner, inRow, found}
 use Rattle.machine.specs.PartnerLaws.{partner-found}
-use Rattle.machine.specs.Table.{entryIndex, entry}
+use Rattle.machine.specs.Table.{entryIndex, placeOf, entry}
 
 -- ---- where an entry lies
 -- an entry's place is its row's, and its state
 pub index-row : (nC nA j c a : ℕ) → entryIndex nC nA j c 0 + a ≡ entryIndex nC nA j c a
 unfolding entryIndex
 index-row nC nA j c a = omega arith
+
+-- numbers below 256 have their own place
+pub place-is : (nC nA j c a : ℕ) → nC < 256 → nA < 256 → j < 256 → c < 256 → a < 256 → placeOf nC nA j c a ≡ entryIndex nC nA j c a
+unfolding placeOf
+place-is nC nA j c a hC hA hj hc ha = rw (mod-eq-of-lt hC, mod-eq-of-lt hA, mod-eq-of-lt hj, mod-eq-of-lt hc, mod-eq-of-lt ha)
 
 module _ (nC nA j c : ℕ) (hj : j < 7) (hC : nC ≤ 64) (hA : nA ≤ 64) where
   pub section-room : j * nC ≤ 384

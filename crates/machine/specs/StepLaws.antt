@@ -2,10 +2,10 @@
 use mathlib.Core.Bool.{Bool, true}
 use mathlib.Core.Logic.{by-cases}
 use mathlib.Core.Path.{_≡_, refl, sym, _∙_}
-use Prim.Native.Nat.{ℕ, suc, _<_}
+use Prim.Native.Nat.{ℕ, suc, _≤_, _<_}
 use native.Mathlib.Decide.{decLt}
 use native.Mathlib.Omega.{arith}
-use borrow.Author.Tests.{eqb-true, eq-eqb, ne-eqb}
+use borrow.Author.Tests.{eqb-true, eq-eqb, lt-ltb, le-ltb}
 use Rattle.mask.specs.LogicLaws.{both}
 use Rattle.mask.specs.BoundedLaws.{everyIn-at, everyIn-of, someIn-at, someIn-of}
 use Rattle.machine.specs.declared.Pair.{Pair}
@@ -26,13 +26,13 @@ unfolding sameObservation
 same-trans x y z t u = eq-eqb x z (eqb-true x y t ∙ eqb-true y z u)
 
 -- ---- sections
-pub next-wrap : (n j : ℕ) → suc j ≡ n → next n j ≡ 0
+pub next-wrap : (n j : ℕ) → n ≤ suc j → next n j ≡ 0
 unfolding next
-next-wrap n j h = rw (eq-eqb (suc j) n h)
+next-wrap n j h = rw (le-ltb (suc j) n h)
 
 pub next-step : (n j : ℕ) → suc j < n → next n j ≡ suc j
 unfolding next
-next-step n j h = rw (ne-eqb (suc j) n (omega arith))
+next-step n j h = rw (lt-ltb (suc j) n h)
 
 pub next-lt : (n j : ℕ) → j < n → next n j < n
 next-lt n j h = by-cases (decLt (suc j) n) (λ l. rw (next-step n j l) l) (λ l. rw (next-wrap n j (omega arith)) (omega arith))

@@ -1,7 +1,7 @@
 -- Document 01, "The game", last part: tables, whoever made them.
 use mathlib.Core.Bool.{Bool}
 use mathlib.Core.List.{List}
-use Prim.Native.Nat.{ℕ, _+_, _*_}
+use Prim.Native.Nat.{ℕ, _+_, _*_, _%_}
 use lib.ListN.{getD}
 use lib.Dec.{eqb}
 use Rattle.mask.specs.Logic.{not}
@@ -13,9 +13,17 @@ use Rattle.machine.specs.Machines.{nC, nA, setsA, pairs}
 abbrev pub blank : ℕ
 blank = 65535
 
+-- "Lent tables have 28,672 entries or more (7 × 64 × 64)"
+abbrev pub tableRoom : ℕ
+tableRoom = 28672
+
 -- "entry ((j − 1) × nC + c) × nA + a", section j from 0 here
 unfoldable pub entryIndex : ℕ → ℕ → ℕ → ℕ → ℕ → ℕ
 entryIndex nC nA j c a = (j * nC + c) * nA + a
+
+-- the same for numbers of any size, each taken modulo 256: counts, sections and states are less
+unfoldable pub placeOf : ℕ → ℕ → ℕ → ℕ → ℕ → ℕ
+placeOf nC nA j c a = entryIndex (nC % 256) (nA % 256) (j % 256) (c % 256) (a % 256)
 
 unfoldable pub entry : Pair → List ℕ → ℕ → ℕ → ℕ → ℕ
 entry p T j c a = getD T (entryIndex (nC p) (nA p) j c a) 0

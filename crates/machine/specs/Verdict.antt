@@ -7,34 +7,21 @@ use lib.Dec.{ltb}
 use Rattle.mask.specs.Logic.{not, and}
 use Rattle.mask.specs.Bounded.{first, someIn}
 use Rattle.machine.specs.declared.Pair.{Pair}
-use Rattle.machine.specs.declared.Refusal.{Refusal}
-use Rattle.machine.specs.declared.Validity.{Validity}
-use Rattle.machine.specs.declared.Validity.the-variants.{Valid, Refused}
-use Rattle.machine.specs.Refusals.{refusal, andThen, short-buffer}
+use Rattle.machine.specs.Refusals.{Result, answer, andThen, bufferValidity}
 use Rattle.machine.specs.Machines.{starts, nC, nA}
 use Rattle.machine.specs.WellFormed.{pairValidity}
-use Rattle.machine.specs.Table.{covers, coveredCount}
+use Rattle.machine.specs.Table.{tableRoom, covers, coveredCount}
 use Rattle.machine.specs.Lines.{linesValidity}
 
--- "Lent tables have 28,672 entries or more (7 × 64 × 64)"
-abbrev pub tableRoom : ℕ
-tableRoom = 28672
-
--- what the check can say: Carried with the count, NotCarried with c and the count, a refusal
+-- what the check can say of a table that it takes: Carried with the count, NotCarried with c and the count
 pub data Verdict : Type 0 where
   carried : ℕ → Verdict
   notCarried : ℕ → ℕ → Verdict
-  refused : Refusal → Verdict
 
--- "a refusal's, 100 Carried, .. 200 + c NotCarried"
+-- "100 Carried, .. 200 + c NotCarried"
 unfoldable pub verdictNumber : Verdict → ℕ
 verdictNumber (carried count) = 100
 verdictNumber (notCarried c count) = 200 + c
-verdictNumber (refused r) = r .number
-
--- a lent buffer of some length, and the least that it must have
-unfoldable pub bufferValidity : ℕ → ℕ → Validity
-bufferValidity least len = cond (ltb len least) (Refused (refusal short-buffer 0 0 0)) Valid
 
 -- the concrete start state c has an abstract start state a, with (c, a) non-blank in section 1
 unfoldable pub startCovered : Pair → List ℕ → ℕ → Bool
@@ -49,14 +36,10 @@ lackingStart p T = first (nC p) (λ c. and (starts (p .concrete) c) (not (startC
 unfoldable pub startVerdict : Pair → List ℕ → Verdict
 startVerdict p T = cond (ltb (lackingStart p T) (nC p)) (notCarried (lackingStart p T) (coveredCount p T)) (carried (coveredCount p T))
 
-unfoldable pub orElse : Validity → Verdict → Verdict
-orElse Valid v = v
-orElse (Refused r) v = refused r
-
 -- 5, 9 to 12, and the answer
-unfoldable pub linesVerdict : Pair → List ℕ → Verdict
-linesVerdict p T = orElse (andThen (pairValidity p) (linesValidity p T)) (startVerdict p T)
+unfoldable pub linesVerdict : Pair → List ℕ → Result Verdict
+linesVerdict p T = andThen (pairValidity p) (andThen (linesValidity p T) (answer (startVerdict p T)))
 
 -- the check's whole answer, of a lent table: 1 before all else
-unfoldable pub checkVerdict : Pair → List ℕ → Verdict
-checkVerdict p T = orElse (bufferValidity tableRoom (length T)) (linesVerdict p T)
+unfoldable pub checkVerdict : Pair → List ℕ → Result Verdict
+checkVerdict p T = andThen (bufferValidity tableRoom (length T)) (linesVerdict p T)

@@ -1,33 +1,62 @@
--- Laws of the check's answer.
+-- Laws of the check's answer: which test tells it, and what an answer tells of the tests.
 use mathlib.Core.Bool.{true}
 use mathlib.Core.List.{List}
 use mathlib.Core.Logic.{⊎-elim}
-use mathlib.Core.Path.{_≡_, refl}
-use Prim.Native.Nat.{ℕ, _<_}
+use mathlib.Core.Path.{_≡_, _∙_}
+use Prim.Native.Nat.{ℕ, _≤_, _<_}
 use native.Mathlib.Omega.{arith}
 use lib.Dec.{ltb}
+use lib.ListN.{length}
 use borrow.Author.Tests.{ltb-false}
 use Rattle.mask.specs.LogicLaws.{dec, clash, cond-cases, and-i, not-i}
 use Rattle.mask.specs.BoundedLaws.{first-before}
 use Rattle.machine.specs.declared.Pair.{Pair}
 use Rattle.machine.specs.declared.Refusal.{Refusal}
-use Rattle.machine.specs.declared.Validity.{Validity}
-use Rattle.machine.specs.declared.Validity.the-variants.{Valid, Refused}
-use Rattle.machine.specs.Refusals.{andThen}
+use Rattle.machine.specs.Refusals.{valid, answer, refused, refusal, short-buffer}
+use Rattle.machine.specs.RefusalsLaws.{then-of, then-refused, then-answer, answer-is, buffer-valid, buffer-short}
 use Rattle.machine.specs.Machines.{starts, nC}
 use Rattle.machine.specs.WellFormed.{pairValidity}
-use Rattle.machine.specs.WellFormedLaws.{then-valid}
+use Rattle.machine.specs.Table.{tableRoom}
 use Rattle.machine.specs.Lines.{passesEach, linesValidity}
 use Rattle.machine.specs.LinesLaws.{valid-passes}
-use Rattle.machine.specs.Verdict.{Verdict, carried, refused, startCovered, lackingStart, startVerdict, orElse, linesVerdict}
-
--- an answer that is no refusal is given where nothing is refused
-pub answered : (v : Validity) (w u : Verdict) → ((r : Refusal) → refused r ≡ u → ⊥) → orElse v w ≡ u → (v ≡ Valid) × (w ≡ u)
-unfolding orElse
-answered Valid w u h e = (refl, e)
-answered (Refused r) w u h e = absurd (h r e)
+use Rattle.machine.specs.Verdict.{Verdict, carried, startCovered, lackingStart, startVerdict, linesVerdict, checkVerdict}
 
 module _ (p : Pair) (T : List ℕ) where
+  -- ---- which test tells the answer
+  pub check-short : length T < tableRoom → checkVerdict p T ≡ refused (refusal short-buffer 0 0 0)
+  unfolding checkVerdict
+  check-short h = then-refused _ _ _ (buffer-short tableRoom (length T) h)
+
+  -- of a table with room
+  module _ (room : tableRoom ≤ length T) where
+    pub check-lines : checkVerdict p T ≡ linesVerdict p T
+    unfolding checkVerdict
+    check-lines = then-of _ _ (buffer-valid tableRoom (length T) room)
+
+    pub check-invalid : (r : Refusal) → pairValidity p ≡ refused r → checkVerdict p T ≡ refused r
+    unfolding linesVerdict
+    check-invalid r e = check-lines ∙ then-refused _ _ r e
+
+    pub check-fails : (r : Refusal) → pairValidity p ≡ valid → linesValidity p T ≡ refused r → checkVerdict p T ≡ refused r
+    unfolding linesVerdict
+    check-fails r e f = check-lines ∙ then-of _ _ e ∙ then-refused _ _ r f
+
+    pub check-passes : pairValidity p ≡ valid → linesValidity p T ≡ valid → checkVerdict p T ≡ answer (startVerdict p T)
+    unfolding linesVerdict
+    check-passes e f = check-lines ∙ then-of _ _ e ∙ then-of _ _ f
+
+  -- ---- what an answer tells of the tests
+  pub lines-said : (v : Verdict) → linesVerdict p T ≡ answer v → (pairValidity p ≡ valid) × (linesValidity p T ≡ valid) × (startVerdict p T ≡ v)
+  unfolding linesVerdict
+  lines-said v e =
+      let a = then-answer (pairValidity p) _ e in
+      let b = then-answer (linesValidity p T) _ (a .1) in
+      (a .0, b .0, answer-is (b .1))
+
+  pub check-said : (v : Verdict) → checkVerdict p T ≡ answer v → linesVerdict p T ≡ answer v
+  unfolding checkVerdict
+  check-said v e = then-answer _ _ e .1
+
   -- below the lowest state that lacks one, each start state has a partner
   pub before-lacking : (c : ℕ) → c < lackingStart p T → starts (p .concrete) c ≡ true → startCovered p T c ≡ true
   unfolding lackingStart
@@ -35,7 +64,7 @@ module _ (p : Pair) (T : List ℕ) where
 
   -- Carried is said only where nothing is refused and each start state has a partner
   pub record IsCarried : Type 0 where
-    pub valid : pairValidity p ≡ Valid
+    pub well : pairValidity p ≡ valid
     pub passing : passesEach p T ≡ true
     pub start : (c : ℕ) → c < nC p → starts (p .concrete) c ≡ true → startCovered p T c ≡ true
 
@@ -46,9 +75,5 @@ module _ (p : Pair) (T : List ℕ) where
       (λ u e. let z : _≡_ {A = ℕ} 0 1 = cc in absurd (omega arith))
       (λ u e c h. before-lacking c (omega (arith, ltb-false (lackingStart p T) (nC p) u)))
 
-  pub carried-at : (n : ℕ) → linesVerdict p T ≡ carried n → IsCarried
-  unfolding linesVerdict
-  carried-at n e =
-      let a = answered (andThen (pairValidity p) (linesValidity p T)) (startVerdict p T) (carried n) (λ r q. let z : _≡_ {A = ℕ} 0 1 = cc in omega arith) e in
-      let v = then-valid _ _ (a .0) in
-      record { valid = v .0; passing = valid-passes p T (v .1); start = carried-starts n (a .1) }
+  pub carried-at : (n : ℕ) → linesVerdict p T ≡ answer (carried n) → IsCarried
+  carried-at n e = let a = lines-said (carried n) e in record { well = a .0; passing = valid-passes p T (a .1); start = carried-starts n (a .2) }

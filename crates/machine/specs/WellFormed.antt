@@ -8,9 +8,7 @@ use Rattle.mask.specs.Logic.{not, and, or}
 use Rattle.mask.specs.Bounded.{some, first, someIn}
 use Rattle.machine.specs.declared.Machine.{Machine}
 use Rattle.machine.specs.declared.Pair.{Pair}
-use Rattle.machine.specs.declared.Validity.{Validity}
-use Rattle.machine.specs.declared.Validity.the-variants.{Valid, Refused}
-use Rattle.machine.specs.Refusals.{refusal, andThen, bad-counts, beyond-counts, no-start, no-successor}
+use Rattle.machine.specs.Refusals.{Tested, valid, answer, refused, refusal, andThen, bad-counts, beyond-counts, no-start, no-successor}
 
 -- 5: "1 to 64" states; "1 to 8 fairness sets for a rig, 1 to 7 for a score"
 unfoldable pub countsOk : ℕ → ℕ → ℕ → Bool
@@ -40,28 +38,28 @@ unfoldable pub stuckState : ℕ → List ℕ → ℕ
 stuckState states successors = first 64 (λ s. and (ltb s states) (eqb (getD successors s 0) 0))
 
 -- 9, 10 and 11 of machine number i
-unfoldable pub contentValidity : ℕ → Machine → Validity
+unfoldable pub contentValidity : ℕ → Machine → Tested
 contentValidity i m =
     let s = stuckState (m .states) (m .successors) in
-    cond (beyondCounts m) (Refused (refusal beyond-counts i 0 0))
-    (cond (eqb (m .start) 0) (Refused (refusal no-start i 0 0))
-    (cond (ltb s 64) (Refused (refusal no-successor i s 0)) Valid))
+    cond (beyondCounts m) (refused (refusal beyond-counts i 0 0))
+    (cond (eqb (m .start) 0) (refused (refusal no-start i 0 0))
+    (cond (ltb s 64) (refused (refusal no-successor i s 0)) valid))
 
--- one machine: "A later call on one machine takes 1 to 8 sets unless its kind is said, and has it as machine 0"
-unfoldable pub machineValidity : Machine → Validity
-machineValidity m = cond (countsOk 8 (m .states) (m .sets)) (contentValidity 0 m) (Refused (refusal bad-counts 0 0 0))
+-- one machine with at most `limit` sets: "A later call on one machine takes 1 to 8 sets unless its kind is said, and has it as machine 0"
+unfoldable pub machineValidity : ℕ → Machine → Tested
+machineValidity limit m = cond (countsOk limit (m .states) (m .sets)) (contentValidity 0 m) (refused (refusal bad-counts 0 0 0))
 
 -- "For 9 to 11 the rig goes through all three before the score."
-unfoldable pub pairValidity : Pair → Validity
+unfoldable pub pairValidity : Pair → Tested
 pairValidity p =
     let C = p .concrete in
     let A = p .abstraction in
     cond (and (countsOk 8 (C .states) (C .sets)) (countsOk 7 (A .states) (A .sets))) (andThen (contentValidity 0 C) (contentValidity 1 A))
-    (Refused (refusal bad-counts 0 0 0))
+    (refused (refusal bad-counts 0 0 0))
 
-unfoldable pub isValid : Validity → Bool
-isValid Valid = true
-isValid (Refused r) = false
+unfoldable pub isValid : Tested → Bool
+isValid (answer t) = true
+isValid (refused r) = false
 
 -- "Well formed means not stopped by refusals 5 and 9 to 11."
 unfoldable pub wellFormed : Pair → Bool

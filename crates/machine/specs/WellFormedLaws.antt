@@ -17,42 +17,18 @@ use Rattle.mask.specs.Bounded.{first}
 use Rattle.mask.specs.BoundedLaws.{none-at, someIn-of, someIn-at, first-before}
 use Rattle.machine.specs.declared.Machine.{Machine}
 use Rattle.machine.specs.declared.Pair.{Pair}
-use Rattle.machine.specs.declared.Refusal.{Refusal}
-use Rattle.machine.specs.declared.Validity.{Validity}
-use Rattle.machine.specs.declared.Validity.the-variants.{Valid, Refused}
-use Rattle.machine.specs.Refusals.{andThen}
+use Rattle.machine.specs.Refusals.{Tested, valid, answer, refused}
+use Rattle.machine.specs.RefusalsLaws.{valid-next, valid-if, then-answer}
 use Rattle.machine.specs.Machines.{observation, successors, moves, starts, fairSet, inFairSet, nC, nA, setsC, setsA, pairs}
 use Rattle.machine.specs.WellFormed.{countsOk, beyond, stateBeyond, setBeyond, beyondCounts, stuckState, contentValidity, pairValidity, isValid, wellFormed}
 
 -- ---- validity
-pub refused-not-valid : (r : Refusal) → Refused r ≡ Valid → ⊥
-refused-not-valid r e = let z : _≡_ {A = ℕ} 0 1 = cc in omega arith
-
--- what is refused where b holds is valid only where b does not and the rest is
-pub valid-next : (b : Bool) (r : Refusal) (v : Validity) → cond b (Refused r) v ≡ Valid → (b ≡ false) × (v ≡ Valid)
-valid-next true r v e = absurd (refused-not-valid r e)
-valid-next false r v e = (refl, e)
-
--- and what is refused unless b holds is valid only where b holds and the rest is
-pub valid-if : (b : Bool) (v : Validity) (r : Refusal) → cond b v (Refused r) ≡ Valid → (b ≡ true) × (v ≡ Valid)
-valid-if true v r e = (refl, e)
-valid-if false v r e = absurd (refused-not-valid r e)
-
-pub then-valid : (v w : Validity) → andThen v w ≡ Valid → (v ≡ Valid) × (w ≡ Valid)
-unfolding andThen
-then-valid Valid w e = (refl, e)
-then-valid (Refused r) w e = absurd (refused-not-valid r e)
-
-pub then-of : (v w : Validity) → v ≡ Valid → andThen v w ≡ w
-unfolding andThen
-then-of v w e = rw e
-
-pub is-valid : (v : Validity) → isValid v ≡ true → v ≡ Valid
+pub is-valid : (v : Tested) → isValid v ≡ true → v ≡ valid
 unfolding isValid
-is-valid Valid t = refl
-is-valid (Refused r) t = absurd (clash refl t)
+is-valid (answer u) t = refl
+is-valid (refused r) t = absurd (clash refl t)
 
-pub valid-is : (v : Validity) → v ≡ Valid → isValid v ≡ true
+pub valid-is : (v : Tested) → v ≡ valid → isValid v ≡ true
 unfolding isValid
 valid-is v e = rw e
 
@@ -93,7 +69,7 @@ unfolding countsOk
 counts-of limit states sets a b c d = and-i (and-i (le-leb 1 states a) (le-leb states 64 b)) (and-i (le-leb 1 sets c) (le-leb sets limit d))
 
 module _ (limit i : ℕ) (m : Machine) where
-  tests : contentValidity i m ≡ Valid → (beyondCounts m ≡ false) × (m .start ≡ 0 → ⊥) × (stuckState (m .states) (m .successors) < 64 → ⊥)
+  tests : contentValidity i m ≡ valid → (beyondCounts m ≡ false) × (m .start ≡ 0 → ⊥) × (stuckState (m .states) (m .successors) < 64 → ⊥)
   unfolding contentValidity
   tests content =
       let a = valid-next (beyondCounts m) _ _ content in
@@ -135,7 +111,7 @@ module _ (limit i : ℕ) (m : Machine) where
       (by-cases (decLt (first 64 (λ s. and (ltb s (m .states)) (eqb (getD (m .successors) s 0) 0))) 64) (λ k. absurd (h k)) (λ k. omega arith)))
       (and-i (lt-ltb s (m .states) l) (eq-eqb _ 0 e))
 
-  pub well-machine : limit ≤ 8 → countsOk limit (m .states) (m .sets) ≡ true → contentValidity i m ≡ Valid → WellMachine limit m
+  pub well-machine : limit ≤ 8 → countsOk limit (m .states) (m .sets) ≡ true → contentValidity i m ≡ valid → WellMachine limit m
   unfolding starts moves inFairSet
   well-machine small counts content =
       let t = tests content in
@@ -165,11 +141,11 @@ pub record WellPair (p : Pair) : Type 0 where
   pub concrete : WellMachine 8 (p .concrete)
   pub abstraction : WellMachine 7 (p .abstraction)
 
-pub well-valid : (p : Pair) → pairValidity p ≡ Valid → WellPair p
+pub well-valid : (p : Pair) → pairValidity p ≡ valid → WellPair p
 unfolding pairValidity
 well-valid p e =
     let a = valid-if _ _ _ e in
-    let b = then-valid (contentValidity 0 (p .concrete)) (contentValidity 1 (p .abstraction)) (a .1) in
+    let b = then-answer (contentValidity 0 (p .concrete)) (contentValidity 1 (p .abstraction)) (a .1) in
     record {
       concrete = well-machine 8 0 (p .concrete) (omega arith) (and-l _ _ (a .0)) (b .0);
       abstraction = well-machine 7 1 (p .abstraction) (omega arith) (and-r _ _ (a .0)) (b .1);
@@ -179,11 +155,11 @@ pub well-pair : (p : Pair) → wellFormed p ≡ true → WellPair p
 unfolding wellFormed
 well-pair p t = well-valid p (is-valid _ t)
 
-pub well-is-valid : (p : Pair) → wellFormed p ≡ true → pairValidity p ≡ Valid
+pub well-is-valid : (p : Pair) → wellFormed p ≡ true → pairValidity p ≡ valid
 unfolding wellFormed
 well-is-valid p t = is-valid _ t
 
-pub valid-is-well : (p : Pair) → pairValidity p ≡ Valid → wellFormed p ≡ true
+pub valid-is-well : (p : Pair) → pairValidity p ≡ valid → wellFormed p ≡ true
 unfolding wellFormed
 valid-is-well p e = valid-is _ e
 

@@ -1,6 +1,5 @@
 // Machines, pairs of machines, refusals, well-formedness, the single step, and where a table's sections and entries lie.
 ghost use mathlib.Core.Path.{_≡_};
-ghost use Prim.Native.Nat.{_<_, _≤_};
 ghost use mathlib.Core.Bool.{cond};
 ghost use lib.ListN.{getD};
 ghost use lib.Dec.{ltb, eqb};
@@ -8,11 +7,11 @@ ghost use Rattle.mask.specs.Logic.{not, or};
 ghost use Rattle.mask.specs.Bits.{hasBit};
 ghost use Rattle.mask.specs.Bounded.{some};
 ghost use Rattle.machine.specs.Machines.{sameObservation, next};
-ghost use Rattle.machine.specs.Refusals.{refusal};
+ghost use Rattle.machine.specs.Refusals.{testedOf, refusal};
 ghost use Rattle.machine.specs.WellFormed.{countsOk, beyond, stateBeyond, setBeyond, beyondCounts, stuckState, contentValidity, machineValidity, pairValidity};
 ghost use Rattle.machine.specs.Step.{partner, found, alike, inRow};
 ghost use Rattle.machine.specs.Observed.{sameMask, matchedMasks};
-ghost use Rattle.machine.specs.Table.{entryIndex};
+ghost use Rattle.machine.specs.Table.{placeOf};
 
 // A finite machine with fairness sets. Document 01: the rig is the concrete machine, the score the abstract one.
 pub struct Machine {
@@ -37,6 +36,12 @@ pub struct Refusal {
     pub second: usize,
     pub third: usize,
 }
+
+// The least length of a lent table, in entries: 7 x 64 x 64.
+pub const TABLE_ROOM: usize = 28672;
+
+// The entry of a pair that is not covered.
+pub const BLANK: u16 = 65535;
 
 pub const SHORT_BUFFER: u32 = 1;
 
@@ -80,6 +85,20 @@ pub enum Validity {
 pub enum Partner {
     State(usize),
     Nobody,
+}
+
+// ---- Refusals
+
+// The refusal with this number and spot.
+pub fn refuse(number: u32, first: usize, second: usize, third: usize) -> Refusal
+    ensures { λ r. ⌜ r ≡ refusal number first second third ⌝ }
+{
+    Refusal {
+        number: number,
+        first: first,
+        second: second,
+        third: third,
+    }
 }
 
 // ---- Well-formedness
@@ -186,55 +205,43 @@ fn beyond_counts(m: Machine) -> bool
 
 // Refusals 9, 10 and 11 of one machine, which is number `index` of a pair.
 pub fn content_validity(index: usize, m: Machine) -> Validity
-    ensures { λ r. ⌜ r ≡ contentValidity index m ⌝ }
+    ensures { λ r. ⌜ testedOf r ≡ contentValidity index m ⌝ }
 {
     if beyond_counts(m) {
-        return refused_at(BEYOND_COUNTS, index, 0);
+        return Validity::Refused(refuse(BEYOND_COUNTS, index, 0, 0));
     }
     if m.start == 0 {
-        return refused_at(NO_START, index, 0);
+        return Validity::Refused(refuse(NO_START, index, 0, 0));
     }
     let successors = m.successors;
     let s = stuck_state(m.states, &successors);
     if s < 64 {
-        return refused_at(NO_SUCCESSOR, index, s);
+        return Validity::Refused(refuse(NO_SUCCESSOR, index, s, 0));
     }
     Validity::Valid
 }
 
-// A refusal whose spot is a machine and, if need be, a state of it.
-fn refused_at(number: u32, index: usize, state: usize) -> Validity
-    ensures { λ r. ⌜ r ≡ Validity.Refused (refusal number index state 0) ⌝ }
+// Whether one machine, which has at most `limit` sets, is well formed; it is machine 0.
+pub fn machine_validity(limit: usize, m: Machine) -> Validity
+    ensures { λ r. ⌜ testedOf r ≡ machineValidity limit m ⌝ }
 {
-    Validity::Refused(Refusal {
-        number: number,
-        first: index,
-        second: state,
-        third: 0,
-    })
-}
-
-// Whether one machine of 1 to 8 sets is well formed; it is machine 0.
-pub fn machine_validity(m: Machine) -> Validity
-    ensures { λ r. ⌜ r ≡ machineValidity m ⌝ }
-{
-    if !counts_ok(8, m.states, m.sets) {
-        return refused_at(BAD_COUNTS, 0, 0);
+    if !counts_ok(limit, m.states, m.sets) {
+        return Validity::Refused(refuse(BAD_COUNTS, 0, 0, 0));
     }
     content_validity(0, m)
 }
 
 // Whether a pair is well formed: the counts of both, then the whole concrete machine, then the whole abstract one.
 pub fn pair_validity(p: Pair) -> Validity
-    ensures { λ r. ⌜ r ≡ pairValidity p ⌝ }
+    ensures { λ r. ⌜ testedOf r ≡ pairValidity p ⌝ }
 {
     let c = p.concrete;
     let a = p.abstraction;
     if !counts_ok(8, c.states, c.sets) {
-        return refused_at(BAD_COUNTS, 0, 0);
+        return Validity::Refused(refuse(BAD_COUNTS, 0, 0, 0));
     }
     if !counts_ok(7, a.states, a.sets) {
-        return refused_at(BAD_COUNTS, 0, 0);
+        return Validity::Refused(refuse(BAD_COUNTS, 0, 0, 0));
     }
     let concrete = content_validity(0, c);
     match concrete {
@@ -344,19 +351,19 @@ pub fn has_partner(moves: u64, matched: u64, row: &[u16], bound: u16) -> bool
 
 // ---- Sections and tables
 
-// The section after j: after the last comes the first. Public, since solver, check and player share it; it requires no more than their tests
-// show.
+// The section after j, of n: after the last comes the first.
 pub fn next_section(n: usize, j: usize) -> usize
-    requires { ⌜ j < n ⌝ }
     ensures { λ r. ⌜ r ≡ next n j ⌝ }
 {
-    if j + 1 == n { 0 } else { j + 1 }
+    if n <= j {
+        return 0;
+    }
+    if j + 1 < n { j + 1 } else { 0 }
 }
 
-// The place in a table of entry (j, c, a). Public, since check and player share it; it requires no more than their tests show.
+// The place in a table of entry (j, c, a). It takes each number modulo 256, so that any have an answer; counts, sections and states are less.
 pub fn entry_index(nc: usize, na: usize, j: usize, c: usize, a: usize) -> usize
-    requires { ⌜ (j < 7) × ((nc ≤ 64) × ((na ≤ 64) × ((c ≤ nc) × (a ≤ na)))) ⌝ }
-    ensures { λ r. ⌜ r ≡ entryIndex nc na j c a ⌝ }
+    ensures { λ r. ⌜ r ≡ placeOf nc na j c a ⌝ }
 {
-    (j * nc + c) * na + a
+    (j % 256 * (nc % 256) + c % 256) * (na % 256) + a % 256
 }

@@ -14,15 +14,16 @@ use Rattle.machine.specs.declared.Partner.the-variants.{State, Nobody}
 use Rattle.machine.specs.declared.Refusal.{Refusal}
 use Rattle.machine.specs.declared.Validity.{Validity}
 use Rattle.machine.specs.declared.Validity.the-variants.{Valid, Refused}
-use Rattle.machine.specs.Refusals.{refusal, andThen, short-buffer, no-start-partner}
+use Rattle.machine.specs.Refusals.{refusal, andThen, short-buffer, no-start-partner, bufferValidity}
 use Rattle.machine.specs.Machines.{nC}
 use Rattle.machine.specs.WellFormed.{pairValidity}
-use Rattle.machine.specs.WellFormedLaws.{then-valid, then-of, valid-next}
 use Rattle.machine.specs.Lassos.{Lasso, moment}
 use Rattle.machine.specs.Step.{found}
 use Rattle.machine.specs.Lines.{linesValidity}
-use Rattle.machine.specs.Verdict.{Verdict, refused as check-refused, bufferValidity, tableRoom, lackingStart, startVerdict, orElse, linesVerdict, checkVerdict}
+use Rattle.machine.specs.Verdict.{Verdict, refused as check-refused, lackingStart, startVerdict, orElse, linesVerdict, checkVerdict}
 use Rattle.machine.specs.Player.{lassoValidity, startPartner, startValidity, playValidity, playedUnless, keptUnless, allValidity, playerAnswer, playerBuffer}
+use Rattle.machine.specs.RefusalsLaws.{then-answer, then-of, valid-next}
+use Rattle.machine.specs.Table.{tableRoom}
 use Rattle.player.specs.declared.Played.the-variants.{Refused as NotPlayed}
 use Rattle.player.specs.Answers.{playedOf, runOf}
 use Rattle.player.specs.Places.{written}
@@ -78,7 +79,7 @@ module _ (p : Pair) (T : List ℕ) where
   check-passes never =
       let a = else-passes (bufferValidity tableRoom (length T)) (linesVerdict p T) never in
       let b = else-passes (andThen (pairValidity p) (linesValidity p T)) (startVerdict p T) (λ r e. never r (a .1 ∙ e)) in
-      let c = then-valid _ _ (b .0) in
+      let c = then-answer _ _ (b .0) in
       record { long = buffer-long (length T) (a .0); pair = c .0; lines = c .1 }
 
   module _ (l : Lasso) (buffer : List ℕ) where

@@ -9,9 +9,9 @@ use Rattle.machine.specs.declared.Pair.{Pair}
 use Rattle.machine.specs.declared.Refusal.{Refusal}
 use Rattle.machine.specs.declared.Validity.{Validity}
 use Rattle.machine.specs.declared.Validity.the-variants.{Valid, Refused}
-use Rattle.machine.specs.WellFormedLaws.{then-valid}
 use Rattle.machine.specs.Lassos.{Lasso}
 use Rattle.machine.specs.Player.{played, refused, playedUnless, keptUnless, allValidity, playerAnswer, playerBuffer, playValidity, run, stemLength, loopLength}
+use Rattle.machine.specs.RefusalsLaws.{then-answer}
 use Rattle.soundness.specs.Statements.{IsRun}
 use Rattle.soundness.specs.PlayerLaws.{playable, good-play, player-run}
 use Rattle.player.specs.Statements.{lassoIn, RunGiven, GivenRunIsRight, RefusalKeepsBuffer}
@@ -49,7 +49,7 @@ module _ (p : Pair) (T : List ℕ) (l : Lasso) (buffer : List ℕ) (valid : allV
   tests : (28672 ≤ length buffer) × (playValidity p T l ≡ Valid)
   unfolding allValidity
   tests =
-      let b = then-valid _ _ (then-valid _ _ valid .1) in
+      let b = then-answer _ _ (then-answer _ _ valid .1) in
       (buffer-long (length buffer) (b .0), b .1)
 
   run-is : IsRun p T l

@@ -11,11 +11,12 @@ use Rattle.machine.specs.declared.Pair.{Pair}
 use Rattle.machine.specs.declared.Refusal.{Refusal}
 use Rattle.machine.specs.declared.Validity.{Validity}
 use Rattle.machine.specs.declared.Validity.the-variants.{Valid, Refused}
-use Rattle.machine.specs.Refusals.{refusal, short-buffer}
+use Rattle.machine.specs.Refusals.{refusal, short-buffer, bufferValidity}
 use Rattle.machine.specs.Machines.{nC, nA, setsC, setsA}
 use Rattle.machine.specs.WellFormed.{pairValidity}
-use Rattle.machine.specs.WellFormedLaws.{then-valid, well-valid}
-use Rattle.machine.specs.Verdict.{bufferValidity, tableRoom}
+use Rattle.machine.specs.WellFormedLaws.{well-valid}
+use Rattle.machine.specs.RefusalsLaws.{then-answer}
+use Rattle.machine.specs.Table.{tableRoom}
 use Rattle.codec.specs.declared.Reading.{Reading}
 use Rattle.codec.specs.declared.Reading.the-variants as reading
 use Rattle.codec.specs.declared.Show.{Show}
@@ -92,7 +93,7 @@ written-small : (p : Pair) (note : Bool) (T buffer : List ℕ) (n : ℕ) → wri
 unfolding writeAnswer writeValidity fileLength
 written-small p note T buffer n e =
     let given = sized-bytes (writeValidity p (length T) (length buffer)) (fileLength (nC p) (nA p) (setsC p) (setsA p) note) n e in
-    let tests = then-valid (bufferValidity fileRoom (length buffer)) (pairValidity p) (then-valid (bufferValidity tableRoom (length T)) _ (given .0) .1) in
+    let tests = then-answer (bufferValidity fileRoom (length buffer)) (pairValidity p) (then-answer (bufferValidity tableRoom (length T)) _ (given .0) .1) in
     omega (arith, given .1, blocks-small (payloadLength (nC p) (nA p) (setsC p) (setsA p) note) (payload-small p note (well-valid p (tests .1))))
 
 after-small : (f : List ℕ) (a : Read) (buffer : List ℕ) (n : ℕ) → sizeAfter f a buffer ≡ bytes n → n ≤ fileRoom

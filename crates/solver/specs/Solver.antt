@@ -5,10 +5,10 @@ use lib.ListN.{length, drop}
 use Rattle.machine.specs.declared.Pair.{Pair}
 use Rattle.machine.specs.declared.Validity.{Validity}
 use Rattle.machine.specs.declared.Validity.the-variants.{Valid, Refused}
-use Rattle.machine.specs.Refusals.{andThen}
+use Rattle.machine.specs.Refusals.{andThen, bufferValidity}
 use Rattle.machine.specs.WellFormed.{pairValidity}
 use Rattle.machine.specs.Ranks.{solverTable}
-use Rattle.machine.specs.Verdict.{bufferValidity, tableRoom}
+use Rattle.machine.specs.Table.{tableRoom}
 
 -- all that the solver tests, of a pair and of the length of the lent table
 unfoldable pub solveValidity : Pair → ℕ → Validity

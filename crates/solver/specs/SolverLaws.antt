@@ -13,13 +13,12 @@ use Rattle.mask.specs.TablesLaws.{table-length, table-at}
 use Rattle.machine.specs.declared.Pair.{Pair}
 use Rattle.machine.specs.declared.Refusal.{Refusal}
 use Rattle.machine.specs.declared.Validity.the-variants.{Valid, Refused}
-use Rattle.machine.specs.Refusals.{refusal, andThen, short-buffer}
+use Rattle.machine.specs.Refusals.{refusal, andThen, short-buffer, bufferValidity}
 use Rattle.machine.specs.Machines.{nC, nA, setsA, pairs}
 use Rattle.machine.specs.WellFormed.{pairValidity}
 use Rattle.machine.specs.WellFormedLaws.{WellPair, entries-small, section-fits}
-use Rattle.machine.specs.Table.{entryIndex, entry}
+use Rattle.machine.specs.Table.{entryIndex, entry, tableRoom}
 use Rattle.machine.specs.Ranks.{rank, solverTable}
-use Rattle.machine.specs.Verdict.{bufferValidity, tableRoom}
 use Rattle.theory.specs.RankLaws.{table-rank}
 use Rattle.solver.specs.Solver.{solveValidity, solvedUnless, solvedTable}
 use Rattle.solver.specs.Ranking.{sectionRanks}

@@ -21,8 +21,9 @@ use Rattle.machine.specs.Lassos.{Lasso, lassoLength, moment, isFair, isPlay}
 use Rattle.machine.specs.Step.{found}
 use Rattle.machine.specs.Lines.{passesEach}
 use Rattle.machine.specs.LinesLaws.{valid-passes}
-use Rattle.machine.specs.WellFormedLaws.{WellPair, well-valid, valid-next, valid-if, then-valid}
+use Rattle.machine.specs.WellFormedLaws.{WellPair, well-valid}
 use Rattle.machine.specs.Player.{badLength, badStep, missedSet, lassoValidity, startPartner, startValidity, placeAt, loopStart, samePlace, lastRound, earlierRound, stemLength, loopLength, run, playValidity}
+use Rattle.machine.specs.RefusalsLaws.{valid-next, valid-if, then-answer}
 use Rattle.soundness.specs.Statements.{IsRun}
 use Rattle.soundness.specs.Plays.{runBetween}
 use Rattle.soundness.specs.PlayLaws.{play-at, play-parts, lasso-of, start-of, table-cut}
@@ -103,9 +104,9 @@ module _ (p : Pair) (T : List ℕ) (l : Lasso) where
   pub playable : playValidity p T l ≡ Valid → Playable
   unfolding playValidity startValidity
   playable e =
-      let a = then-valid _ _ e in
-      let b = then-valid _ _ (a .1) in
-      let c = then-valid _ _ (b .1) in
+      let a = then-answer _ _ e in
+      let b = then-answer _ _ (a .1) in
+      let c = then-answer _ _ (b .1) in
       record {
         well = well-valid p (a .0);
         passing = valid-passes p T (b .0);

@@ -13,12 +13,12 @@ use Rattle.machine.specs.declared.Pair.{Pair}
 use Rattle.machine.specs.declared.Validity.the-variants.{Valid}
 use Rattle.machine.specs.Machines.{starts, nC, nA}
 use Rattle.machine.specs.WellFormed.{pairValidity}
-use Rattle.machine.specs.WellFormedLaws.{then-of}
 use Rattle.machine.specs.Table.{covers, coveredCount}
 use Rattle.machine.specs.Lines.{passesEach, linesValidity}
 use Rattle.machine.specs.LinesLaws.{lines-valid}
 use Rattle.machine.specs.Verdict.{carried, notCarried, startCovered, lackingStart, startVerdict, orElse, linesVerdict}
 use Rattle.machine.specs.VerdictLaws.{answered, before-lacking, carried-at}
+use Rattle.machine.specs.RefusalsLaws.{then-of}
 use Rattle.theory.specs.Statements.{HasStarts, IsLowest}
 
 module _ (p : Pair) (T : List ℕ) where

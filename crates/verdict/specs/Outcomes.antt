@@ -3,7 +3,8 @@ use mathlib.Core.Bool.{true, false}
 use mathlib.Core.List.{List}
 use Prim.Native.Nat.{ℕ}
 use lib.ListN.{replicate}
-use Rattle.machine.specs.Verdict.{Verdict, carried, notCarried, verdictNumber, checkVerdict, tableRoom}
+use Rattle.machine.specs.Verdict.{Verdict, carried, notCarried, verdictNumber, checkVerdict}
+use Rattle.machine.specs.Table.{tableRoom}
 use Rattle.codec.specs.Reader.{Read, taken, readAnswer, readTable}
 use Rattle.codec.specs.declared.Reading.{Reading}
 use Rattle.codec.specs.declared.Reading.the-variants as reading

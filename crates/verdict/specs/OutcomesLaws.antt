@@ -10,13 +10,15 @@ use borrow.Author.Tests.{ltb-true}
 use Rattle.mask.specs.LogicLaws.{cond-cases}
 use Rattle.machine.specs.declared.Pair.{Pair}
 use Rattle.machine.specs.declared.Refusal.{Refusal}
-use Rattle.machine.specs.Refusals.{andThen}
+use Rattle.machine.specs.Refusals.{andThen, bufferValidity}
 use Rattle.machine.specs.Machines.{nC}
 use Rattle.machine.specs.WellFormed.{pairValidity}
-use Rattle.machine.specs.WellFormedLaws.{then-valid, well-valid}
+use Rattle.machine.specs.WellFormedLaws.{well-valid}
 use Rattle.machine.specs.Lines.{linesValidity}
-use Rattle.machine.specs.Verdict.{Verdict, notCarried, bufferValidity, lackingStart, startVerdict, linesVerdict, checkVerdict, tableRoom}
+use Rattle.machine.specs.Verdict.{Verdict, notCarried, lackingStart, startVerdict, linesVerdict, checkVerdict}
 use Rattle.machine.specs.VerdictLaws.{answered}
+use Rattle.machine.specs.RefusalsLaws.{then-answer}
+use Rattle.machine.specs.Table.{tableRoom}
 use Rattle.codec.specs.declared.Reading.{Reading}
 use Rattle.codec.specs.declared.Reading.the-variants as reading
 use Rattle.codec.specs.declared.Show.{Show}
@@ -68,7 +70,7 @@ check-low p T c n e =
     let refuses : (r : Refusal) → Verdict.refused r ≡ notCarried c n → ⊥ = λ r q. let z : _≡_ {A = ℕ} 0 1 = cc in omega arith in
     let lines = answered (bufferValidity tableRoom (length T)) (linesVerdict p T) (notCarried c n) refuses e in
     let start = answered (andThen (pairValidity p) (linesValidity p T)) (startVerdict p T) (notCarried c n) refuses (lines .1) in
-    let states = well-valid p (then-valid _ _ (start .0) .0) .concrete .states-high in
+    let states = well-valid p (then-answer _ _ (start .0) .0) .concrete .states-high in
     cond-cases (ltb (lackingStart p T) (nC p)) (λ v. v ≡ notCarried c n → c < 64) _ _
     (λ t q. let same : lackingStart p T ≡ c = cc in omega (arith, states, same, ltb-true (lackingStart p T) (nC p) t))
     (λ t q. let z : _≡_ {A = ℕ} 0 1 = cc in absurd (omega arith))

@@ -1,7 +1,9 @@
+-- The tests are made in the order of the definition, and each return is the first that fails.
 use mathlib.Core.Bool.{false}
-use mathlib.Core.Path.{_≡_, sym, _∙_}
+use mathlib.Core.Path.{_≡_, sym, ap, _∙_}
 use borrow.Author.Needs.{needs}
 use borrow.Author.Tests.{eq-eqb, ne-eqb, lt-ltb, le-ltb}
+use Rattle.machine.specs.Refusals.{refused, testedOf}
 use Rattle.machine.specs.WellFormed.{beyondCounts, contentValidity}
 use Rattle.machine.proofs.content_validity.Statement.{statement}
 use Rattle.machine.proofs.content_validity.Tie as tie
@@ -12,35 +14,35 @@ within c = sym (c .before .beyond-counts .ensures) ∙ c .if1 .left
 beyond-counts-requires : tie.Need-beyond-counts-requires
 beyond-counts-requires c κs = search needs
 
-refused-at-requires : tie.Need-refused-at-requires
-refused-at-requires c κs = search needs
+refuse-requires : tie.Need-refuse-requires
+refuse-requires c κs = search needs
 
 returns : tie.Need-returns
-unfolding contentValidity
-returns c = rw (sym (c .before .before .beyond-counts .ensures) ∙ c .before .if1 .taken) (c .refused-at .ensures)
+unfolding contentValidity testedOf
+returns c = rw (sym (c .before .before .beyond-counts .ensures) ∙ c .before .if1 .taken) (ap refused (c .refuse .ensures))
 
-refused-at-requires-2 : tie.Need-refused-at-requires-2
-refused-at-requires-2 c κs = search needs
+refuse-requires-2 : tie.Need-refuse-requires-2
+refuse-requires-2 c κs = search needs
 
 returns-2 : tie.Need-returns-2
-unfolding contentValidity
-returns-2 c = rw (within (c .before .before .before), eq-eqb _ 0 (c .before .if2 .taken)) (c .refused-at2 .ensures)
+unfolding contentValidity testedOf
+returns-2 c = rw (within (c .before .before .before), eq-eqb _ 0 (c .before .if2 .taken)) (ap refused (c .refuse2 .ensures))
 
 stuck-state-requires : tie.Need-stuck-state-requires
 stuck-state-requires c κs = search needs
 
-refused-at-requires-3 : tie.Need-refused-at-requires-3
-refused-at-requires-3 c κs = search needs
+refuse-requires-3 : tie.Need-refuse-requires-3
+refuse-requires-3 c κs = search needs
 
 returns-3 : tie.Need-returns-3
-unfolding contentValidity
+unfolding contentValidity testedOf
 returns-3 c =
     let start = c .before .before .before .before .before in
     rw (within (start .before .before), ne-eqb _ 0 (start .if2 .left), ← c .before .before .stuck-state .ensures, lt-ltb _ 64 (c .before .if3 .taken))
-    (c .refused-at3 .ensures)
+    (ap refused (c .refuse3 .ensures))
 
 returns-4 : tie.Need-returns-4
-unfolding contentValidity
+unfolding contentValidity testedOf
 returns-4 c =
     let start = c .before .before .before .before in
     rw (within (start .before .before), ne-eqb _ 0 (start .if2 .left), ← c .before .stuck-state .ensures, le-ltb _ 64 (c .if3 .left))
@@ -50,11 +52,11 @@ content-validity-spec =
     tie.close
     (tie.spec
     beyond-counts-requires
-    refused-at-requires
+    refuse-requires
     returns
-    refused-at-requires-2
+    refuse-requires-2
     returns-2
     stuck-state-requires
-    refused-at-requires-3
+    refuse-requires-3
     returns-3
     returns-4)

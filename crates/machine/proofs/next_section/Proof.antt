@@ -5,17 +5,20 @@ use Rattle.machine.specs.StepLaws.{next-wrap, next-step}
 use Rattle.machine.proofs.next_section.Statement.{statement}
 use Rattle.machine.proofs.next_section.Tie as tie
 
-add-if1 : tie.Need-add-if1
-add-if1 c = search needs
+returns : tie.Need-returns
+returns c = let x = c .before .args in sym (next-wrap (x .n) (x .j) (omega arith))
+
+add-if2 : tie.Need-add-if2
+add-if2 c = search needs
 
 add-result : tie.Need-add-result
 add-result c = search needs
 
-returns : tie.Need-returns
-returns c = let x = c .before .args in sym (next-wrap (x .n) (x .j) (omega arith))
-
 returns-2 : tie.Need-returns-2
-returns-2 c = let x = c .before .args in omega (arith, next-step (x .n) (x .j) (omega arith))
+returns-2 c = let x = c .before .before .args in omega (arith, next-step (x .n) (x .j) (omega arith))
+
+returns-3 : tie.Need-returns-3
+returns-3 c = let x = c .before .before .args in sym (next-wrap (x .n) (x .j) (omega arith))
 
 pub next-section-spec : {M : Type 1} → statement M
-next-section-spec = tie.close (tie.spec add-if1 add-result returns returns-2)
+next-section-spec = tie.close (tie.spec returns add-if2 add-result returns-2 returns-3)

@@ -1,10 +1,12 @@
+-- The counts of both machines are tested first; then the concrete machine, and where nothing of it is refused, the abstract one.
 use mathlib.Core.Bool.{true}
-use mathlib.Core.Path.{_≡_, sym, _∙_}
+use mathlib.Core.Path.{_≡_, sym, ap, _∙_}
 use borrow.Author.Needs.{needs}
 use borrow.Author.Tests.{not-true, not-false}
 use Rattle.mask.specs.LogicLaws.{and-i, and-false-l, and-false-r}
 use Rattle.machine.specs.WellFormed.{countsOk, pairValidity}
-use Rattle.machine.specs.Refusals.{andThen}
+use Rattle.machine.specs.Refusals.{refused, testedOf}
+use Rattle.machine.specs.RefusalsLaws.{then-of, then-refused, tested-valid, tested-refused}
 use Rattle.machine.proofs.pair_validity.Statement.{statement}
 use Rattle.machine.proofs.pair_validity.Tie as tie
 
@@ -17,22 +19,22 @@ abstract-counts c = sym (c .before .counts-ok2 .ensures) ∙ not-false _ (c .if2
 counts-ok-requires : tie.Need-counts-ok-requires
 counts-ok-requires c κs = search needs
 
-refused-at-requires : tie.Need-refused-at-requires
-refused-at-requires c κs = search needs
+refuse-requires : tie.Need-refuse-requires
+refuse-requires c κs = search needs
 
 returns : tie.Need-returns
-unfolding pairValidity
-returns c = rw (and-false-l _ (sym (c .before .before .counts-ok .ensures) ∙ not-true _ (c .before .if1 .taken))) (c .refused-at .ensures)
+unfolding pairValidity testedOf
+returns c = rw (and-false-l _ (sym (c .before .before .counts-ok .ensures) ∙ not-true _ (c .before .if1 .taken))) (ap refused (c .refuse .ensures))
 
 counts-ok-requires-2 : tie.Need-counts-ok-requires-2
 counts-ok-requires-2 c κs = search needs
 
-refused-at-requires-2 : tie.Need-refused-at-requires-2
-refused-at-requires-2 c κs = search needs
+refuse-requires-2 : tie.Need-refuse-requires-2
+refuse-requires-2 c κs = search needs
 
 returns-2 : tie.Need-returns-2
-unfolding pairValidity
-returns-2 c = rw (and-false-r _ (sym (c .before .before .counts-ok2 .ensures) ∙ not-true _ (c .before .if2 .taken))) (c .refused-at2 .ensures)
+unfolding pairValidity testedOf
+returns-2 c = rw (and-false-r _ (sym (c .before .before .counts-ok2 .ensures) ∙ not-true _ (c .before .if2 .taken))) (ap refused (c .refuse2 .ensures))
 
 content-validity-requires : tie.Need-content-validity-requires
 content-validity-requires c κs = search needs
@@ -47,27 +49,28 @@ content-validity-requires-2 : tie.Need-content-validity-requires-2
 content-validity-requires-2 c κs = search needs
 
 returns-3 : tie.Need-returns-3
-unfolding pairValidity andThen
+unfolding pairValidity testedOf
 returns-3 c =
     let e = c .before .before .before in
-    rw (and-i (concrete-counts (e .before .before .before)) (abstract-counts (e .before)), ← e .content-validity .ensures, c .before .concrete .given .1)
+    rw (and-i (concrete-counts (e .before .before .before)) (abstract-counts (e .before)))
+    (sym (then-refused _ _ _ (tested-refused (e .content-validity .ensures) (c .before .concrete .given .1))))
 
 returns-4 : tie.Need-returns-4
-unfolding pairValidity andThen
+unfolding pairValidity
 returns-4 c =
     let e = c .before .before .before in
-    rw (and-i (concrete-counts (e .before .before .before)) (abstract-counts (e .before)), ← e .content-validity .ensures, c .before .enum-told .given .1)
-    (c .content-validity2 .ensures)
+    rw (and-i (concrete-counts (e .before .before .before)) (abstract-counts (e .before)))
+    (c .content-validity2 .ensures ∙ sym (then-of _ _ (tested-valid (e .content-validity .ensures) (c .before .enum-told .given .1))))
 
 pub pair-validity-spec : {M : Type 1} → statement M
 pair-validity-spec =
     tie.close
     (tie.spec
     counts-ok-requires
-    refused-at-requires
+    refuse-requires
     returns
     counts-ok-requires-2
-    refused-at-requires-2
+    refuse-requires-2
     returns-2
     content-validity-requires
     enum-known-concrete

@@ -6,8 +6,7 @@ use native.Mathlib.Omega.{arith}
 use lib.ListN.{length}
 use borrow.Author.Needs.{needs}
 use Rattle.machine.specs.Machines.{pairs, setsC}
-use Rattle.machine.specs.Table.{entries}
-use Rattle.machine.specs.Verdict.{tableRoom}
+use Rattle.machine.specs.Table.{entries, tableRoom}
 use Rattle.machine.specs.WellFormed.{pairValidity}
 use Rattle.machine.specs.WellFormedLaws.{WellPair, entries-small, pairs-small, ranks-small, valid-is-well, well-valid}
 use Rattle.machine.specs.declared.Validity.the-variants.{Valid}

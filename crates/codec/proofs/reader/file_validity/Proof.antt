@@ -1,6 +1,6 @@
 use mathlib.Core.Path.{_≡_, sym, _∙_}
 use Rattle.machine.specs.declared.Validity.the-variants.{Valid}
-use Rattle.machine.specs.WellFormedLaws.{then-of}
+use Rattle.machine.specs.RefusalsLaws.{then-of}
 use Rattle.codec.specs.Reader.{firstValidity, demanded}
 use Rattle.codec.specs.ReaderLaws.{sized-bytes, refused-sized, then-refused, wrong-length-is}
 use borrow.Author.Needs.{needs}

@@ -4,12 +4,12 @@ use mathlib.Core.Path.{_≡_, sym, ap, ap₂, _∙_}
 use lib.ListN.{length, length-replicate}
 use Rattle.machine.specs.declared.Pair.{Pair}
 use Rattle.machine.specs.WellFormed.{pairValidity}
-use Rattle.machine.specs.WellFormedLaws.{then-valid}
 use Rattle.codec.specs.declared.Show.{Show}
 use Rattle.codec.specs.declared.Reading.the-variants as reading
 use Rattle.codec.specs.Reader.{noteOf, pairOf, taken, takenUnless}
 use Rattle.codec.specs.Answers.{showFor}
 use Rattle.machine.specs.declared.Validity.the-variants.{Valid}
+use Rattle.machine.specs.RefusalsLaws.{then-answer}
 use Rattle.codec.specs.Loading.{Loaded}
 use Rattle.codec.specs.ReaderLaws.{FirstValid, first-valid, blocks-valid, blocks-room, loaded, answer-refused, answer-taken, table-refused, table-taken, table-left}
 use borrow.Author.Needs.{needs}
@@ -17,17 +17,17 @@ use Rattle.codec.proofs.reader.take_show.Statement.{statement}
 use Rattle.codec.proofs.reader.take_show.Tie as tie
 
 first : (c : tie.Start) → FirstValid (c .args .bytes .now)
-first c = first-valid _ (then-valid _ _ (c .pre .0) .0)
+first c = first-valid _ (then-answer _ _ (c .pre .0) .0)
 
 -- the payload fits its array
 room : (c : tie.Start) → 508 * (length (c .args .bytes .now) / 512) ≤ 58928
-room c = blocks-room _ (first c) (blocks-valid _ (then-valid _ _ (c .pre .0) .1) .long)
+room c = blocks-room _ (first c) (blocks-valid _ (then-answer _ _ (c .pre .0) .1) .long)
 
 -- and is there once it is joined
 there : (c : tie.After-join) → Loaded (c .before .before .before .before .args .bytes .now) (c .join .last .1 .0)
 there c =
     let s = c .before .before .before .before in
-    loaded _ _ 58928 (first s) (blocks-valid _ (then-valid _ _ (s .pre .0) .1) .long) (room s) (c .join .ensures)
+    loaded _ _ 58928 (first s) (blocks-valid _ (then-answer _ _ (s .pre .0) .1) .long) (room s) (c .join .ensures)
 
 -- the pair that was read, and what its tests say
 read : (c : tie.After-pair-validity) → c .pair-validity .result ≡ pairValidity (pairOf (c .before .before .before .before .before .before .before .before .args .bytes .now))

@@ -1,0 +1,120 @@
+-- Laws of results: which test of a row of tests tells the answer, and what a lent buffer holds then.
+use mathlib.Core.Bool.{Bool, true, false, cond}
+use mathlib.Core.List.{List, _++_}
+use mathlib.Core.Logic.{_⊎_, inl, inr}
+use mathlib.Core.Path.{_≡_, refl, sym, ap, _∙_}
+use Prim.Native.Nat.{ℕ, _≤_, _<_}
+use native.Mathlib.Omega.{arith}
+use lib.Dec.{ltb}
+use lib.ListN.{length, drop, length-append, length-drop}
+use borrow.Author.Tests.{lt-ltb, le-ltb, ltb-false}
+use Rattle.machine.specs.declared.Refusal.{Refusal}
+use Rattle.machine.specs.declared.Validity.{Validity}
+use Rattle.machine.specs.declared.Validity.the-variants.{Valid, Refused}
+use Rattle.machine.specs.Refusals.{Result, answer, refused, Tested, valid, testedOf, andThen, passOn, bufferAfter, bufferValidity, refusal, short-buffer}
+
+-- ---- answers and refusals
+module _ {A : Type 0} where
+  pub refused-not-answer : {r : Refusal} {a : A} → refused r ≡ answer a → ⊥
+  refused-not-answer e = let z : _≡_ {A = ℕ} 0 1 = cc in omega arith
+
+  pub answer-is : {a b : A} → answer a ≡ answer b → a ≡ b
+  answer-is e = cc
+
+  pub refused-is : {r s : Refusal} → _≡_ {A = Result A} (refused r) (refused s) → r ≡ s
+  refused-is e = cc
+
+-- the answer of a test, as the code has it
+pub tested-valid : {v : Validity} {t : Tested} → testedOf v ≡ t → v ≡ Valid → t ≡ valid
+unfolding testedOf
+tested-valid e z = sym e ∙ ap testedOf z
+
+pub tested-refused : {v : Validity} {t : Tested} {r : Refusal} → testedOf v ≡ t → v ≡ Refused r → t ≡ refused r
+unfolding testedOf
+tested-refused e z = sym e ∙ ap testedOf z
+
+-- what is refused where b holds is valid only where b does not and the rest is
+pub valid-next : (b : Bool) (r : Refusal) (v : Tested) → cond b (refused r) v ≡ valid → (b ≡ false) × (v ≡ valid)
+valid-next true r v e = absurd (refused-not-answer e)
+valid-next false r v e = (refl, e)
+
+-- and what is refused unless b holds is valid only where b holds and the rest is
+pub valid-if : (b : Bool) (v : Tested) (r : Refusal) → cond b v (refused r) ≡ valid → (b ≡ true) × (v ≡ valid)
+valid-if true v r e = (refl, e)
+valid-if false v r e = absurd (refused-not-answer e)
+
+-- ---- the first refusal of two
+module _ {A : Type 0} where
+  pub then-of : (v : Tested) (w : Result A) → v ≡ valid → andThen v w ≡ w
+  unfolding andThen
+  then-of v w e = rw e
+
+  pub then-refused : (v : Tested) (w : Result A) (r : Refusal) → v ≡ refused r → andThen v w ≡ refused r
+  unfolding andThen
+  then-refused v w r e = rw e
+
+  -- an answer is given only where nothing is refused
+  pub then-answer : (v : Tested) (w : Result A) {a : A} → andThen v w ≡ answer a → (v ≡ valid) × (w ≡ answer a)
+  unfolding andThen
+  then-answer (answer t) w e = (refl, e)
+  then-answer (refused r) w e = absurd (refused-not-answer e)
+
+  -- a refusal is the first test's, or the first tells nothing
+  pub then-cases : (v : Tested) (w : Result A) (r : Refusal) → andThen v w ≡ refused r → (v ≡ refused r) ⊎ ((v ≡ valid) × (w ≡ refused r))
+  unfolding andThen
+  then-cases (answer t) w r e = inr (refl, e)
+  then-cases (refused s) w r e = inl (ap refused (refused-is e))
+
+  pub then-then : (u v : Tested) (w : Result A) → andThen (andThen u v) w ≡ andThen u (andThen v w)
+  unfolding andThen
+  then-then (answer t) v w = refl
+  then-then (refused r) v w = refl
+
+  -- where nothing is refused there is the answer, and where something is, that
+  pub given-of : (v : Tested) (a : A) → v ≡ valid → andThen v (answer a) ≡ answer a
+  given-of v a e = then-of v (answer a) e
+
+  pub given-at : (v : Tested) (a : A) {b : A} → andThen v (answer a) ≡ answer b → (v ≡ valid) × (a ≡ b)
+  given-at v a e = let q = then-answer v (answer a) e in (q .0, answer-is (q .1))
+
+  pub given-refused : (v : Tested) (a : A) {r : Refusal} → andThen v (answer a) ≡ refused r → v ≡ refused r
+  unfolding andThen
+  given-refused (answer t) a e = absurd (refused-not-answer (sym e))
+  given-refused (refused s) a e = ap refused (refused-is e)
+
+module _ {A B : Type 0} where
+  pub pass-of : (v : Result A) (f : A → Result B) {a : A} → v ≡ answer a → passOn v f ≡ f a
+  unfolding passOn
+  pass-of v f e = rw e
+
+  pub pass-refused : (v : Result A) (f : A → Result B) {r : Refusal} → v ≡ refused r → passOn v f ≡ refused r
+  unfolding passOn
+  pass-refused v f e = rw e
+
+-- ---- lent buffers
+pub buffer-valid : (least len : ℕ) → least ≤ len → bufferValidity least len ≡ valid
+unfolding bufferValidity
+buffer-valid least len h = rw (le-ltb len least h)
+
+pub buffer-short : (least len : ℕ) → len < least → bufferValidity least len ≡ refused (refusal short-buffer 0 0 0)
+unfolding bufferValidity
+buffer-short least len h = rw (lt-ltb len least h)
+
+pub buffer-room : (least len : ℕ) → bufferValidity least len ≡ valid → least ≤ len
+unfolding bufferValidity
+buffer-room least len e = ltb-false len least (valid-next (ltb len least) _ _ e .0)
+
+module _ {A : Type 0} where
+  pub buffer-made : (v : Result A) {a : A} (made buffer : List ℕ) → v ≡ answer a → bufferAfter v made buffer ≡ made ++ drop (length made) buffer
+  unfolding bufferAfter
+  buffer-made v made buffer e = rw e
+
+  pub buffer-kept : (v : Result A) {r : Refusal} (made buffer : List ℕ) → v ≡ refused r → bufferAfter v made buffer ≡ buffer
+  unfolding bufferAfter
+  buffer-kept v made buffer e = rw e
+
+  -- what is made is no longer than the buffer: its length stays
+  pub buffer-length : (v : Result A) (made buffer : List ℕ) → length made ≤ length buffer → length (bufferAfter v made buffer) ≡ length buffer
+  unfolding bufferAfter
+  buffer-length (answer a) made buffer h = omega (arith, length-append made (drop (length made) buffer), length-drop (length made) buffer)
+  buffer-length (refused r) made buffer h = refl
