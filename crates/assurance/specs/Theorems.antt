@@ -24,7 +24,7 @@ use Rattle.machine.specs.Verdict.{orElse, carried, refused, linesVerdict, check
 use Rattle.machine.specs.VerdictLaws.{answered}
 use Rattle.machine.specs.RefusalsLaws.{then-of}
 use Rattle.machine.specs.Refusals.{bufferValidity}
-use Rattle.theory.specs.EntriesLaws.{entry-same, covers-same, each-same, verdict-same, front-same}
+use Rattle.machine.specs.EntriesLaws.{entry-same, covers-same, each-same, verdict-same, front-same}
 use Rattle.theory.specs.FixpointTheorems.{family-is-figure2}
 use Rattle.theory.specs.RankTheorems.{rank-of-goals, rank-is-first, rank-is-blank, table-holds-ranks, solver-table-passes, solver-table-covers, carried-exactly}
 use Rattle.soundness.specs.Theorems.{carried-is-sound}

@@ -24,3 +24,4 @@ pub mod LevelLaws
 pub mod LinesLaws
 pub mod VerdictLaws
 pub mod RowLaws
+pub mod EntriesLaws

@@ -10,4 +10,3 @@ pub mod PassLaws
 pub mod CoverLaws
 pub mod CarriedLaws
 pub mod RankTheorems
-pub mod EntriesLaws
