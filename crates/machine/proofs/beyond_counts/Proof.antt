@@ -1,3 +1,4 @@
+-- The three tests stand in the order of the definition; each return is the first that holds, and the last is the third test itself.
 use mathlib.Core.Path.{sym, _∙_}
 use borrow.Author.Needs.{needs}
 use Rattle.mask.specs.LogicLaws.{or-l, or-false-l}

@@ -1,3 +1,4 @@
+-- Each return is decided by the first range that fails; the last is the range of the sets itself.
 use mathlib.Core.Path.{sym, _∙_}
 use native.Mathlib.Omega.{arith}
 use lib.Dec.{leb}

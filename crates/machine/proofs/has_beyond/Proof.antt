@@ -1,3 +1,4 @@
+-- A mask has a bit at or past n exactly if its shift by n is not 0; at 64 and more there is none.
 use mathlib.Core.Path.{sym}
 use native.Mathlib.Omega.{arith}
 use borrow.Author.Needs.{needs}

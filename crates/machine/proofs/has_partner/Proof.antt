@@ -1,3 +1,4 @@
+-- There is a partner exactly if there is one among the states that are left; each turn takes the lowest of them.
 use mathlib.Core.Logic.{⊎-elim}
 use mathlib.Core.Path.{_≡_, sym, ap, _∙_}
 use Prim.Native.Nat.{ℕ, _<_, _^_}

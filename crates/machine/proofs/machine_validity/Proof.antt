@@ -1,3 +1,4 @@
+-- The counts decide which of the two arms of the definition is the answer.
 use mathlib.Core.Bool.{true, false}
 use mathlib.Core.Path.{_≡_, sym, ap, _∙_}
 use borrow.Author.Needs.{needs}

@@ -1,3 +1,4 @@
+-- Every row that the loop has passed is that state's own row; after 64 turns these are all rows.
 use mathlib.Core.Logic.{⊎-elim}
 use mathlib.Core.Path.{_≡_, sym, _∙_}
 use Prim.Native.Nat.{ℕ, _-_, _≤_, _<_}

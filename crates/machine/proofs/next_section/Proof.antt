@@ -1,3 +1,4 @@
+-- After the last section, and past it, comes 0; before it the sum is in range.
 use mathlib.Core.Path.{sym}
 use native.Mathlib.Omega.{arith}
 use borrow.Author.Needs.{needs}

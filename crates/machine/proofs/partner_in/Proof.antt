@@ -1,3 +1,4 @@
+-- The moves that are in the row are the bits of one mask: its lowest, or none.
 use mathlib.Core.Path.{sym, ap, _∙_}
 use native.Mathlib.Omega.{arith}
 use borrow.Author.Needs.{needs}

@@ -1,3 +1,4 @@
+-- The best state and its limit are those of the states passed; each turn takes the lowest state that is left.
 use mathlib.Core.Logic.{⊎-elim}
 use mathlib.Core.Path.{sym, _∙_}
 use Prim.Native.Nat.{_<_}

@@ -1,3 +1,4 @@
+-- After a turns the mask holds exactly the states below a with that observation.
 use mathlib.Core.Logic.{⊎-elim}
 use mathlib.Core.Path.{_≡_, sym, ap, _∙_}
 use Prim.Native.Nat.{ℕ, _-_, _≤_, min}

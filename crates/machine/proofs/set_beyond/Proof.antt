@@ -1,3 +1,4 @@
+-- A set within the count is tested for bits, and one past it for being 0.
 use mathlib.Core.Path.{sym}
 use borrow.Author.Needs.{needs}
 use borrow.Author.Tests.{lt-ltb, le-ltb}

@@ -1,3 +1,4 @@
+-- A state within the count is tested for bits, and one past it for zeros in both entries.
 use mathlib.Core.Path.{sym, _∙_}
 use borrow.Author.Needs.{needs}
 use borrow.Author.Tests.{lt-ltb, le-ltb, ne-eqb, eq-eqb}

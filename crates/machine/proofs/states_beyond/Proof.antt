@@ -1,3 +1,4 @@
+-- No state that the loop has passed lies beyond the count; the first that does decides.
 use mathlib.Core.Bool.{false}
 use mathlib.Core.Path.{_≡_, sym, _∙_}
 use Prim.Native.Nat.{ℕ, _-_, _≤_, _<_}

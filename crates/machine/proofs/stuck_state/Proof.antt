@@ -1,3 +1,4 @@
+-- Every state that the loop has passed has a successor, so the first without one is the lowest.
 use mathlib.Core.Logic.{⊎-elim}
 use mathlib.Core.Path.{_≡_, sym}
 use Prim.Native.Nat.{ℕ, _-_, _≤_, _<_}
