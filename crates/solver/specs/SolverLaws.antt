@@ -8,39 +8,38 @@ use native.Mathlib.Nat.{mod-lt, div-add-mod', div-lt-iff-lt-mul, mul-assoc, add-
 use native.Mathlib.Omega.{arith}
 use lib.ListN.{length, getD, drop, length-append, length-drop, List·getD-append}
 use lib.Seq.{ext-getD, getD-append-add, getD-drop}
-use borrow.Author.Tests.{lt-ltb, le-ltb}
 use Rattle.mask.specs.TablesLaws.{table-length, table-at}
 use Rattle.machine.specs.declared.Pair.{Pair}
 use Rattle.machine.specs.declared.Refusal.{Refusal}
-use Rattle.machine.specs.declared.Validity.the-variants.{Valid, Refused}
-use Rattle.machine.specs.Refusals.{refusal, andThen, short-buffer, bufferValidity}
+use Rattle.machine.specs.Refusals.{valid, refused, refusal, short-buffer}
+use Rattle.machine.specs.RefusalsLaws.{then-of, then-refused, buffer-valid, buffer-short, buffer-made, buffer-kept}
 use Rattle.machine.specs.Machines.{nC, nA, setsA, pairs}
 use Rattle.machine.specs.WellFormed.{pairValidity}
 use Rattle.machine.specs.WellFormedLaws.{WellPair, entries-small, section-fits}
 use Rattle.machine.specs.Table.{entryIndex, entry, tableRoom}
 use Rattle.machine.specs.Ranks.{rank, solverTable}
 use Rattle.theory.specs.RankLaws.{table-rank}
-use Rattle.solver.specs.Solver.{solveValidity, solvedUnless, solvedTable}
+use Rattle.solver.specs.Solver.{solveValidity, solvedTable}
 use Rattle.solver.specs.Ranking.{sectionRanks}
 use Rattle.solver.specs.StampLaws.{patch, patch-length, patch-before, patch-in, patch-after}
 
 -- ---- the answer
 module _ (p : Pair) where
-  pub solve-short : (len : ℕ) → len < tableRoom → solveValidity p len ≡ Refused (refusal short-buffer 0 0 0)
-  unfolding solveValidity bufferValidity andThen
-  solve-short len h = rw (lt-ltb len tableRoom h)
+  pub solve-short : (len : ℕ) → len < tableRoom → solveValidity p len ≡ refused (refusal short-buffer 0 0 0)
+  unfolding solveValidity
+  solve-short len h = then-refused _ _ _ (buffer-short tableRoom len h)
 
   pub solve-long : (len : ℕ) → tableRoom ≤ len → solveValidity p len ≡ pairValidity p
-  unfolding solveValidity bufferValidity andThen
-  solve-long len h = rw (le-ltb len tableRoom h)
+  unfolding solveValidity
+  solve-long len h = then-of _ _ (buffer-valid tableRoom len h)
 
-  pub solved-refused : (T : List ℕ) (r : Refusal) → solveValidity p (length T) ≡ Refused r → T ≡ solvedTable p T
-  unfolding solvedTable solvedUnless
-  solved-refused T r e = rw e
+  pub solved-refused : (T : List ℕ) (r : Refusal) → solveValidity p (length T) ≡ refused r → T ≡ solvedTable p T
+  unfolding solvedTable
+  solved-refused T r e = sym (buffer-kept _ (solverTable p) T e)
 
-  pub solved-valid : (T : List ℕ) → solveValidity p (length T) ≡ Valid → solverTable p ++ drop (length (solverTable p)) T ≡ solvedTable p T
-  unfolding solvedTable solvedUnless
-  solved-valid T e = rw e
+  pub solved-valid : (T : List ℕ) → solveValidity p (length T) ≡ valid → solverTable p ++ drop (length (solverTable p)) T ≡ solvedTable p T
+  unfolding solvedTable
+  solved-valid T e = sym (buffer-made _ (solverTable p) T e)
 
 -- ---- the table
 -- the first j sections are written

@@ -10,7 +10,8 @@ ghost use lib.ListN.{length, getD, drop};
 ghost use mathlib.Core.List.{_++_};
 ghost use Rattle.mask.specs.Bits.{hasBit};
 ghost use Rattle.machine.specs.Machines.{setsA, pairs};
-ghost use Rattle.machine.specs.Table.{blank};
+ghost use Rattle.machine.specs.Refusals.{testedOf};
+ghost use Rattle.machine.specs.Table.{blank, tableRoom};
 ghost use Rattle.machine.specs.Ranks.{solverTable};
 ghost use Rattle.machine.specs.Step.{partner, found, alike};
 ghost use Rattle.machine.specs.Observed.{matchedMasks};
@@ -22,7 +23,6 @@ ghost use Rattle.solver.specs.Solver.{solveValidity, solvedTable};
 ghost use Rattle.solver.specs.Rows.{rowsOf, pairsIn, flatOf, familyIn, partnersOf, partnerRows, meetOf, stepRows, goalRows, baseRows, outerRows, xRound, unionRows, sameRows, xRows, sectionOf, putSection, without, stampRow, stampRows};
 use machine::Pair;
 use machine::Partner;
-use machine::Refusal;
 use machine::Validity;
 
 // ---- Rows
@@ -368,7 +368,7 @@ fn clear(part: &mut [u16])
     ensures { λ _. ⌜ now (part .exit) ≡ table (length (now (part .entry))) (λ e. blank) ⌝ }
 {
     for e in 0..part.len() {
-        part[e] = 65535;
+        part[e] = machine::BLANK;
     }
 }
 
@@ -476,7 +476,7 @@ fn rank_section(p: Pair, matched: &[u64; 64], largest: &[u64; 448], j: usize, pa
 
 // Writes the ranks of well-formed machines.
 fn rank_all(p: Pair, table: &mut [u16])
-    requires { ⌜ (wellFormed p ≡ true) × (28672 ≤ length (now table)) ⌝ }
+    requires { ⌜ (wellFormed p ≡ true) × (tableRoom ≤ length (now table)) ⌝ }
     ensures { λ _. ⌜ now (table .exit) ≡ solverTable p ++ drop (length (solverTable p)) (now (table .entry)) ⌝ }
 {
     let concrete = p.concrete;
@@ -496,16 +496,11 @@ fn rank_all(p: Pair, table: &mut [u16])
 
 // Writes the ranks of two machines into a lent table of 28,672 entries or more: exactly n x P entries, and none beside a refusal.
 pub fn solve(p: Pair, table: &mut [u16]) -> Validity
-    ensures { λ r. ⌜ r ≡ solveValidity p (length (now (table .entry))) ⌝ }
+    ensures { λ r. ⌜ testedOf r ≡ solveValidity p (length (now (table .entry))) ⌝ }
     ensures { λ r. ⌜ now (table .exit) ≡ solvedTable p (now (table .entry)) ⌝ }
 {
-    if table.len() < 28672 {
-        return Validity::Refused(Refusal {
-            number: machine::SHORT_BUFFER,
-            first: 0,
-            second: 0,
-            third: 0,
-        });
+    if table.len() < machine::TABLE_ROOM {
+        return Validity::Refused(machine::refuse(machine::SHORT_BUFFER, 0, 0, 0));
     }
     let validity = machine::pair_validity(p);
     match validity {

@@ -2,7 +2,7 @@
 use mathlib.Core.Bool.{true}
 use mathlib.Core.List.{List}
 use mathlib.Core.Logic.{⊎-elim}
-use mathlib.Core.Path.{_≡_}
+use mathlib.Core.Path.{_≡_, ap, _∙_}
 use Prim.Native.Nat.{ℕ, _<_}
 use native.Mathlib.Omega.{arith}
 use lib.Dec.{ltb}
@@ -10,14 +10,14 @@ use borrow.Author.Tests.{ltb-true, le-ltb}
 use Rattle.mask.specs.LogicLaws.{dec, cond-cases, and-l, and-r, and-false-l, and-false-r, not-e, not-f}
 use Rattle.mask.specs.BoundedLaws.{first-none, first-has, someIn-at, someIn-of}
 use Rattle.machine.specs.declared.Pair.{Pair}
-use Rattle.machine.specs.declared.Validity.the-variants.{Valid}
+use Rattle.machine.specs.Refusals.{valid, answer}
 use Rattle.machine.specs.Machines.{starts, nC, nA}
 use Rattle.machine.specs.WellFormed.{pairValidity}
 use Rattle.machine.specs.Table.{covers, coveredCount}
-use Rattle.machine.specs.Lines.{passesEach, linesValidity}
+use Rattle.machine.specs.Lines.{passesEach}
 use Rattle.machine.specs.LinesLaws.{lines-valid}
-use Rattle.machine.specs.Verdict.{carried, notCarried, startCovered, lackingStart, startVerdict, orElse, linesVerdict}
-use Rattle.machine.specs.VerdictLaws.{answered, before-lacking, carried-at}
+use Rattle.machine.specs.Verdict.{carried, notCarried, startCovered, lackingStart, startVerdict, linesVerdict}
+use Rattle.machine.specs.VerdictLaws.{before-lacking, carried-at, lines-said}
 use Rattle.machine.specs.RefusalsLaws.{then-of}
 use Rattle.theory.specs.Statements.{HasStarts, IsLowest}
 
@@ -43,16 +43,15 @@ module _ (p : Pair) (T : List ℕ) where
 
 -- the same of the whole answer
 module _ (p : Pair) (T : List ℕ) where
-  pub said-lowest : (c n : ℕ) → linesVerdict p T ≡ notCarried c n → IsLowest p T c
-  unfolding linesVerdict
-  said-lowest c n e = lowest-said p T c n (answered _ (startVerdict p T) (notCarried c n) (λ r q. let z : _≡_ {A = ℕ} 0 1 = cc in omega arith) e .1)
+  pub said-lowest : (c n : ℕ) → linesVerdict p T ≡ answer (notCarried c n) → IsLowest p T c
+  said-lowest c n e = lowest-said p T c n (lines-said p T (notCarried c n) e .2)
 
-  pub said-starts : (n : ℕ) → linesVerdict p T ≡ carried n → HasStarts p T
+  pub said-starts : (n : ℕ) → linesVerdict p T ≡ answer (carried n) → HasStarts p T
   said-starts n e = carried-at p T n e .start
 
-  pub starts-said : pairValidity p ≡ Valid → passesEach p T ≡ true → HasStarts p T → linesVerdict p T ≡ carried (coveredCount p T)
-  unfolding linesVerdict orElse
-  starts-said v t h = rw (then-of (pairValidity p) (linesValidity p T) v, lines-valid p T t) (starts-carried p T h)
+  pub starts-said : pairValidity p ≡ valid → passesEach p T ≡ true → HasStarts p T → linesVerdict p T ≡ answer (carried (coveredCount p T))
+  unfolding linesVerdict
+  starts-said v t h = then-of _ _ v ∙ then-of _ _ (lines-valid p T t) ∙ ap answer (starts-carried p T h)
 
 -- a table that covers, in section 1, what another covers, has the start pairs that the other has
 pub starts-kept : (p : Pair) (T U : List ℕ) → ((c a : ℕ) → c < nC p → a < nA p → covers p T 0 c a ≡ true → covers p U 0 c a ≡ true)

@@ -11,6 +11,7 @@ use Rattle.machine.specs.Machines.{nC, nA, setsC, setsA, pairs, starts, matched
 use Rattle.machine.specs.Game.{mem, allMatched, goals, inX, roundX, xOver, level, xSet, levels, turn, familyAfter, family}
 use Rattle.machine.specs.Ranks.{levelOf, setOf, rank, solverTable}
 use Rattle.machine.specs.Iteration.{iterate}
+use Rattle.machine.specs.Refusals.{answer}
 use Rattle.machine.specs.Figure2.{Set, Cor, approx, UnderX, Innermost, UnderY, row, figure2}
 use Rattle.machine.specs.Table.{blank, entry, covers}
 use Rattle.machine.specs.Lines.{passesEach}
@@ -123,7 +124,7 @@ module _ (p : Pair) where
 
   -- 5. the check says Carried of the solver's table exactly when some table passes each line and has the start pairs
   abbrev pub CarriedExactly : Type 0
-  CarriedExactly = ((n : ℕ) × (linesVerdict p (solverTable p) ≡ carried n)) ↔ ((T : List ℕ) × (passesEach p T ≡ true) × HasStarts T)
+  CarriedExactly = ((n : ℕ) × (linesVerdict p (solverTable p) ≡ answer (carried n))) ↔ ((T : List ℕ) × (passesEach p T ≡ true) × HasStarts T)
 
 -- NotCarried's c is the lowest start state that lacks a partner
 pub record IsLowest (p : Pair) (T : List ℕ) (c : ℕ) : Type 0 where
@@ -133,7 +134,7 @@ pub record IsLowest (p : Pair) (T : List ℕ) (c : ℕ) : Type 0 where
   pub lower : (d : ℕ) → d < c → starts (p .concrete) d ≡ true → startCovered p T d ≡ true
 
 abbrev pub NotCarriedIsLowest : Type 0
-NotCarriedIsLowest = (p : Pair) (T : List ℕ) (c n : ℕ) → linesVerdict p T ≡ notCarried c n → IsLowest p T c
+NotCarriedIsLowest = (p : Pair) (T : List ℕ) (c n : ℕ) → linesVerdict p T ≡ answer (notCarried c n) → IsLowest p T c
 
 -- l and k come back from r
 abbrev pub PlaceComesBack : Type 0
