@@ -19,7 +19,7 @@ few : (c : tie.After-next-section) → entry c .args .j < 7
 few c = omega (arith, entry c .pre .1 .1, well (entry c) .abstraction .sets-high)
 
 next-section-requires : tie.Need-next-section-requires
-next-section-requires c κs = c .before .before .before .before .before .pre .1 .1
+next-section-requires c κs = search needs
 
 section-requires : tie.Need-section-requires
 section-requires c κs =
