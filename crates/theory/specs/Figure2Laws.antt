@@ -10,7 +10,7 @@ use Rattle.machine.specs.Machines.{next, nC, nA, setsA, pairs}
 use Rattle.machine.specs.Step.{steps}
 use Rattle.machine.specs.StepLaws.{next-lt, steps-at, steps-of}
 use Rattle.machine.specs.Iteration.{iterate}
-use Rattle.machine.specs.Game.{mem, none, allMatched, goals, roundX, xOver, levelOver, level, levels, turn, firstFamily, familyAfter, family}
+use Rattle.machine.specs.Game.{mem, none, allMatched, goals, roundX, xAfter, xOver, levelOver, level, levels, turn, firstFamily, familyAfter, family}
 use Rattle.machine.specs.Figure2.{Set, Cor, Next, JA, notJC, approx, mu, nu, nuFamily, row, figure2, UnderX, Innermost, UnderY}
 use Rattle.theory.specs.Statements.{Within}
 use Rattle.theory.specs.GameLaws.{InX, goal, lower, stay, none-empty, in-allMatched, of-allMatched, in-round, of-round, xOver-round, round-xOver, level-at, level-of, level-levels, levels-level}
@@ -79,10 +79,12 @@ module _ (p : Pair) where
           way (lower u) = inr (inl (next-is Y B y c a .1 u))
           way (stay o u) = inr (inr (o, next-is X D x c a .1 u))
 
-      pub rounds-are : (i : ℕ) → Is (approx p (UnderX p Z j Y k) (Cor p) i) (iterate i (roundX p (goals p W j) B k) (allMatched p))
+      pub rounds-are : (i : ℕ) → Is (approx p (UnderX p Z j Y k) (Cor p) i) (xAfter p (goals p W j) B k i)
+      unfolding xAfter
       rounds-are = approx-is Is _ _ round-is (Cor p) (allMatched p) cor-is
 
       pub innermost-is : Is (Innermost p Z j Y k) (xOver p (goals p W j) B k)
+      unfolding xAfter
       innermost-is = nu-is _ _ round-is _ (pairs p) (xOver-round p (goals p W j) B k) (round-xOver p (goals p W j) B k)
 
     pub level-is : (Y : Set) (B : List ℕ) → Is Y B → Is (UnderY p Z j Y) (levelOver p (goals p W j) B)

@@ -8,9 +8,8 @@ use Prim.Native.Nat.{ℕ, suc, _+_, _-_, _*_, _≤_, _<_}
 use lib.ListN.{getD}
 use Rattle.machine.specs.declared.Pair.{Pair}
 use Rattle.machine.specs.Machines.{nC, nA, setsC, setsA, pairs, starts, matched}
-use Rattle.machine.specs.Game.{mem, allMatched, goals, inX, roundX, xOver, level, xSet, levels, turn, familyAfter, family}
+use Rattle.machine.specs.Game.{mem, goals, inX, xAfter, xOver, level, xSet, levels, turn, familyAfter, family}
 use Rattle.machine.specs.Ranks.{levelOf, setOf, rank, solverTable}
-use Rattle.machine.specs.Iteration.{iterate}
 use Rattle.machine.specs.Figure2.{Set, Cor, approx, UnderX, Innermost, UnderY, row, figure2}
 use Rattle.machine.specs.Table.{blank, entry, covers}
 use Rattle.machine.specs.Lines.{passesEach}
@@ -74,7 +73,7 @@ module _ (p : Pair) where
   abbrev pub RoundsAreIterates : Type 0
   RoundsAreIterates = (Z : List (List ℕ)) (j l k i c a : ℕ) → j < setsA p → c < nC p → a < nA p
       → approx p (UnderX p (PairsOf Z) j (IterateY Z j l) k) (Cor p) i c a
-      ↔ (mem p (iterate i (roundX p (goals p Z j) (level p (goals p Z j) l) k) (allMatched p)) c a ≡ true)
+      ↔ (mem p (xAfter p (goals p Z j) (level p (goals p Z j) l) k i) c a ≡ true)
 
   abbrev pub XIsInnermost : Type 0
   XIsInnermost = (Z : List (List ℕ)) (j l k c a : ℕ) → j < setsA p → c < nC p → a < nA p
