@@ -11,10 +11,10 @@ use Rattle.machine.specs.declared.Pair.{Pair}
 use Rattle.machine.specs.Machines.{nC, nA, setsC, setsA, starts}
 use Rattle.machine.specs.Lassos.{Lasso, isPlay, SameObservations}
 use Rattle.machine.specs.Game.{mem, goals, family, xSet}
-use Rattle.machine.specs.Figure2.{figure2}
 use Rattle.machine.specs.Table.{entry, covers, entries}
 use Rattle.machine.specs.Lines.{passesEach}
 use Rattle.machine.specs.Verdict.{carried, checkVerdict, startCovered}
+use Rattle.theory.specs.Figure2.{figure2}
 use Rattle.codec.specs.Reader.{taken, readAnswer, readTable}
 use Rattle.codec.specs.Statements.{WriteRead, ReadWrite, WrittenReads, ReadWrites}
 use Rattle.solver.specs.Solver.{solvedTable}

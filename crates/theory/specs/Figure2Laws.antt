@@ -11,7 +11,7 @@ use Rattle.machine.specs.Step.{steps}
 use Rattle.machine.specs.StepLaws.{next-lt, steps-at, steps-of}
 use Rattle.machine.specs.Iteration.{iterate}
 use Rattle.machine.specs.Game.{mem, none, allMatched, goals, roundX, xAfter, xOver, levelOver, level, levels, turn, firstFamily, familyAfter, family}
-use Rattle.machine.specs.Figure2.{Set, Cor, Next, JA, notJC, approx, mu, nu, nuFamily, row, figure2, UnderX, Innermost, UnderY}
+use Rattle.theory.specs.Figure2.{Set, Cor, Next, JA, notJC, approx, mu, nu, nuFamily, row, figure2, UnderX, Innermost, UnderY}
 use Rattle.theory.specs.Statements.{Within}
 use Rattle.theory.specs.GameLaws.{InX, goal, lower, stay, none-empty, in-allMatched, of-allMatched, in-round, of-round, xOver-round, round-xOver, level-at, level-of, level-levels, levels-level}
 use Rattle.theory.specs.FamilyLaws.{goals-at, goals-of, turn-at, first-at, family-within, family-last}

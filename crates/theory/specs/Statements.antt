@@ -10,10 +10,10 @@ use Rattle.machine.specs.declared.Pair.{Pair}
 use Rattle.machine.specs.Machines.{nC, nA, setsC, setsA, pairs, starts, matched}
 use Rattle.machine.specs.Game.{mem, goals, inX, xAfter, xOver, level, xSet, levels, turn, familyAfter, family}
 use Rattle.machine.specs.Ranks.{levelOf, setOf, rank, solverTable}
-use Rattle.machine.specs.Figure2.{Set, Cor, approx, UnderX, Innermost, UnderY, row, figure2}
 use Rattle.machine.specs.Table.{blank, entry, covers}
 use Rattle.machine.specs.Lines.{passesEach}
 use Rattle.machine.specs.Verdict.{carried, notCarried, startCovered, linesVerdict}
+use Rattle.theory.specs.Figure2.{Set, Cor, approx, UnderX, Innermost, UnderY, row, figure2}
 
 module _ (p : Pair) where
   -- every pair of S is one of R
