@@ -8,13 +8,14 @@ use mathlib.Core.Path.{_≡_}
 use Prim.Native.Nat.{ℕ, _+_, _-_, _*_, _≤_, _<_}
 use lib.ListN.{getD}
 use Rattle.machine.specs.declared.Pair.{Pair}
-use Rattle.machine.specs.Machines.{nC, nA, setsC, setsA, starts}
+use Rattle.machine.specs.Machines.{nC, nA, setsC, setsA}
 use Rattle.machine.specs.Lassos.{Lasso, isPlay, SameObservations}
 use Rattle.machine.specs.Game.{mem, goals, family, xSet}
 use Rattle.machine.specs.Table.{entry, covers, entries}
 use Rattle.machine.specs.Lines.{passesEach}
-use Rattle.machine.specs.Verdict.{carried, checkVerdict, startCovered}
+use Rattle.machine.specs.Verdict.{carried, checkVerdict}
 use Rattle.theory.specs.Figure2.{figure2}
+use Rattle.theory.specs.Statements.{IsTable, HasStarts}
 use Rattle.codec.specs.Reader.{taken, readAnswer, readTable}
 use Rattle.codec.specs.Statements.{WriteRead, ReadWrite, WrittenReads, ReadWrites}
 use Rattle.solver.specs.Solver.{solvedTable}
@@ -52,7 +53,7 @@ module _ (p : Pair) (T : List ℕ) where
   -- score start state with the pair non-blank in section 1"
   abbrev pub SolvedIsCarried : Type 0
   SolvedIsCarried = ((n : ℕ) × (checkVerdict p (solvedTable p T) ≡ carried n))
-      ↔ ((R : List ℕ) × (passesEach p R ≡ true) × ((c : ℕ) → c < nC p → starts (p .concrete) c ≡ true → startCovered p R c ≡ true))
+      ↔ ((R : List ℕ) × IsTable p R × (passesEach p R ≡ true) × HasStarts p R)
 
   -- ---- demand 2: "Entry by entry, the solver's table is the triply nested fixpoint .., read as ranks by document 01"
   -- a pair is blank in a section exactly if it is outside document 000's figure 2 there

@@ -9,7 +9,6 @@ use lib.ListN.{length, getD, drop, length-append, length-drop}
 use lib.Seq.{getD-append-add, getD-drop}
 use borrow.Author.Tests.{le-ltb}
 use Rattle.mask.specs.LogicLaws.{clash, refute}
-use Rattle.mask.specs.TablesLaws.{table-length}
 use Rattle.machine.specs.declared.Pair.{Pair}
 use Rattle.machine.specs.declared.Refusal.{Refusal}
 use Rattle.machine.specs.declared.Validity.the-variants.{Valid}
@@ -24,6 +23,7 @@ use Rattle.machine.specs.Verdict.{tableRoom, bufferValidity, orElse, carried, r
 use Rattle.machine.specs.VerdictLaws.{answered}
 use Rattle.theory.specs.EntriesLaws.{entry-same, covers-same, each-same, verdict-same, front-same}
 use Rattle.theory.specs.FixpointTheorems.{family-is-figure2}
+use Rattle.theory.specs.RankLaws.{table-is}
 use Rattle.theory.specs.RankTheorems.{rank-of-goals, rank-is-first, rank-is-blank, table-holds-ranks, solver-table-passes, solver-table-covers, carried-exactly}
 use Rattle.soundness.specs.Theorems.{carried-is-sound}
 use Rattle.codec.specs.FileLaws.{write-read, read-write, written-reads, read-writes}
@@ -49,8 +49,7 @@ files-are-sound f T p n taken said = carried-is-sound p _ n (answered _ _ (carri
 
 module _ (p : Pair) (well : wellFormed p ≡ true) (T : List ℕ) (room : tableRoom ≤ length T) where
   made-length : length (solverTable p) ≡ entries p
-  unfolding solverTable
-  made-length = table-length (entries p) _
+  made-length = table-is p (well-pair p well) .0
 
   -- the solver's own entries, and then what was there
   solved-is : solvedTable p T ≡ solverTable p ++ drop (length (solverTable p)) T

@@ -15,14 +15,14 @@ use Rattle.mask.specs.LogicLaws.{clash, refute, cond-cases}
 use Rattle.mask.specs.Bounded.{first}
 use Rattle.mask.specs.BoundedLaws.{first-has, first-before}
 use Rattle.mask.specs.Tables.{table}
-use Rattle.mask.specs.TablesLaws.{table-at}
+use Rattle.mask.specs.TablesLaws.{table-length, table-at, table-past}
 use Rattle.machine.specs.declared.Pair.{Pair}
 use Rattle.machine.specs.Machines.{matched, nC, nA, setsC, setsA, pairs}
 use Rattle.machine.specs.WellFormedLaws.{WellPair, ranks-small}
 use Rattle.machine.specs.Game.{mem, goals, level, xSet, levels, family}
 use Rattle.machine.specs.Ranks.{tower, rankIn, rank, solverTable}
 use Rattle.machine.specs.Table.{blank, entryIndex, entry, entries}
-use Rattle.theory.specs.Statements.{IsPlace, RankIsBlank, TableHoldsRanks}
+use Rattle.theory.specs.Statements.{IsPlace, TableHoldsRanks, IsTable}
 use Rattle.theory.specs.GameLaws.{goal, none-empty, level-zero}
 use Rattle.theory.specs.FamilyLaws.{goals-at, family-is}
 use Rattle.theory.specs.TowerLaws.{x-is, level-x, levels-x, x-levels, tower-length, tower-at}
@@ -34,6 +34,10 @@ places-order m l k l′ k′ hk hk′ h = by-cases (decLt l l′) inl (λ g. inr
     rest : ¬ (l < l′) → Dec (l ≡ l′) → (l ≡ l′) × (k ≤ k′)
     rest g (yes e) = (e, omega (arith, rw e at h))
     rest g (no e) = let more : suc l′ * m ≤ l * m = mul-le-mul-right m (omega arith) in absurd (omega arith)
+
+-- a product that is above some number has no factor 0
+factor-low : (m n i : ℕ) → i < m * n → 0 < n
+factor-low m n i h = by-cases (decLt 0 n) (λ l. l) (λ l. let z : n ≡ 0 = omega arith in absurd (omega (arith, rw (z, mul-zero) at h)))
 
 module _ (p : Pair) where
   -- how a rank came about: a goal, a place in the tower, or neither
@@ -69,7 +73,7 @@ module _ (p : Pair) where
     )
       where
         pos : 0 < setsC p
-        pos = by-cases (decLt 0 (setsC p)) (λ h. h) (λ h. let z : setsC p ≡ 0 = omega arith in absurd (omega (arith, rw (z, mul-zero) at hi)))
+        pos = factor-low (pairs p) (setsC p) i hi
 
         l : ℕ
         l = i / setsC p
@@ -189,13 +193,26 @@ module _ (p : Pair) where
       table-at (entries p) _ e 0 (rw split (digits-lt hj hq))
       ∙ rw (sec, row, column j c a ha, table-at (setsA p) (λ i. tower p (getD Gs i [])) j [] hj, G)
 
+  -- the solver's table is a table of its machines: n × P entries, each blank or at most m × P
+  pub table-is : WellPair p → IsTable p (solverTable p)
+  unfolding solverTable
+  table-is w = (
+    table-length (entries p) _,
+    λ e. by-cases (decLt e (entries p))
+        (λ l. rw (table-at {A = ℕ} (entries p) _ e 0 l, table-at {A = List (List ℕ)} (setsA p) _ (e / pairs p) [] (div-lt-iff-lt-mul (factor-low _ _ e l) .1 l)) (small (ranked _ _ _)))
+        (λ l. rw (table-past {A = ℕ} (entries p) _ e 0 (omega arith)) (omega arith)),
+  )
+    where
+      small : {G : List ℕ} {c a r : ℕ} → Ranked G c a r → r < 65536
+      small q = ⊎-elim (λ e. omega arith) (λ h. omega (arith, ranks-small p w)) (rank-bounded q)
+
   -- ---- the ranks of a section
   pub section-ranked : (j c a : ℕ) → Ranked (goals p (family p) j) c a (rank p j c a)
   unfolding rank
   section-ranked j c a = ranked (goals p (family p) j) c a
 
   -- blank, exactly the pairs outside the family
-  pub rank-blank : WellPair p → RankIsBlank p
+  pub rank-blank : WellPair p → (j c a : ℕ) → j < setsA p → c < nC p → a < nA p → (rank p j c a ≡ blank) ↔ (mem p (getD (family p) j []) c a ≡ false)
   rank-blank w j c a hj hc ha = (
     λ e. refute _ (λ t. levels-covered w hc ha (section-ranked j c a) (family-is p .at j hj c a hc ha t) e),
     λ t. by-cases (ℕ-discrete (rank p j c a) blank) (λ e. e) (λ e. absurd (clash t (family-is p .of j hj c a hc ha

@@ -1,16 +1,18 @@
 -- What is shown of the game over the definitions of document 01. Each statement is a type; the proofs are in the other files, and
--- FixpointTheorems.antt and RankTheorems.antt give a proof of each. They hold for every pair, where no hypothesis is written, and for every well-formed pair otherwise.
+-- FixpointTheorems.antt and RankTheorems.antt give a proof of each. Hypotheses stand in the types: what is true of well-formed machines only
+-- says `wellFormed p ≡ true`, and what does not say so holds for every content of two machines.
 use mathlib.Core.Bool.{true, false}
 use mathlib.Core.List.{List, []}
 use mathlib.Core.Logic.{_⊎_, _↔_}
 use mathlib.Core.Path.{_≡_}
 use Prim.Native.Nat.{ℕ, suc, _+_, _-_, _*_, _≤_, _<_}
-use lib.ListN.{getD}
+use lib.ListN.{length, getD}
 use Rattle.machine.specs.declared.Pair.{Pair}
 use Rattle.machine.specs.Machines.{nC, nA, setsC, setsA, pairs, starts, matched}
+use Rattle.machine.specs.WellFormed.{wellFormed}
 use Rattle.machine.specs.Game.{mem, goals, inX, xAfter, xOver, level, xSet, levels, turn, familyAfter, family}
 use Rattle.machine.specs.Ranks.{levelOf, setOf, rank, solverTable}
-use Rattle.machine.specs.Table.{blank, entry, covers}
+use Rattle.machine.specs.Table.{blank, entry, covers, entries}
 use Rattle.machine.specs.Lines.{passesEach}
 use Rattle.machine.specs.Verdict.{carried, notCarried, startCovered, linesVerdict}
 use Rattle.theory.specs.Figure2.{Set, Cor, approx, UnderX, Innermost, UnderY, row, figure2}
@@ -84,7 +86,8 @@ module _ (p : Pair) where
   RankOfGoals = (j c a : ℕ) → j < setsA p → c < nC p → a < nA p → (rank p j c a ≡ 0) ↔ (mem p (goals p (family p) j) c a ≡ true)
 
   abbrev pub RankIsBlank : Type 0
-  RankIsBlank = (j c a : ℕ) → j < setsA p → c < nC p → a < nA p → (rank p j c a ≡ blank) ↔ (mem p (getD (family p) j []) c a ≡ false)
+  RankIsBlank = wellFormed p ≡ true → (j c a : ℕ) → j < setsA p → c < nC p → a < nA p
+      → (rank p j c a ≡ blank) ↔ (mem p (getD (family p) j []) c a ≡ false)
 
   -- r = (l − 1) × m + k with the least l, then the least k (k counted from 0), that has the pair in X(l, k)
   pub record IsPlace (G : List ℕ) (c a r l k : ℕ) : Type 0 where
@@ -109,12 +112,16 @@ module _ (p : Pair) where
 
   -- 3. the solver's table passes each line
   abbrev pub SolverTablePasses : Type 0
-  SolverTablePasses = passesEach p (solverTable p) ≡ true
+  SolverTablePasses = wellFormed p ≡ true → passesEach p (solverTable p) ≡ true
 
-  -- 4. it covers whatever any passing table covers
+  -- 4. it covers whatever any passing table covers; T is here any list, of any length
   abbrev pub SolverTableCovers : Type 0
-  SolverTableCovers = (T : List ℕ) → passesEach p T ≡ true → (j c a : ℕ) → j < setsA p → c < nC p → a < nA p
+  SolverTableCovers = wellFormed p ≡ true → (T : List ℕ) → passesEach p T ≡ true → (j c a : ℕ) → j < setsA p → c < nC p → a < nA p
       → covers p T j c a ≡ true → covers p (solverTable p) j c a ≡ true
+
+  -- "A table of two machines is any n × P entries, whoever made them", of 16 bits
+  abbrev pub IsTable : List ℕ → Type 0
+  IsTable T = (length T ≡ entries p) × ((e : ℕ) → getD T e 0 < 65536)
 
   -- T has, for each concrete start state, an abstract start state with the pair non-blank in section 1
   abbrev pub HasStarts : List ℕ → Type 0
@@ -122,7 +129,8 @@ module _ (p : Pair) where
 
   -- 5. the check says Carried of the solver's table exactly when some table passes each line and has the start pairs
   abbrev pub CarriedExactly : Type 0
-  CarriedExactly = ((n : ℕ) × (linesVerdict p (solverTable p) ≡ carried n)) ↔ ((T : List ℕ) × (passesEach p T ≡ true) × HasStarts T)
+  CarriedExactly = wellFormed p ≡ true
+      → ((n : ℕ) × (linesVerdict p (solverTable p) ≡ carried n)) ↔ ((T : List ℕ) × IsTable T × (passesEach p T ≡ true) × HasStarts T)
 
 -- NotCarried's c is the lowest start state that lacks a partner
 pub record IsLowest (p : Pair) (T : List ℕ) (c : ℕ) : Type 0 where
