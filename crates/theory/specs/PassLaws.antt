@@ -20,13 +20,13 @@ use Rattle.theory.specs.Statements.{IsPlace}
 use Rattle.theory.specs.GameLaws.{InX, goal, lower as lower-way, stay, of-allMatched, level-levels, levels-matched}
 use Rattle.theory.specs.FamilyLaws.{goals-at, family-is}
 use Rattle.theory.specs.TowerLaws.{place-back, x-is}
-use Rattle.theory.specs.RankLaws.{Ranked, is-goal, is-placed, is-outside, place-bounded, rank-le, level-rank, table-rank, section-ranked, rank-blank}
+use Rattle.theory.specs.RankLaws.{Ranked, is-goal, is-placed, is-outside, place-bounded, rank-le, level-rank, table-rank, section-ranked, rank-covered}
 
 module _ (p : Pair) (w : WellPair p) where
   -- the solver's table covers the family
   pub family-covered : (j c a : ℕ) → j < setsA p → c < nC p → a < nA p → mem p (getD (family p) j []) c a ≡ true → covers p (solverTable p) j c a ≡ true
   family-covered j c a hj hc ha t =
-      covers-of p (solverTable p) j c a (λ e. clash (rank-blank p w j c a hj hc ha .0 (sym (table-rank p j c a hj hc ha) ∙ e)) t)
+      covers-of p (solverTable p) j c a (λ e. rank-covered p w j c a hj hc ha .1 t (sym (table-rank p j c a hj hc ha) ∙ e))
 
   family-nonBlank : (j c a : ℕ) → j < setsA p → c < nC p → a < nA p → mem p (getD (family p) j []) c a ≡ true
       → nonBlank p (solverTable p) j c a ≡ true
