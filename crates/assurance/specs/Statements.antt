@@ -1,23 +1,26 @@
--- Demands 2 and 3 of the tender, over the very definitions that the contracts of reader, writer, check and solver cite. Each statement is a type, and
--- Theorems.antt gives a proof of each. `readAnswer` and `readTable` are what the reader says and leaves in the lent table, `fileOf` is what the writer
--- writes, `checkVerdict` what the check says, `solvedTable` what the solver leaves in the lent table.
+-- Demands 2 and 3 of the tender, over the very definitions that the contracts of reader, writer, check and solver cite. Each statement is a type with
+-- its hypotheses in it, and Theorems.antt gives a proof of each: what is shown of well-formed machines and a lent table with room only has
+-- `wellFormed p ≡ true` and `tableRoom ≤ length T`. `readAnswer` and `readTable` are what the reader says and leaves in the lent table, `fileOf`
+-- is what the writer writes, `checkVerdict` what the check says, `solveValidity` and `solvedTable` what the solver says and leaves in the lent table.
 use mathlib.Core.Bool.{true}
 use mathlib.Core.List.{List}
-use mathlib.Core.Logic.{_⊎_, _↔_}
+use mathlib.Core.Logic.{_↔_}
 use mathlib.Core.Path.{_≡_}
-use Prim.Native.Nat.{ℕ, _+_, _-_, _*_, _≤_, _<_}
-use lib.ListN.{getD}
+use Prim.Native.Nat.{ℕ, _≤_, _<_}
+use lib.ListN.{length, getD}
 use Rattle.machine.specs.declared.Pair.{Pair}
-use Rattle.machine.specs.Machines.{nC, nA, setsC, setsA, starts}
+use Rattle.machine.specs.Refusals.{valid, answer}
+use Rattle.machine.specs.Machines.{nC, nA, setsA}
+use Rattle.machine.specs.WellFormed.{wellFormed}
 use Rattle.machine.specs.Lassos.{Lasso, isPlay, SameObservations}
-use Rattle.machine.specs.Game.{mem, goals, family, xSet}
-use Rattle.machine.specs.Figure2.{figure2}
-use Rattle.machine.specs.Table.{entry, covers, entries}
+use Rattle.machine.specs.Table.{tableRoom, entry, covers, entries, IsTable}
 use Rattle.machine.specs.Lines.{passesEach}
-use Rattle.machine.specs.Verdict.{carried, checkVerdict, startCovered}
+use Rattle.machine.specs.Verdict.{carried, checkVerdict}
+use Rattle.theory.specs.Figure2.{figure2, FigureGoal}
+use Rattle.theory.specs.Statements.{IsRank, HasStarts}
 use Rattle.codec.specs.Reader.{taken, readAnswer, readTable}
 use Rattle.codec.specs.Statements.{WriteRead, ReadWrite, WrittenReads, ReadWrites}
-use Rattle.solver.specs.Solver.{solvedTable}
+use Rattle.solver.specs.Solver.{solveValidity, solvedTable}
 
 -- ---- demand 2, files
 -- "The writer's files read back to what was written": the machines, the note and the table's entries
@@ -33,48 +36,48 @@ FilesAreWritten = ReadWrite × ReadWrites
 -- read. Then every fair lasso of the rig from a start state has a fair lasso of the score, from a start state, with the same observation at
 -- every moment of endless play."
 abbrev pub FilesAreSound : Type 0
-FilesAreSound = (f T : List ℕ) (p : Pair) (n : ℕ) → readAnswer f T ≡ taken p true → checkVerdict p (readTable f T) ≡ carried n
+FilesAreSound = (f T : List ℕ) (p : Pair) (n : ℕ) → readAnswer f T ≡ answer (taken p true) → checkVerdict p (readTable f T) ≡ answer (carried n)
     → (l : Lasso) → isPlay (p .concrete) l ≡ true
     → (k : Lasso) × (isPlay (p .abstraction) k ≡ true) × SameObservations (p .concrete) l (p .abstraction) k
 
 -- ---- demand 3, second part: "any two well-formed machines, from a file or not", and any lent table that has room
 module _ (p : Pair) (T : List ℕ) where
+  -- the solver takes them: its answer is no refusal
+  abbrev pub SolverTakesMachines : Type 0
+  SolverTakesMachines = wellFormed p ≡ true → tableRoom ≤ length T → solveValidity p (length T) ≡ valid
+
   -- "The table that the solver writes for them, which is document 01's ranks, passes each line of document 01."
   abbrev pub SolvedPasses : Type 0
-  SolvedPasses = passesEach p (solvedTable p T) ≡ true
+  SolvedPasses = wellFormed p ≡ true → tableRoom ≤ length T → passesEach p (solvedTable p T) ≡ true
 
   -- "Whatever other table of these machines passes each line, the solver's covers, section by section, every pair that the other covers."
+  -- R is here any list, of any length
   abbrev pub SolvedCovers : Type 0
-  SolvedCovers = (R : List ℕ) → passesEach p R ≡ true → (j c a : ℕ) → j < setsA p → c < nC p → a < nA p
-      → covers p R j c a ≡ true → covers p (solvedTable p T) j c a ≡ true
+  SolvedCovers = wellFormed p ≡ true → tableRoom ≤ length T → (R : List ℕ) → passesEach p R ≡ true
+      → (j c a : ℕ) → j < setsA p → c < nC p → a < nA p → covers p R j c a ≡ true → covers p (solvedTable p T) j c a ≡ true
 
   -- "the check says Carried of the solver's table exactly when some table of these machines passes each line and has, for each rig start state, a
   -- score start state with the pair non-blank in section 1"
   abbrev pub SolvedIsCarried : Type 0
-  SolvedIsCarried = ((n : ℕ) × (checkVerdict p (solvedTable p T) ≡ carried n))
-      ↔ ((R : List ℕ) × (passesEach p R ≡ true) × ((c : ℕ) → c < nC p → starts (p .concrete) c ≡ true → startCovered p R c ≡ true))
+  SolvedIsCarried = wellFormed p ≡ true → tableRoom ≤ length T
+      → ((n : ℕ) × (checkVerdict p (solvedTable p T) ≡ answer (carried n))) ↔ ((R : List ℕ) × IsTable p R × (passesEach p R ≡ true) × HasStarts p R)
 
-  -- ---- demand 2: "Entry by entry, the solver's table is the triply nested fixpoint .., read as ranks by document 01"
-  -- a pair is blank in a section exactly if it is outside document 000's figure 2 there
+  -- ---- demand 2: "Entry by entry, the solver's table is the triply nested fixpoint .., read as ranks by document 01", over that formula itself
+  -- a pair is not blank in a section exactly if it is in document 000's figure 2 there
   abbrev pub SolvedIsFigure2 : Type 0
-  SolvedIsFigure2 = (j c a : ℕ) → j < setsA p → c < nC p → a < nA p → (covers p (solvedTable p T) j c a ≡ true) ↔ figure2 p j c a
+  SolvedIsFigure2 = wellFormed p ≡ true → tableRoom ≤ length T → (j c a : ℕ) → j < setsA p → c < nC p → a < nA p
+      → (covers p (solvedTable p T) j c a ≡ true) ↔ figure2 p j c a
 
   -- "0 for a goal"
   abbrev pub SolvedGoals : Type 0
-  SolvedGoals = (j c a : ℕ) → j < setsA p → c < nC p → a < nA p → (entry p (solvedTable p T) j c a ≡ 0) ↔ (mem p (goals p (family p) j) c a ≡ true)
+  SolvedGoals = wellFormed p ≡ true → tableRoom ≤ length T → (j c a : ℕ) → j < setsA p → c < nC p → a < nA p
+      → (entry p (solvedTable p T) j c a ≡ 0) ↔ FigureGoal p j c a
 
   -- "else r = (l − 1) × m + k with the least l, then the least k, that has the pair in X(l, k)", k counted from 0 here
-  pub record IsRank (j c a l k : ℕ) : Type 0 where
-    pub l-low : 0 < l
-    pub k-high : k < setsC p
-    pub is-r : entry p (solvedTable p T) j c a ≡ (l - 1) * setsC p + k + 1
-    pub is-in : mem p (xSet p (goals p (family p) j) l k) c a ≡ true
-    pub first : (l′ k′ : ℕ) → 0 < l′ → k′ < setsC p → mem p (xSet p (goals p (family p) j) l′ k′) c a ≡ true → (l < l′) ⊎ ((l ≡ l′) × (k ≤ k′))
-
   abbrev pub SolvedRanks : Type 0
-  SolvedRanks = (j c a : ℕ) → j < setsA p → c < nC p → a < nA p → covers p (solvedTable p T) j c a ≡ true → (entry p (solvedTable p T) j c a ≡ 0 → ⊥)
-      → (l : ℕ) × (k : ℕ) × IsRank j c a l k
+  SolvedRanks = wellFormed p ≡ true → tableRoom ≤ length T → (j c a : ℕ) → j < setsA p → c < nC p → a < nA p
+      → figure2 p j c a → (FigureGoal p j c a → ⊥) → (l : ℕ) × (k : ℕ) × IsRank p j c a (entry p (solvedTable p T) j c a) l k
 
-  -- entries past n × P are as they were
+  -- entries past n × P are as they were, of whatever machines
   abbrev pub SolvedRest : Type 0
   SolvedRest = (e : ℕ) → entries p ≤ e → getD (solvedTable p T) e 0 ≡ getD T e 0

@@ -44,6 +44,10 @@ module _ (p : Pair) where
   unfoldable pub roundX : List ℕ → List ℕ → ℕ → List ℕ → List ℕ
   roundX goals below k X = pairSet (inX goals below k X)
 
+  -- X after i rounds, from all matched pairs downward, over level l − 1
+  unfoldable pub xAfter : List ℕ → List ℕ → ℕ → ℕ → List ℕ
+  xAfter goals below k i = iterate i (roundX goals below k) allMatched
+
   -- "X(l, k) .. is the largest X in which" each pair meets the rule: from all matched pairs downward, over level l − 1
   unfoldable pub xOver : List ℕ → List ℕ → ℕ → List ℕ
   xOver goals below k = settle sameSet (pairs p) (roundX goals below k) allMatched

@@ -8,7 +8,6 @@ pub mod Observed
 pub mod Iteration
 pub mod Game
 pub mod Ranks
-pub mod Figure2
 pub mod Table
 pub mod Lines
 pub mod Verdict

@@ -1,8 +1,9 @@
 -- Document 01, "The game", last part: tables, whoever made them.
 use mathlib.Core.Bool.{Bool}
 use mathlib.Core.List.{List}
-use Prim.Native.Nat.{ℕ, _+_, _*_, _%_}
-use lib.ListN.{getD}
+use mathlib.Core.Path.{_≡_}
+use Prim.Native.Nat.{ℕ, _+_, _*_, _%_, _<_}
+use lib.ListN.{length, getD}
 use lib.Dec.{eqb}
 use Rattle.mask.specs.Logic.{not}
 use Rattle.mask.specs.Bounded.{count}
@@ -39,3 +40,11 @@ entries p = setsA p * pairs p
 -- "the number of non-blank entries, all sections counted"
 unfoldable pub coveredCount : Pair → List ℕ → ℕ
 coveredCount p T = count (entries p) (λ e. not (eqb (getD T e 0) blank))
+
+-- "16 bits": what the types of the code give of the entries of a lent table
+abbrev pub AreEntries : List ℕ → Type 0
+AreEntries T = (e : ℕ) → getD T e 0 < 65536
+
+-- "A table of two machines is any n × P entries, whoever made them."
+abbrev pub IsTable : Pair → List ℕ → Type 0
+IsTable p T = (length T ≡ entries p) × AreEntries T

@@ -3,15 +3,16 @@ use mathlib.Core.Path.{_≡_}
 use mathlib.Core.Logic.{_⊎_, inl, inr, ⊎-elim, _↔_}
 use mathlib.Core.Bool.{true}
 use mathlib.Core.List.{List, []}
-use Prim.Native.Nat.{ℕ, zero, suc, _*_, _<_}
+use Prim.Native.Nat.{ℕ, zero, suc, _-_, _*_, _<_}
+use native.Mathlib.Omega.{arith}
 use lib.ListN.{getD}
 use Rattle.machine.specs.declared.Pair.{Pair}
 use Rattle.machine.specs.Machines.{next, nC, nA, setsA, pairs}
 use Rattle.machine.specs.Step.{steps}
 use Rattle.machine.specs.StepLaws.{next-lt, steps-at, steps-of}
 use Rattle.machine.specs.Iteration.{iterate}
-use Rattle.machine.specs.Game.{mem, none, allMatched, goals, roundX, xOver, levelOver, level, levels, turn, firstFamily, familyAfter, family}
-use Rattle.machine.specs.Figure2.{Set, Cor, Next, JA, notJC, approx, mu, nu, nuFamily, row, figure2, UnderX, Innermost, UnderY}
+use Rattle.machine.specs.Game.{mem, none, allMatched, goals, roundX, xAfter, xOver, levelOver, level, xSet, levels, turn, firstFamily, familyAfter, family}
+use Rattle.theory.specs.Figure2.{Set, Cor, Next, JA, notJC, approx, mu, nu, nuFamily, row, figure2, UnderX, Innermost, UnderY, IterateY, FigureGoal, FigureX}
 use Rattle.theory.specs.Statements.{Within}
 use Rattle.theory.specs.GameLaws.{InX, goal, lower, stay, none-empty, in-allMatched, of-allMatched, in-round, of-round, xOver-round, round-xOver, level-at, level-of, level-levels, levels-level}
 use Rattle.theory.specs.FamilyLaws.{goals-at, goals-of, turn-at, first-at, family-within, family-last}
@@ -62,27 +63,36 @@ module _ (p : Pair) where
 
   -- ---- one row of figure 2, over a family
   module _ (Z : ℕ → Set) (W : List (List ℕ)) (z : IsFam Z W) (j : ℕ) (hj : j < setsA p) where
-    goals-is : (c a : ℕ) → Next p (Z (next (setsA p) j)) c a ↔ (steps p (mem p (getD W (next (setsA p) j) [])) c a ≡ true)
-    goals-is = next-is _ _ (z (next (setsA p) j) (next-lt (setsA p) j hj))
+    into-next : (c a : ℕ) → Next p (Z (next (setsA p) j)) c a ↔ (steps p (mem p (getD W (next (setsA p) j) [])) c a ≡ true)
+    into-next = next-is _ _ (z (next (setsA p) j) (next-lt (setsA p) j hj))
+
+    -- J_j ∧ ⊗ Z_{j+1}
+    pub goal-is : Is (λ c a. Cor p c a × JA p j c a × Next p (Z (next (setsA p) j)) c a) (goals p W j)
+    goal-is c a hc ha = (
+      λ t. goals-of p W j c a hc ha (t .0 .2) (t .1) (into-next c a .0 (t .2)),
+      λ t. let q = goals-at p W j c a hc ha t in ((hc, ha, q .0), q .1, into-next c a .1 (q .2)),
+    )
 
     module _ (Y : Set) (B : List ℕ) (y : Is Y B) (k : ℕ) where
       pub round-is : (X : Set) (D : List ℕ) → Is X D → Is (UnderX p Z j Y k X) (roundX p (goals p W j) B k D)
       round-is X D x c a hc ha = (
         λ t. in-round p (goals p W j) B k D c a hc ha (t .0 .2) (⊎-elim
-            (λ u. goal (goals-of p W j c a hc ha (t .0 .2) (u .0) (goals-is c a .0 (u .1))))
+            (λ u. goal (goal-is c a hc ha .0 (t .0, u .0, u .1)))
             (⊎-elim (λ u. lower (next-is Y B y c a .0 u)) (λ u. stay (u .0) (next-is X D x c a .0 (u .1)))) (t .1)),
         λ t. let q = of-round p (goals p W j) B k D c a hc ha t in ((hc, ha, q .0), way (q .1)),
       )
         where
           way : InX p (goals p W j) B k D c a → (JA p j c a × Next p (Z (next (setsA p) j)) c a) ⊎ (Next p Y c a ⊎ (notJC p k c a × Next p X c a))
-          way (goal u) = let q = goals-at p W j c a hc ha u in inl (q .1, goals-is c a .1 (q .2))
+          way (goal u) = let q = goal-is c a hc ha .1 u in inl (q .1, q .2)
           way (lower u) = inr (inl (next-is Y B y c a .1 u))
           way (stay o u) = inr (inr (o, next-is X D x c a .1 u))
 
-      pub rounds-are : (i : ℕ) → Is (approx p (UnderX p Z j Y k) (Cor p) i) (iterate i (roundX p (goals p W j) B k) (allMatched p))
+      pub rounds-are : (i : ℕ) → Is (approx p (UnderX p Z j Y k) (Cor p) i) (xAfter p (goals p W j) B k i)
+      unfolding xAfter
       rounds-are = approx-is Is _ _ round-is (Cor p) (allMatched p) cor-is
 
       pub innermost-is : Is (Innermost p Z j Y k) (xOver p (goals p W j) B k)
+      unfolding xAfter
       innermost-is = nu-is _ _ round-is _ (pairs p) (xOver-round p (goals p W j) B k) (round-xOver p (goals p W j) B k)
 
     pub level-is : (Y : Set) (B : List ℕ) → Is Y B → Is (UnderY p Z j Y) (levelOver p (goals p W j) B)
@@ -91,9 +101,14 @@ module _ (p : Pair) where
       λ t. let q = level-at p (goals p W j) B c a hc ha t in (q .0, q .1, innermost-is Y B y (q .0) c a hc ha .1 (q .2)),
     )
 
-    pub levels-are : (l : ℕ) → Is (approx p (UnderY p Z j) (λ c a. ⊥) l) (level p (goals p W j) l)
+    pub levels-are : (l : ℕ) → Is (IterateY p Z j l) (level p (goals p W j) l)
     unfolding level
     levels-are = approx-is Is _ _ level-is (λ c a. ⊥) (none p) none-is
+
+    -- X(l + 1, k) is νX over iterate l
+    pub x-is-nu : (l k : ℕ) → Is (Innermost p Z j (IterateY p Z j l) k) (xSet p (goals p W j) (suc l) k)
+    unfolding xSet
+    x-is-nu l k = innermost-is (IterateY p Z j l) (level p (goals p W j) l) (levels-are l) k
 
     pub row-is : Is (row p Z j) (levels p (goals p W j))
     unfolding row level
@@ -116,3 +131,12 @@ module _ (p : Pair) where
     λ t. family-last p j hj c a hc ha (turns-are (setsA p * pairs p) j hj c a hc ha .0 (t (setsA p * pairs p))),
     λ t i. turns-are i j hj c a hc ha .1 (family-within p i j hj c a hc ha t),
   )
+
+  -- ---- goals and X(l, k) of the figure itself
+  module _ (j : ℕ) (hj : j < setsA p) where
+    pub figure-goal-is : Is (FigureGoal p j) (goals p (family p) j)
+    figure-goal-is = goal-is (figure2 p) (family p) figure2-is j hj
+
+    pub figure-x-is : (l k : ℕ) → 0 < l → Is (FigureX p j l k) (xSet p (goals p (family p) j) l k)
+    figure-x-is zero k h = absurd (omega arith)
+    figure-x-is (suc l) k h = let e : suc l - 1 ≡ l = omega arith in rw e (x-is-nu (figure2 p) (family p) figure2-is j hj l k)

@@ -3,12 +3,13 @@ use mathlib.Core.List.{List}
 use Prim.Native.Nat.{ℕ}
 use Rattle.machine.specs.declared.Pair.{Pair}
 use Rattle.machine.specs.Machines.{pairs}
-use Rattle.machine.specs.Game.{goals, level, xSet}
+use Rattle.machine.specs.Game.{goals, level}
 use Rattle.theory.specs.Statements.{XIsLargest, LevelsGrow, LevelsStop, FamilyIsFixed, FamilyIsLargest, FamilyIsReached, FamilyIsFigure2}
-use Rattle.theory.specs.Statements.{PairsOf, IterateY, TurnsAreIterates, LevelsAreIterates, RoundsAreIterates, XIsInnermost}
+use Rattle.theory.specs.Figure2.{IterateY}
+use Rattle.theory.specs.Statements.{PairsOf, TurnsAreIterates, LevelsAreIterates, RoundsAreIterates, XIsInnermost}
 use Rattle.theory.specs.GameLaws.{Within-trans, inX-at, inX-of, xOver-is, level-grows, level-within-x, level-levels, levels-level}
 use Rattle.theory.specs.FamilyLaws.{family-is, family-reached, family-stays}
-use Rattle.theory.specs.Figure2Laws.{IsFam, figure2-is, turns-are, levels-are, rounds-are, innermost-is}
+use Rattle.theory.specs.Figure2Laws.{IsFam, figure2-is, turns-are, levels-are, rounds-are, x-is-nu}
 
 module _ (p : Pair) where
   pub x-is-largest : XIsLargest p
@@ -49,9 +50,7 @@ module _ (p : Pair) where
 
   pub rounds-are-iterates : RoundsAreIterates p
   rounds-are-iterates Z j l k i c a hj hc ha =
-      rounds-are p (PairsOf p Z) Z (own Z) j hj (IterateY p Z j l) (level p (goals p Z j) l) (levels-are p (PairsOf p Z) Z (own Z) j hj l) k i c a hc ha
+      rounds-are p (PairsOf p Z) Z (own Z) j hj (IterateY p (PairsOf p Z) j l) (level p (goals p Z j) l) (levels-are p (PairsOf p Z) Z (own Z) j hj l) k i c a hc ha
 
   pub x-is-innermost : XIsInnermost p
-  unfolding xSet
-  x-is-innermost Z j l k c a hj hc ha =
-      innermost-is p (PairsOf p Z) Z (own Z) j hj (IterateY p Z j l) (level p (goals p Z j) l) (levels-are p (PairsOf p Z) Z (own Z) j hj l) k c a hc ha
+  x-is-innermost Z j l k c a hj hc ha = x-is-nu p (PairsOf p Z) Z (own Z) j hj l k c a hc ha

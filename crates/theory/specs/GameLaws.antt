@@ -18,7 +18,7 @@ use Rattle.machine.specs.Machines.{inFairSet, matched, nC, nA, setsC, pairs}
 use Rattle.machine.specs.Step.{steps}
 use Rattle.machine.specs.StepLaws.{steps-mono}
 use Rattle.machine.specs.Iteration.{iterate}
-use Rattle.machine.specs.Game.{pairSet, mem, sameSet, none, allMatched, inX, roundX, xOver, xsOver, union, levelOver, level, xSet, levels}
+use Rattle.machine.specs.Game.{pairSet, mem, sameSet, none, allMatched, inX, roundX, xAfter, xOver, xsOver, union, levelOver, level, xSet, levels}
 use Rattle.theory.specs.Statements.{Within}
 use Rattle.theory.specs.Fixpoint.{Order, Fam, Fam-room, Test, Upside, Settled, settle-is, settled-below, settle-last, iterate-falls, iterate-down, iterate-keeps, settle-keeps}
 
@@ -194,11 +194,12 @@ module _ (p : Pair) where
         }
 
     -- it is what the rounds come to
-    pub xOver-round : (i : ℕ) → Within p (xOver p G B k) (iterate i (roundX p G B k) (allMatched p))
+    pub xOver-round : (i : ℕ) → Within p (xOver p G B k) (xAfter p G B k i)
+    unfolding xAfter
     xOver-round i = settled-below Pairs (roundX p G B k) round-mono xOver-settled i
 
-    pub round-xOver : Within p (iterate (pairs p) (roundX p G B k) (allMatched p)) (xOver p G B k)
-    unfolding xOver
+    pub round-xOver : Within p (xAfter p G B k (pairs p)) (xOver p G B k)
+    unfolding xAfter xOver
     round-xOver = settle-last Pairs (roundX p G B k) round-mono (pairs p) (allMatched p) round-falls
 
     pub xOver-canonical : Canonical (xOver p G B k)

@@ -1,3 +1,4 @@
+pub mod Figure2
 pub mod Statements
 pub mod Fixpoint
 pub mod GameLaws

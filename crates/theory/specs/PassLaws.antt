@@ -14,19 +14,19 @@ use Rattle.machine.specs.StepLaws.{next-lt, Steps, steps-at, steps-mono}
 use Rattle.machine.specs.Game.{mem, goals, level, xSet, family}
 use Rattle.machine.specs.Ranks.{rank, solverTable}
 use Rattle.machine.specs.Table.{entry, covers}
-use Rattle.machine.specs.Lines.{nonBlank, atMost, passes}
+use Rattle.machine.specs.Lines.{nonBlank, atMost, passes, passesEach}
 use Rattle.machine.specs.LinesLaws.{covers-at, covers-of, nonBlank-of, atMost-of, lower-atMost, Passing, passes-of, passes-blank, each-of}
-use Rattle.theory.specs.Statements.{IsPlace, SolverTablePasses}
+use Rattle.theory.specs.Statements.{IsPlace}
 use Rattle.theory.specs.GameLaws.{InX, goal, lower as lower-way, stay, of-allMatched, level-levels, levels-matched}
 use Rattle.theory.specs.FamilyLaws.{goals-at, family-is}
 use Rattle.theory.specs.TowerLaws.{place-back, x-is}
-use Rattle.theory.specs.RankLaws.{Ranked, is-goal, is-placed, is-outside, place-bounded, rank-le, level-rank, table-rank, section-ranked, rank-blank}
+use Rattle.theory.specs.RankLaws.{Ranked, is-goal, is-placed, is-outside, place-bounded, rank-le, level-rank, table-rank, section-ranked, rank-covered}
 
 module _ (p : Pair) (w : WellPair p) where
   -- the solver's table covers the family
   pub family-covered : (j c a : ℕ) → j < setsA p → c < nC p → a < nA p → mem p (getD (family p) j []) c a ≡ true → covers p (solverTable p) j c a ≡ true
   family-covered j c a hj hc ha t =
-      covers-of p (solverTable p) j c a (λ e. clash (rank-blank p w j c a hj hc ha .0 (sym (table-rank p j c a hj hc ha) ∙ e)) t)
+      covers-of p (solverTable p) j c a (λ e. rank-covered p w j c a hj hc ha .1 t (sym (table-rank p j c a hj hc ha) ∙ e))
 
   family-nonBlank : (j c a : ℕ) → j < setsA p → c < nC p → a < nA p → mem p (getD (family p) j []) c a ≡ true
       → nonBlank p (solverTable p) j c a ≡ true
@@ -108,5 +108,5 @@ module _ (p : Pair) (w : WellPair p) where
         go (is-placed l k t q) = passes-of p (solverTable p) j c a (placed-passes c a l k hc ha t q)
         go (is-outside t o e) = passes-blank p (solverTable p) j c a (refute _ (λ u. covers-at p (solverTable p) j c a u (is ∙ e)))
 
-  pub table-passes : SolverTablePasses p
+  pub table-passes : passesEach p (solverTable p) ≡ true
   table-passes = each-of p (solverTable p) (λ j c a hj hc ha. entry-passes j hj c a hc ha)

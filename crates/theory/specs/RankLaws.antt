@@ -9,20 +9,20 @@ use native.Mathlib.Nat.{mul-le-mul-right, mod-lt, div-add-mod', div-lt-iff-lt-mu
 use native.Mathlib.Omega.{arith}
 use lib.Arith.{digits-lt, digits-div, digits-mod}
 use lib.Dec.{ltb}
-use lib.ListN.{length, getD}
+use lib.ListN.{length, getD, List·getD-eq-default}
 use borrow.Author.Tests.{ltb-true, ltb-false}
 use Rattle.mask.specs.LogicLaws.{clash, refute, cond-cases}
 use Rattle.mask.specs.Bounded.{first}
 use Rattle.mask.specs.BoundedLaws.{first-has, first-before}
 use Rattle.mask.specs.Tables.{table}
-use Rattle.mask.specs.TablesLaws.{table-at}
+use Rattle.mask.specs.TablesLaws.{table-length, table-at}
 use Rattle.machine.specs.declared.Pair.{Pair}
 use Rattle.machine.specs.Machines.{matched, nC, nA, setsC, setsA, pairs}
 use Rattle.machine.specs.WellFormedLaws.{WellPair, ranks-small}
 use Rattle.machine.specs.Game.{mem, goals, level, xSet, levels, family}
 use Rattle.machine.specs.Ranks.{tower, rankIn, rank, solverTable}
-use Rattle.machine.specs.Table.{blank, entryIndex, entry, entries}
-use Rattle.theory.specs.Statements.{IsPlace, RankIsBlank, TableHoldsRanks}
+use Rattle.machine.specs.Table.{blank, entryIndex, entry, entries, IsTable}
+use Rattle.theory.specs.Statements.{IsFirst, IsPlace, TableHoldsRanks}
 use Rattle.theory.specs.GameLaws.{goal, none-empty, level-zero}
 use Rattle.theory.specs.FamilyLaws.{goals-at, family-is}
 use Rattle.theory.specs.TowerLaws.{x-is, level-x, levels-x, x-levels, tower-length, tower-at}
@@ -34,6 +34,10 @@ places-order m l k l′ k′ hk hk′ h = by-cases (decLt l l′) inl (λ g. inr
     rest : ¬ (l < l′) → Dec (l ≡ l′) → (l ≡ l′) × (k ≤ k′)
     rest g (yes e) = (e, omega (arith, rw e at h))
     rest g (no e) = let more : suc l′ * m ≤ l * m = mul-le-mul-right m (omega arith) in absurd (omega arith)
+
+-- a product that is above some number has no factor 0
+factor-low : (m n i : ℕ) → i < m * n → 0 < n
+factor-low m n i h = by-cases (decLt 0 n) (λ l. l) (λ l. let z : n ≡ 0 = omega arith in absurd (omega (arith, rw (z, mul-zero) at h)))
 
 module _ (p : Pair) where
   -- how a rank came about: a goal, a place in the tower, or neither
@@ -69,7 +73,7 @@ module _ (p : Pair) where
     )
       where
         pos : 0 < setsC p
-        pos = by-cases (decLt 0 (setsC p)) (λ h. h) (λ h. let z : setsC p ≡ 0 = omega arith in absurd (omega (arith, rw (z, mul-zero) at hi)))
+        pos = factor-low (pairs p) (setsC p) i hi
 
         l : ℕ
         l = i / setsC p
@@ -111,13 +115,24 @@ module _ (p : Pair) where
         (λ u. is-outside t (λ l k hl hk.
         sym (has-at l k hl hk) ∙ first-before N has (l * setsC p + k) (omega (arith, ltb-false i N u, digits-lt hl hk))) refl))
 
-  module _ {G : List ℕ} {c a r : ℕ} where
-    -- "Ranks are at most m × P."
-    pub place-bounded : {l k : ℕ} → IsPlace p G c a r l k → r ≤ setsC p * pairs p
-    place-bounded {l} q =
-        let h : suc (l - 1) * setsC p ≤ pairs p * setsC p = mul-le-mul-right (setsC p) (omega (arith, q .l-low, q .l-high)) in
-        omega (arith, q .is-r, q .k-high, mul-comm (pairs p) (setsC p))
+  -- the first for which one thing holds is the first for which another does, where the two are the same
+  pub first-same : {In Out : ℕ → ℕ → Type 0} {r l k : ℕ} → ((l k : ℕ) → 0 < l → In l k ↔ Out l k) → IsFirst p In r l k → IsFirst p Out r l k
+  first-same h q = record {
+    l-low = q .l-low;
+    l-high = q .l-high;
+    k-high = q .k-high;
+    is-r = q .is-r;
+    is-in = h _ _ (q .l-low) .0 (q .is-in);
+    first = λ l′ k′ pos hk u. q .first l′ k′ pos hk (h l′ k′ pos .1 u);
+  }
 
+  -- "Ranks are at most m × P."
+  pub place-bounded : {In : ℕ → ℕ → Type 0} {r l k : ℕ} → IsFirst p In r l k → r ≤ setsC p * pairs p
+  place-bounded {l} q =
+      let h : suc (l - 1) * setsC p ≤ pairs p * setsC p = mul-le-mul-right (setsC p) (omega (arith, q .l-low, q .l-high)) in
+      omega (arith, q .is-r, q .k-high, mul-comm (pairs p) (setsC p))
+
+  module _ {G : List ℕ} {c a r : ℕ} where
     pub goal-zero : Ranked G c a r → (r ≡ 0) ↔ (mem p G c a ≡ true)
     goal-zero (is-goal t e) = (λ z. t, λ u. e)
     goal-zero (is-placed l k t q) = (λ z. absurd (omega (arith, q .is-r)), λ u. absurd (clash t u))
@@ -189,15 +204,39 @@ module _ (p : Pair) where
       table-at (entries p) _ e 0 (rw split (digits-lt hj hq))
       ∙ rw (sec, row, column j c a ha, table-at (setsA p) (λ i. tower p (getD Gs i [])) j [] hj, G)
 
+  -- the solver's table is a table of its machines: n × P entries, each blank or at most m × P
+  pub table-entries : length (solverTable p) ≡ entries p
+  unfolding solverTable
+  table-entries = table-length (entries p) _
+
+  table-bounded : (e : ℕ) → e < entries p → (getD (solverTable p) e 0 ≡ blank) ⊎ (getD (solverTable p) e 0 ≤ setsC p * pairs p)
+  unfolding solverTable
+  table-bounded e l =
+      let sec : e / pairs p < setsA p = div-lt-iff-lt-mul (factor-low _ _ e l) .1 l in
+      rw (table-at {A = ℕ} (entries p) _ e 0 l, table-at {A = List (List ℕ)} (setsA p) _ (e / pairs p) [] sec) (rank-bounded (ranked _ _ _))
+
+  pub table-is : WellPair p → IsTable p (solverTable p)
+  table-is w = (
+    table-entries,
+    λ e. by-cases (decLt e (entries p))
+        (λ l. ⊎-elim (λ b. omega arith) (λ h. omega (arith, ranks-small p w)) (table-bounded e l))
+        (λ l. rw (List·getD-eq-default (solverTable p) 0 {n = e} (omega (arith, table-entries))) (omega arith)),
+  )
+
   -- ---- the ranks of a section
   pub section-ranked : (j c a : ℕ) → Ranked (goals p (family p) j) c a (rank p j c a)
   unfolding rank
   section-ranked j c a = ranked (goals p (family p) j) c a
 
-  -- blank, exactly the pairs outside the family
-  pub rank-blank : WellPair p → RankIsBlank p
+  -- not blank, exactly the pairs of the family
+  pub rank-covered : WellPair p → (j c a : ℕ) → j < setsA p → c < nC p → a < nA p → (rank p j c a ≡ blank → ⊥) ↔ (mem p (getD (family p) j []) c a ≡ true)
+  rank-covered w j c a hj hc ha = (
+    λ e. family-is p .of j hj c a hc ha (covered-levels w hc ha (λ u. goals-at p (family p) j c a hc ha u .0) (section-ranked j c a) e),
+    λ t. levels-covered w hc ha (section-ranked j c a) (family-is p .at j hj c a hc ha t),
+  )
+
+  pub rank-blank : WellPair p → (j c a : ℕ) → j < setsA p → c < nC p → a < nA p → (rank p j c a ≡ blank) ↔ (mem p (getD (family p) j []) c a ≡ false)
   rank-blank w j c a hj hc ha = (
-    λ e. refute _ (λ t. levels-covered w hc ha (section-ranked j c a) (family-is p .at j hj c a hc ha t) e),
-    λ t. by-cases (ℕ-discrete (rank p j c a) blank) (λ e. e) (λ e. absurd (clash t (family-is p .of j hj c a hc ha
-        (covered-levels w hc ha (λ u. goals-at p (family p) j c a hc ha u .0) (section-ranked j c a) e)))),
+    λ e. refute _ (λ t. rank-covered w j c a hj hc ha .1 t e),
+    λ t. by-cases (ℕ-discrete (rank p j c a) blank) (λ e. e) (λ e. absurd (clash t (rank-covered w j c a hj hc ha .0 e))),
   )

@@ -1,5 +1,6 @@
--- What is shown of the game over the definitions of document 01. Each statement is a type; the proofs are in the other files, and
--- FixpointTheorems.antt and RankTheorems.antt give a proof of each. They hold for every pair, where no hypothesis is written, and for every well-formed pair otherwise.
+-- What is shown of the game over the definitions of document 01, and of document 000's figure 2. Each statement is a type with its hypotheses in it,
+-- and FixpointTheorems.antt and RankTheorems.antt give a proof of each: what is shown of well-formed machines only has `wellFormed p ≡ true`, and
+-- the others hold for machines of any content.
 use mathlib.Core.Bool.{true, false}
 use mathlib.Core.List.{List, []}
 use mathlib.Core.Logic.{_⊎_, _↔_}
@@ -8,14 +9,14 @@ use Prim.Native.Nat.{ℕ, suc, _+_, _-_, _*_, _≤_, _<_}
 use lib.ListN.{getD}
 use Rattle.machine.specs.declared.Pair.{Pair}
 use Rattle.machine.specs.Machines.{nC, nA, setsC, setsA, pairs, starts, matched}
-use Rattle.machine.specs.Game.{mem, allMatched, goals, inX, roundX, xOver, level, xSet, levels, turn, familyAfter, family}
+use Rattle.machine.specs.WellFormed.{wellFormed}
+use Rattle.machine.specs.Game.{mem, goals, inX, xAfter, xOver, level, xSet, levels, turn, familyAfter, family}
 use Rattle.machine.specs.Ranks.{levelOf, setOf, rank, solverTable}
-use Rattle.machine.specs.Iteration.{iterate}
 use Rattle.machine.specs.Refusals.{answer}
-use Rattle.machine.specs.Figure2.{Set, Cor, approx, UnderX, Innermost, UnderY, row, figure2}
-use Rattle.machine.specs.Table.{blank, entry, covers}
+use Rattle.machine.specs.Table.{blank, entry, covers, IsTable}
 use Rattle.machine.specs.Lines.{passesEach}
 use Rattle.machine.specs.Verdict.{carried, notCarried, startCovered, linesVerdict}
+use Rattle.theory.specs.Figure2.{Set, Cor, approx, UnderX, Innermost, row, figure2, IterateY, FigureGoal, FigureX}
 
 module _ (p : Pair) where
   -- every pair of S is one of R
@@ -55,12 +56,9 @@ module _ (p : Pair) where
   abbrev pub FamilyIsFigure2 : Type 0
   FamilyIsFigure2 = (j c a : ℕ) → j < setsA p → c < nC p → a < nA p → figure2 p j c a ↔ (mem p (getD (family p) j []) c a ≡ true)
 
-  -- the predicates of a family, and iterate l of μY over them
+  -- the predicates of a family
   abbrev pub PairsOf : List (List ℕ) → ℕ → Set
   PairsOf Z j c a = mem p (getD Z j []) c a ≡ true
-
-  abbrev pub IterateY : List (List ℕ) → ℕ → ℕ → Set
-  IterateY Z j l = approx p (UnderY p (PairsOf Z) j) (λ c a. ⊥) l
 
   -- the families after the turns are the iterates of the vector, the levels those of μY, and the rounds those of νX; each X(l + 1, k) is
   -- the innermost greatest fixpoint over iterate l of μY
@@ -70,36 +68,58 @@ module _ (p : Pair) where
 
   abbrev pub LevelsAreIterates : Type 0
   LevelsAreIterates = (Z : List (List ℕ)) (j l c a : ℕ) → j < setsA p → c < nC p → a < nA p
-      → IterateY Z j l c a ↔ (mem p (level p (goals p Z j) l) c a ≡ true)
+      → IterateY p (PairsOf Z) j l c a ↔ (mem p (level p (goals p Z j) l) c a ≡ true)
 
   abbrev pub RoundsAreIterates : Type 0
   RoundsAreIterates = (Z : List (List ℕ)) (j l k i c a : ℕ) → j < setsA p → c < nC p → a < nA p
-      → approx p (UnderX p (PairsOf Z) j (IterateY Z j l) k) (Cor p) i c a
-      ↔ (mem p (iterate i (roundX p (goals p Z j) (level p (goals p Z j) l) k) (allMatched p)) c a ≡ true)
+      → approx p (UnderX p (PairsOf Z) j (IterateY p (PairsOf Z) j l) k) (Cor p) i c a
+      ↔ (mem p (xAfter p (goals p Z j) (level p (goals p Z j) l) k i) c a ≡ true)
 
   abbrev pub XIsInnermost : Type 0
   XIsInnermost = (Z : List (List ℕ)) (j l k c a : ℕ) → j < setsA p → c < nC p → a < nA p
-      → Innermost p (PairsOf Z) j (IterateY Z j l) k c a ↔ (mem p (xSet p (goals p Z j) (suc l) k) c a ≡ true)
+      → Innermost p (PairsOf Z) j (IterateY p (PairsOf Z) j l) k c a ↔ (mem p (xSet p (goals p Z j) (suc l) k) c a ≡ true)
 
-  -- 2. ranks
-  abbrev pub RankOfGoals : Type 0
-  RankOfGoals = (j c a : ℕ) → j < setsA p → c < nC p → a < nA p → (rank p j c a ≡ 0) ↔ (mem p (goals p (family p) j) c a ≡ true)
-
-  abbrev pub RankIsBlank : Type 0
-  RankIsBlank = (j c a : ℕ) → j < setsA p → c < nC p → a < nA p → (rank p j c a ≡ blank) ↔ (mem p (getD (family p) j []) c a ≡ false)
-
-  -- r = (l − 1) × m + k with the least l, then the least k (k counted from 0), that has the pair in X(l, k)
-  pub record IsPlace (G : List ℕ) (c a r l k : ℕ) : Type 0 where
+  -- 2. ranks: r = (l − 1) × m + k with the least l, then the least k (counted from 0 here), for which In l k holds
+  pub record IsFirst (In : ℕ → ℕ → Type 0) (r l k : ℕ) : Type 0 where
     pub l-low : 0 < l
     pub l-high : l ≤ pairs p
     pub k-high : k < setsC p
     pub is-r : r ≡ (l - 1) * setsC p + k + 1
-    pub is-in : mem p (xSet p G l k) c a ≡ true
-    pub first : (l′ k′ : ℕ) → 0 < l′ → k′ < setsC p → mem p (xSet p G l′ k′) c a ≡ true → (l < l′) ⊎ ((l ≡ l′) × (k ≤ k′))
+    pub is-in : In l k
+    pub first : (l′ k′ : ℕ) → 0 < l′ → k′ < setsC p → In l′ k′ → (l < l′) ⊎ ((l ≡ l′) × (k ≤ k′))
+
+  -- over document 01's sets: "0 for a goal; else r = (l − 1) × m + k with the least l, then the least k, that has the pair in
+  -- X(l, k); else blank"
+  abbrev pub RankOfGoals : Type 0
+  RankOfGoals = (j c a : ℕ) → j < setsA p → c < nC p → a < nA p → (rank p j c a ≡ 0) ↔ (mem p (goals p (family p) j) c a ≡ true)
+
+  abbrev pub RankIsBlank : Type 0
+  RankIsBlank = wellFormed p ≡ true → (j c a : ℕ) → j < setsA p → c < nC p → a < nA p
+      → (rank p j c a ≡ blank) ↔ (mem p (getD (family p) j []) c a ≡ false)
+
+  abbrev pub IsPlace : List ℕ → (c a r l k : ℕ) → Type 0
+  IsPlace G c a = IsFirst (λ l k. mem p (xSet p G l k) c a ≡ true)
 
   abbrev pub RankIsFirst : Type 0
   RankIsFirst = (j c a : ℕ) → j < setsA p → c < nC p → a < nA p → mem p (goals p (family p) j) c a ≡ false → mem p (getD (family p) j []) c a ≡ true
       → (l : ℕ) × (k : ℕ) × IsPlace (goals p (family p) j) c a (rank p j c a) l k
+
+  -- the same over the formula of document 000 itself: 0 exactly where J_j ∧ ⊗ Z_{j+1} holds,
+  abbrev pub RankIsGoal : Type 0
+  RankIsGoal = (j c a : ℕ) → j < setsA p → c < nC p → a < nA p → (rank p j c a ≡ 0) ↔ FigureGoal p j c a
+
+  -- blank exactly outside figure 2,
+  abbrev pub RankIsFigure2 : Type 0
+  RankIsFigure2 = wellFormed p ≡ true → (j c a : ℕ) → j < setsA p → c < nC p → a < nA p
+      → ((rank p j c a ≡ blank → ⊥) ↔ figure2 p j c a) × ((rank p j c a ≡ blank) ↔ (figure2 p j c a → ⊥))
+
+  -- and else from the least l, then the least k, that has the pair in νX over iterate l − 1 of μY
+  abbrev pub IsRank : (j c a r l k : ℕ) → Type 0
+  IsRank j c a = IsFirst (λ l k. FigureX p j l k c a)
+
+  abbrev pub RankIsLeast : Type 0
+  RankIsLeast = (j c a : ℕ) → j < setsA p → c < nC p → a < nA p → figure2 p j c a → (FigureGoal p j c a → ⊥)
+      → (l : ℕ) × (k : ℕ) × IsRank j c a (rank p j c a) l k
 
   -- "Ranks are at most m × P."
   abbrev pub RankIsBounded : Type 0
@@ -111,11 +131,11 @@ module _ (p : Pair) where
 
   -- 3. the solver's table passes each line
   abbrev pub SolverTablePasses : Type 0
-  SolverTablePasses = passesEach p (solverTable p) ≡ true
+  SolverTablePasses = wellFormed p ≡ true → passesEach p (solverTable p) ≡ true
 
-  -- 4. it covers whatever any passing table covers
+  -- 4. it covers whatever any passing table covers; T is here any list, of any length
   abbrev pub SolverTableCovers : Type 0
-  SolverTableCovers = (T : List ℕ) → passesEach p T ≡ true → (j c a : ℕ) → j < setsA p → c < nC p → a < nA p
+  SolverTableCovers = wellFormed p ≡ true → (T : List ℕ) → passesEach p T ≡ true → (j c a : ℕ) → j < setsA p → c < nC p → a < nA p
       → covers p T j c a ≡ true → covers p (solverTable p) j c a ≡ true
 
   -- T has, for each concrete start state, an abstract start state with the pair non-blank in section 1
@@ -124,7 +144,8 @@ module _ (p : Pair) where
 
   -- 5. the check says Carried of the solver's table exactly when some table passes each line and has the start pairs
   abbrev pub CarriedExactly : Type 0
-  CarriedExactly = ((n : ℕ) × (linesVerdict p (solverTable p) ≡ answer (carried n))) ↔ ((T : List ℕ) × (passesEach p T ≡ true) × HasStarts T)
+  CarriedExactly = wellFormed p ≡ true
+      → ((n : ℕ) × (linesVerdict p (solverTable p) ≡ answer (carried n))) ↔ ((T : List ℕ) × IsTable p T × (passesEach p T ≡ true) × HasStarts T)
 
 -- NotCarried's c is the lowest start state that lacks a partner
 pub record IsLowest (p : Pair) (T : List ℕ) (c : ℕ) : Type 0 where

@@ -2,9 +2,9 @@
 use mathlib.Core.Bool.{true, false}
 use mathlib.Core.Logic.{_⊎_}
 use mathlib.Core.Path.{_≡_}
-use Prim.Native.Nat.{ℕ, zero, suc, _<_}
+use Prim.Native.Nat.{ℕ, zero, suc, _-_, _<_}
 use Rattle.machine.specs.declared.Pair.{Pair}
 use Rattle.machine.specs.Machines.{moves, inFairSet, matched, next, nC, nA, setsC, setsA}
 
 abbrev pub Set : Type 1
 Set = ℕ → ℕ → Type 0
@@ -61,3 +61,16 @@ module _ (p : Pair) where
   -- figure 2
   unfoldable pub figure2 : ℕ → Set
   figure2 = nuFamily row
+
+  -- ---- the parts of the figure that document 01 reads ranks from
+  -- iterate l of μY in row j, over Z: level l
+  abbrev pub IterateY : (ℕ → Set) → ℕ → ℕ → Set
+  IterateY Z j l = approx (UnderY Z j) (λ c a. ⊥) l
+
+  -- a goal of section j: J_j ∧ ⊗ Z_{j+1}, with the figure's own value for Z
+  abbrev pub FigureGoal : ℕ → Set
+  FigureGoal j c a = Cor c a × JA j c a × Next (figure2 (next (setsA p) j)) c a
+
+  -- X(l, k) of section j, for l from 1: νX over iterate l − 1 of μY, with the figure's own value for Z
+  abbrev pub FigureX : ℕ → ℕ → ℕ → Set
+  FigureX j l k = Innermost figure2 j (IterateY figure2 j (l - 1)) k
