@@ -91,6 +91,12 @@ module _ {A B : Type 0} where
   unfolding passOn
   pass-refused v f e = rw e
 
+  -- an answer comes from an answer
+  pub pass-answer : (v : Result A) (f : A → Result B) {b : B} → passOn v f ≡ answer b → (a : A) × (v ≡ answer a) × (f a ≡ answer b)
+  unfolding passOn
+  pass-answer (answer a) f e = (a, refl, e)
+  pass-answer (refused r) f e = absurd (refused-not-answer e)
+
 -- ---- lent buffers
 pub buffer-valid : (least len : ℕ) → least ≤ len → bufferValidity least len ≡ valid
 unfolding bufferValidity

@@ -1,4 +1,4 @@
 -- definitions
-pub mod Solving
+pub mod Restoring
 -- laws
-pub mod SolvingLaws
+pub mod RestoringLaws
