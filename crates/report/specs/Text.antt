@@ -4,7 +4,9 @@ use Prim.Native.Nat.{ℕ}
 use lib.ListN.{take}
 use Rattle.text.specs.Decimal.{decimal}
 use Rattle.machine.specs.declared.Refusal.{Refusal}
-use Rattle.machine.specs.Verdict.{Verdict, carried, notCarried, refused}
+use Rattle.machine.specs.Refusals.{Result, answer, refused}
+use Rattle.machine.specs.Verdict.{Verdict, carried, notCarried}
+use Rattle.codec.specs.Reader.{inputRoom}
 use Rattle.verdict.specs.Outcomes.{Outcome, says, noTable, fileOutcome}
 
 abbrev pub blankSpace : List ℕ
@@ -34,19 +36,17 @@ unfoldable pub refusalLine : Refusal → List ℕ
 refusalLine r =
     refusedText ++ (decimal (r .number) ++ (blankSpace ++ (decimal (r .first) ++ (blankSpace ++ (decimal (r .second) ++ (blankSpace ++ (decimal (r .third) ++ lineFeed)))))))
 
--- "carried COUNT", "not carried C COUNT", or a refusal's line
+-- "carried COUNT", "not carried C COUNT"
 unfoldable pub verdictLine : Verdict → List ℕ
 verdictLine (carried n) = carriedText ++ (decimal n ++ lineFeed)
 verdictLine (notCarried c n) = notCarriedText ++ (decimal c ++ (blankSpace ++ (decimal n ++ lineFeed)))
-verdictLine (refused r) = refusalLine r
 
-unfoldable pub outcomeLine : Outcome → List ℕ
-outcomeLine (says v) = verdictLine v
-outcomeLine noTable = noTableText
+-- one of these, "no table", or a refusal's line
+unfoldable pub outcomeLine : Result Outcome → List ℕ
+outcomeLine (answer (says v)) = verdictLine v
+outcomeLine (answer noTable) = noTableText
+outcomeLine (refused r) = refusalLine r
 
 -- "It takes the first 59,904 bytes of longer input as the file."
-abbrev pub inputRoom : ℕ
-inputRoom = 59904
-
 unfoldable pub shelfLine : List ℕ → List ℕ
 shelfLine input = outcomeLine (fileOutcome (take inputRoom input))

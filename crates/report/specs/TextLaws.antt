@@ -6,10 +6,11 @@ use lib.ListN.{length, take}
 use lib.Seq.{take-all}
 use Rattle.text.specs.Decimal.{decimal}
 use Rattle.machine.specs.declared.Refusal.{Refusal}
+use Rattle.codec.specs.Reader.{inputRoom}
 use Rattle.verdict.specs.declared.FileVerdict.{FileVerdict}
 use Rattle.verdict.specs.declared.FileVerdict.the-variants.{Carried, NotCarried, NoTable, Refused}
 use Rattle.verdict.specs.Outcomes.{outcomeOf, fileOutcome}
-use Rattle.report.specs.Text.{blankSpace, lineFeed, carriedText, notCarriedText, noTableText, refusedText, refusalLine, verdictLine, outcomeLine, inputRoom, shelfLine}
+use Rattle.report.specs.Text.{blankSpace, lineFeed, carriedText, notCarriedText, noTableText, refusedText, refusalLine, verdictLine, outcomeLine, shelfLine}
 
 pub refusal-text : (r : Refusal)
     → refusedText ++ (decimal (r .number) ++ blankSpace) ++ (decimal (r .first) ++ blankSpace) ++ (decimal (r .second) ++ blankSpace) ++ (decimal (r .third) ++ lineFeed) ≡ refusalLine r

@@ -84,8 +84,8 @@ pub fn shelf_line(bytes: &[u8]) -> Line
     ensures { λ l. ⌜ l ≡ lineOf (shelfLine (now (bytes .entry))) ⌝ }
     ensures { λ l. ⌜ l .length ≤ 128 ⌝ }
 {
-    if 59904 < bytes.len() {
-        verdict_line(verdict::file_verdict(&bytes[..59904]))
+    if codec::INPUT_ROOM < bytes.len() {
+        verdict_line(verdict::file_verdict(&bytes[..codec::INPUT_ROOM]))
     } else {
         verdict_line(verdict::file_verdict(bytes))
     }

@@ -3,7 +3,7 @@ use libc::STDIN_FILENO;
 use libc::STDOUT_FILENO;
 
 fn main() {
-    let mut buffer = [0u8; 59904];
+    let mut buffer = [0u8; codec::INPUT_ROOM];
     let count = io::read_full(STDIN_FILENO, &mut buffer);
     let line = report::shelf_line(&buffer[..count]);
     let text = line.text;

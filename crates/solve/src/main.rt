@@ -6,9 +6,9 @@ use libc::STDIN_FILENO;
 use libc::STDOUT_FILENO;
 
 fn main() {
-    let mut input = [0u8; 59904];
+    let mut input = [0u8; codec::INPUT_ROOM];
     let count = io::read_full(STDIN_FILENO, &mut input);
-    let mut out = [0u8; 59392];
+    let mut out = [0u8; codec::FILE_ROOM];
     let size = restore::solve_bytes(&input[..count], &mut out);
     match size {
         Size::Bytes(n) => {
