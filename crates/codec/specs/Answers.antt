@@ -1,15 +1,33 @@
--- The answers of the calls, for each case of what document 01 says.
+-- What document 01 says for each case of the calls' answers.
+use Prim.Native.Nat.{ℕ}
+use Rattle.machine.specs.declared.Pair.{Pair}
+use Rattle.machine.specs.declared.Refusal.{Refusal}
+use Rattle.machine.specs.Refusals.{Result, answer, refused, refusal}
+use Rattle.codec.specs.declared.Reading.{Reading}
 use Rattle.codec.specs.declared.Reading.the-variants as reading
 use Rattle.codec.specs.declared.Show.{Show}
 use Rattle.codec.specs.declared.Size.{Size}
 use Rattle.codec.specs.declared.Size.the-variants as size
-use Rattle.codec.specs.Reader.{Read, taken, refused, Sized, zeroPair}
-use Rattle.codec.specs.Reader as R
+use Rattle.codec.specs.Reader.{Taken, taken, zeroPair}
 
-unfoldable pub showFor : Read → Show
-showFor (taken p note) = record { pair = p; reading = reading.Taken note }
-showFor (refused r) = record { pair = zeroPair; reading = reading.Refused r }
+-- a reading beside machines p
+unfoldable pub readBeside : Pair → Reading → Result Taken
+readBeside p (reading.Taken note) = answer (taken p note)
+readBeside p (reading.Refused r) = refused r
 
-unfoldable pub sizeFor : Sized → Size
-sizeFor (R.Sized.bytes n) = size.Bytes n
-sizeFor (R.Sized.refused r) = size.Refused r
+unfoldable pub readOf : Show → Result Taken
+readOf s = readBeside (s .pair) (s .reading)
+
+-- the machines that stand beside an answer: "Beside a refusal all machines .. in the result are zero"
+unfoldable pub pairGiven : Result Taken → Pair
+pairGiven (answer (taken p note)) = p
+pairGiven (refused r) = zeroPair
+
+unfoldable pub sizedOf : Size → Result ℕ
+sizedOf (size.Bytes n) = answer n
+sizedOf (size.Refused r) = refused r
+
+-- the refusal of a reading; a reading that took its file has none
+unfoldable pub refusalOf : Reading → Refusal
+refusalOf (reading.Taken note) = refusal 0 0 0 0
+refusalOf (reading.Refused r) = r

@@ -9,7 +9,8 @@ use lib.ListN.{length, getD, drop}
 use lib.Seq.{paste}
 use Rattle.mask.specs.Bounded.{sum}
 use Rattle.codec.specs.Format.{checkAt}
-use Rattle.codec.specs.Loading.{front, payloadByte}
+use Rattle.codec.specs.Reader.{payloadByte}
+use Rattle.codec.specs.Loading.{front}
 use Rattle.codec.specs.FrontLaws.{front-block}
 
 -- ---- the check, one byte a turn

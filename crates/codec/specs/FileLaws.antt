@@ -1,87 +1,104 @@
 -- The file laws, each as Statements.antt states it.
 use mathlib.Core.Bool.{Bool, true, false, false≢true, cond}
-use mathlib.Core.Logic.{⊎-elim}
-use mathlib.Core.Path.{_≡_, refl, sym, ap, ap₂, _∙_}
+use mathlib.Core.Logic.{⊎-elim, by-cases}
+use mathlib.Core.Path.{_≡_, sym, ap, ap₂, subst, _∙_}
 use mathlib.Core.List.{List, _++_}
-use Prim.Native.Nat.{ℕ, _+_, _*_, _/_, _≤_, _<_}
+use Prim.Native.Nat.{ℕ, _+_, _*_, _/_, _%_, _≤_, _<_}
+use native.Mathlib.Decide.{decLt}
 use native.Mathlib.Omega.{arith}
 use lib.Dec.{eqb, ltb}
 use lib.ListN.{length, getD, take, drop, length-append, length-drop, List·getD-append}
-use lib.Seq.{getD-take, take-at}
-use borrow.Author.Tests.{eq-eqb, eqb-true, eqb-false, ltb-false}
-use Rattle.mask.specs.Logic.{not}
-use Rattle.mask.specs.LogicLaws.{dec, not-f}
+use lib.Seq.{getD-take, take-at, take-all, length-take-le}
+use borrow.Author.Tests.{eq-eqb, ne-eqb, eqb-true, eqb-false}
+use Rattle.mask.specs.Logic.{not, or}
+use Rattle.mask.specs.LogicLaws.{dec, or-false, not-f}
 use Rattle.mask.specs.BoundedLaws.{every-cong}
-use Rattle.mask.specs.TablesLaws.{table-length}
+use Rattle.mask.specs.TablesLaws.{table-length, table-at, table-past}
 use Rattle.machine.specs.declared.Machine.{Machine}
 use Rattle.machine.specs.declared.Pair.{Pair}
 use Rattle.machine.specs.declared.Refusal.{Refusal}
-use Rattle.machine.specs.declared.Validity.{Validity}
-use Rattle.machine.specs.declared.Validity.the-variants.{Valid, Refused}
-use Rattle.machine.specs.Refusals.{refusal, andThen, wrong-length, bad-block, bad-padding, beyond-counts, no-start, no-successor, bufferValidity}
+use Rattle.machine.specs.Refusals.{Tested, valid, answer, refused, refusal, andThen, bufferAfter, wrong-length, bad-block, bad-padding, beyond-counts, no-start, no-successor, bufferValidity}
+use Rattle.machine.specs.RefusalsLaws.{refused-not-answer, refused-is, answer-is, then-of, then-refused, then-answer, then-cases, given-of, given-at, given-refused, buffer-room, buffer-made, buffer-length}
 use Rattle.machine.specs.Machines.{nC, nA, setsC, setsA}
 use Rattle.machine.specs.Table.{entries, tableRoom}
 use Rattle.machine.specs.WellFormed.{beyondCounts, stuckState, contentValidity, pairValidity}
 use Rattle.machine.specs.WellFormedLaws.{valid-is-well}
-use Rattle.machine.specs.RefusalsLaws.{then-answer, valid-next}
 use Rattle.codec.specs.Format.{letters, fileLength, fileOf}
-use Rattle.codec.specs.Reader.{Read, taken, checkHolds, numberHolds, blockHolds, headerByte, noteOf, headerHolds, countsHold, firstValidity, demanded, badBlock, paddingHolds, blocksValidity, machineAt, pairOf, entriesOf, readValidity, takenUnless, readAnswer, tableUnless, readTable, sizedUnless, sizeOf}
-use Rattle.codec.specs.Reader as R
-use Rattle.codec.specs.Writer.{fileRoom, writeValidity, writeAnswer, bufferUnless, writeBuffer}
-use Rattle.codec.specs.Statements.{WriteRead, ReadWrite, NoTable, FirstBlock, WrittenReads, ReadWrites}
+use Rattle.codec.specs.Reader.{inputRoom, Taken, taken, checkHolds, numberHolds, blockHolds, headerByte, noteOf, headerHolds, countsHold, firstValidity, demanded, badBlock, paddingHolds, blocksValidity, payloadOf, machineAt, pairOf, entriesOf, readValidity, readAnswer, tableOf, readTable, sizeOf}
+use Rattle.codec.specs.Writer.{fileRoom, writeValidity, writeAnswer, writeBuffer}
+use Rattle.codec.specs.Statements.{AreBytes, Representable, WriteRead, ReadWrite, NoTable, FirstBlock, FirstBlockTellsSize, TakenRepresentable, TakenFits, WriteAnswers, WrittenReads, ReadWrites, EntriesUnread}
 use Rattle.codec.specs.NumberLaws.{number-cong}
 use Rattle.codec.specs.FormatLaws.{check-cong, file-length, file-cong}
-use Rattle.codec.specs.WriterLaws.{with-room}
-use Rattle.codec.specs.ReaderLaws.{first-valid, then-refused, wrong-length-is}
+use Rattle.codec.specs.WriterLaws as writer
+use Rattle.codec.specs.WriterLaws.{with-room, same-tests, answer-valid}
+use Rattle.codec.specs.ReaderLaws.{first-valid, blocks-valid, file-small, table-after, wrong-length-is}
+use Rattle.codec.specs.PayloadLaws.{machine-representable}
 use Rattle.codec.specs.WriteReadLaws as written
-use Rattle.codec.specs.ReadWriteLaws.{taken-blocks, file-same}
+use Rattle.codec.specs.ReadWriteLaws.{whole, joined-bytes, file-same}
 
 -- what is written reads back
 pub write-read : WriteRead
 write-read = written.write-read
 
--- ---- what was taken is written again
-taken-at : (v : Validity) (q p : Pair) (m n : Bool) → takenUnless v (taken q m) ≡ taken p n → (v ≡ Valid) × (q ≡ p) × (m ≡ n)
-unfolding takenUnless
-taken-at Valid q p m n e = (refl, cc, cc)
-taken-at (Refused r) q p m n e = let z : _≡_ {A = ℕ} 0 1 = cc in absurd (omega arith)
+-- ---- what was taken
+taken-is : {p q : Pair} {m n : Bool} → taken p m ≡ taken q n → (p ≡ q) × (m ≡ n)
+taken-is e = (cc, cc)
 
 -- what a reading that took a file tells
 record Was (f lent : List ℕ) (p : Pair) (note : Bool) : Type 0 where
-  room : bufferValidity tableRoom (length lent) ≡ Valid
-  start : firstValidity f ≡ Valid
-  blocks : blocksValidity f ≡ Valid
-  machines : pairValidity (pairOf f) ≡ Valid
+  room : tableRoom ≤ length lent
+  start : firstValidity f ≡ valid
+  blocks : blocksValidity f ≡ valid
+  machines : pairValidity (pairOf f) ≡ valid
   pair-is : pairOf f ≡ p
   note-is : noteOf f ≡ note
   table-is : readTable f lent ≡ cond note (entriesOf f ++ drop (length (entriesOf f)) lent) lent
 
-was-taken : (f lent : List ℕ) (p : Pair) (note : Bool) → readAnswer f lent ≡ taken p note → Was f lent p note
-unfolding readAnswer readValidity readTable tableUnless
+was-taken : (f lent : List ℕ) (p : Pair) (note : Bool) → readAnswer f lent ≡ answer (taken p note) → Was f lent p note
+unfolding readAnswer readValidity readTable
 was-taken f lent p note e =
-    let t = taken-at (readValidity f (length lent)) (pairOf f) p (noteOf f) note e in
+    let t = given-at (readValidity f (length lent)) (taken (pairOf f) (noteOf f)) e in
     let a = then-answer (bufferValidity tableRoom (length lent)) _ (t .0) in
     let b = then-answer (firstValidity f) _ (a .1) in
     let c = then-answer (blocksValidity f) _ (b .1) in
+    let same = taken-is (t .1) in
     record {
-      room = a .0;
+      room = buffer-room tableRoom (length lent) (a .0);
       start = b .0;
       blocks = c .0;
       machines = c .1;
-      pair-is = t .1;
-      note-is = t .2;
-      table-is = rw (t .0, t .2);
+      pair-is = same .0;
+      note-is = same .1;
+      table-is = table-after f lent _ note (t .0) (same .1);
     }
 
 entries-length : (f : List ℕ) → length (entriesOf f) ≡ entries (pairOf f)
 unfolding entriesOf
 entries-length f = table-length (entries (pairOf f)) _
 
+pub taken-representable : TakenRepresentable
+unfolding pairOf
+taken-representable f lent p note b e =
+    let w = was-taken f lent p note e in
+    let Q = payloadOf f (length f / 512) in
+    let bytes = joined-bytes f (length f / 512) b in
+    subst Representable (w .pair-is) (record {
+      concrete = machine-representable Q 16 (headerByte f 4) (headerByte f 6) bytes;
+      abstraction = machine-representable Q (24 + 9 * headerByte f 4 + 8 * headerByte f 6) (headerByte f 5) (headerByte f 7) bytes;
+    })
+
+pub taken-fits : TakenFits
+taken-fits f lent p note e =
+    let w = was-taken f lent p note e in
+    let small : length f ≤ fileRoom = file-small f (first-valid f (w .start)) (blocks-valid f (w .blocks) .long) in
+    (small, take-all inputRoom f (omega arith))
+
+-- ---- what was taken is written again
 pub read-write : ReadWrite
 read-write f lent p note b e =
     let w = was-taken f lent p note e in
     let own : f ≡ fileOf p note (entriesOf f) =
-    file-same f b (taken-blocks f (w .start) (w .blocks)) ∙ ap₂ (λ (q : Pair) (m : Bool). fileOf q m (entriesOf f)) (w .pair-is) (w .note-is) in (
+    file-same f b (whole f (w .start) (w .blocks)) ∙ ap₂ (λ (q : Pair) (m : Bool). fileOf q m (entriesOf f)) (w .pair-is) (w .note-is) in (
       own,
       own ∙ file-cong p note (entriesOf f) (readTable f lent) (λ t k h. sym (ap (λ (l : List ℕ). getD l k 0) (w .table-is) ∙ entry note t k
           (omega (arith, entries-length f, ap entries (w .pair-is))))),
@@ -95,41 +112,47 @@ pub no-table : NoTable
 no-table p T U = file-cong p false T U (λ t. absurd (false≢true t))
 
 -- ---- the same of the calls
-bytes-at : (v : Validity) (m n : ℕ) → sizedUnless v m ≡ R.Sized.bytes n → (v ≡ Valid) × (m ≡ n)
-unfolding sizedUnless
-bytes-at Valid m n e = (refl, cc)
-bytes-at (Refused r) m n e = let z : _≡_ {A = ℕ} 0 1 = cc in absurd (omega arith)
+pub write-answers : WriteAnswers
+write-answers = writer.write-answers
 
 pub written-reads : WrittenReads
-unfolding writeAnswer writeBuffer bufferUnless writeValidity
 written-reads p note T buffer lent n r b room e =
-    let t = bytes-at (writeValidity p (length T) (length buffer)) (fileLength (nC p) (nA p) (setsC p) (setsA p) note) n e in
-    let v = then-answer (bufferValidity fileRoom (length buffer)) (pairValidity p) (then-answer (bufferValidity tableRoom (length T)) _ (t .0) .1) .1 in
+    let t = answer-valid p note T buffer e in
     let file = fileOf p note T in
-    rw (t .0, take-at file (drop (length file) buffer) n (file-length p note T ∙ t .1)) (write-read p note T lent r (valid-is-well p v) b room .0)
-
-room-at : (least len : ℕ) → bufferValidity least len ≡ Valid → least ≤ len
-unfolding bufferValidity
-room-at least len e = ltb-false len least (valid-next (ltb len least) _ _ e .0)
+    let cut : take n (writeBuffer p note T buffer) ≡ file =
+    ap (take n) (t .1) ∙ take-at file (drop (length file) buffer) n (file-length p note T ∙ sym (t .2)) in
+    rw cut (write-read p note T lent r (valid-is-well p (t .0)) b room)
 
 kept-long : (n : Bool) (E lent : List ℕ) → length lent ≤ length (cond n (E ++ drop (length E) lent) lent)
 kept-long true E lent = omega (arith, length-append E (drop (length E) lent), length-drop (length E) lent)
 kept-long false E lent = omega arith
 
 pub read-writes : ReadWrites
-unfolding writeAnswer writeBuffer sizedUnless bufferUnless
+unfolding writeAnswer writeBuffer
 read-writes f lent buffer p note b room e =
     let w = was-taken f lent p note e in
     let T = readTable f lent in
-    let long : tableRoom ≤ length T = omega (arith, room-at tableRoom (length lent) (w .room), ap length (w .table-is), kept-long note (entriesOf f) lent) in
-    let v : writeValidity p (length T) (length buffer) ≡ Valid = with-room p (length T) (length buffer) long room ∙ ap pairValidity (sym (w .pair-is)) ∙ w .machines in
+    let long : tableRoom ≤ length T = omega (arith, w .room, ap length (w .table-is), kept-long note (entriesOf f) lent) in
+    let v : writeValidity p (length T) (length buffer) ≡ valid = with-room p (length T) (length buffer) long room ∙ ap pairValidity (sym (w .pair-is)) ∙ w .machines in
     let same = read-write f lent p note b e .1 in (
-      rw v (ap R.Sized.bytes (sym (file-length p note T) ∙ ap length (sym same))),
-      rw v (ap (λ (l : List ℕ). l ++ drop (length l) buffer) (sym same)),
+      given-of _ _ v ∙ ap answer (sym (file-length p note T) ∙ ap length (sym same)),
+      buffer-made _ _ buffer v ∙ ap (λ (l : List ℕ). l ++ drop (length l) buffer) (sym same),
     )
 
--- ---- refusals up to 6 rest on the first block and the length
-module _ (f g : List ℕ) (long : length f ≡ length g) (start : take 512 f ≡ take 512 g) where
+pub entries-unread : EntriesUnread
+unfolding writeAnswer writeBuffer
+entries-unread p note T U buffer h k same =
+    let v = same-tests p (length T) (length U) (length buffer) h k in (
+      ap (λ (t : Tested). andThen t (answer (fileLength (nC p) (nA p) (setsC p) (setsA p) note))) v,
+      ap₂ (λ (t : Tested) (f : List ℕ). bufferAfter t f buffer) v (file-cong p note T U (λ t. same)),
+    )
+
+-- ---- what the first block tells
+-- the test of refusal 2
+abbrev ragged : List ℕ → Bool
+ragged f = or (eqb (length f) 0) (not (eqb (length f % 512) 0))
+
+module _ (f g : List ℕ) (start : take 512 f ≡ take 512 g) where
   byte-same : (i : ℕ) → i < 512 → getD f i 0 ≡ getD g i 0
   byte-same i h = sym (getD-take 512 f i 0 h) ∙ ap (λ (l : List ℕ). getD l i 0) start ∙ getD-take 512 g i 0 h
 
@@ -162,36 +185,40 @@ module _ (f g : List ℕ) (long : length f ≡ length g) (start : take 512 f ≡
   unfolding countsHold
   counts-same = rw (header-same 4 (omega arith), header-same 5 (omega arith), header-same 6 (omega arith), header-same 7 (omega arith))
 
-  first-same : firstValidity f ≡ firstValidity g
+  first-same : ragged f ≡ ragged g → firstValidity f ≡ firstValidity g
   unfolding firstValidity
-  first-same = rw (long, block-same, holds-same, counts-same)
+  first-same e = rw (e, block-same, holds-same, counts-same)
 
   demanded-same : demanded f ≡ demanded g
   unfolding demanded
   demanded-same = rw (header-same 4 (omega arith), header-same 5 (omega arith), header-same 6 (omega arith), header-same 7 (omega arith), note-same)
 
-  size-same : sizeOf f ≡ sizeOf g
+  size-same : ragged f ≡ ragged g → sizeOf f ≡ sizeOf g
   unfolding sizeOf
-  size-same = rw (first-same, demanded-same)
+  size-same e = ap₂ (λ (v : Tested) (n : ℕ). andThen v (answer n)) (first-same e) demanded-same
 
--- a validity that refuses with no number below n
-abbrev Late : ℕ → Validity → Type 0
-Late n v = (r : Refusal) → v ≡ Refused r → n ≤ r .number
+  -- of two files of one length
+  ragged-same : length f ≡ length g → ragged f ≡ ragged g
+  ragged-same long = rw long
 
-late-valid : (n : ℕ) → Late n Valid
-late-valid n r e = let z : _≡_ {A = ℕ} 0 1 = cc in absurd (omega arith)
+-- a test that refuses with no number below n
+abbrev Late : ℕ → Tested → Type 0
+Late n v = (r : Refusal) → v ≡ refused r → n ≤ r .number
 
-late-at : (n number x y z : ℕ) → n ≤ number → Late n (Refused (refusal number x y z))
-late-at n number x y z h r e = let same : refusal number x y z ≡ r = cc in omega (arith, ap (λ (x : Refusal). x .number) same)
+late-valid : (n : ℕ) → Late n valid
+late-valid n r e = absurd (refused-not-answer (sym e))
 
-late-cond : (n : ℕ) (b : Bool) (v w : Validity) → Late n v → Late n w → Late n (cond b v w)
+late-at : (n number x y z : ℕ) → n ≤ number → Late n (refused (refusal number x y z))
+late-at n number x y z h r e = omega (arith, ap (λ (x : Refusal). x .number) (refused-is e))
+
+late-cond : (n : ℕ) (b : Bool) (v w : Tested) → Late n v → Late n w → Late n (cond b v w)
 late-cond n true v w p q = p
 late-cond n false v w p q = q
 
-late-then : (n : ℕ) (v w : Validity) → Late n v → Late n w → Late n (andThen v w)
+late-then : (n : ℕ) (v w : Tested) → Late n v → Late n w → Late n (andThen v w)
 unfolding andThen
-late-then n Valid w p q = q
-late-then n (Refused s) w p q = p
+late-then n (answer t) w p q = q
+late-then n (refused s) w p q = p
 
 content-late : (i : ℕ) (m : Machine) → Late 7 (contentValidity i m)
 unfolding contentValidity
@@ -214,44 +241,42 @@ blocks-late f e =
     (late-cond 7 (ltb (badBlock f) (length f / 512)) _ _ (late-at 7 bad-block (badBlock f) 0 0 (omega arith))
     (late-cond 7 (not (paddingHolds f)) _ _ (late-at 7 bad-padding 0 0 0 (omega arith)) (late-valid 7)))
 
--- tests that begin alike refuse alike, if what follows does
-then-same : (v x y : Validity) (r : Refusal) → (v ≡ Valid → x ≡ Refused r → y ≡ Refused r) → andThen v x ≡ Refused r → andThen v y ≡ Refused r
-unfolding andThen
-then-same Valid x y r h e = h refl e
-then-same (Refused s) x y r h e = e
-
-refused-at : (v : Validity) (p : Pair) (m : Bool) (r : Refusal) → takenUnless v (taken p m) ≡ R.Read.refused r → v ≡ Refused r
-unfolding takenUnless
-refused-at Valid p m r e = let z : _≡_ {A = ℕ} 0 1 = cc in absurd (omega arith)
-refused-at (Refused s) p m r e = let same : s ≡ r = cc in ap Refused same
-
 early-same : (f g : List ℕ) (len : ℕ) → length f ≡ length g → take 512 f ≡ take 512 g → (r : Refusal) → r .number ≤ 6
-    → readValidity f len ≡ Refused r → readValidity g len ≡ Refused r
+    → readValidity f len ≡ refused r → readValidity g len ≡ refused r
 unfolding readValidity
-early-same f g len long start r small =
-    then-same (bufferValidity tableRoom len) _ _ r (λ _ e.
-    ap (λ (v : Validity). andThen v (andThen (blocksValidity g) (pairValidity (pairOf g)))) (sym (first-same f g long start))
-    ∙ then-same (firstValidity f) (andThen (blocksValidity f) (pairValidity (pairOf f))) (andThen (blocksValidity g) (pairValidity (pairOf g))) r later e)
+early-same f g len long start r small e = ⊎-elim
+    (λ t. then-refused _ _ r t)
+    (λ t. then-of _ _ (t .0) ∙ ⊎-elim
+    (λ u. then-refused _ _ r (sym first ∙ u))
+    (λ u. then-of _ _ (sym first ∙ u .0) ∙ later (u .0) (u .1))
+    (then-cases (firstValidity f) _ r (t .1)))
+    (then-cases (bufferValidity tableRoom len) _ r e)
   where
-    later : firstValidity f ≡ Valid → andThen (blocksValidity f) (pairValidity (pairOf f)) ≡ Refused r → andThen (blocksValidity g) (pairValidity (pairOf g)) ≡ Refused r
+    first : firstValidity f ≡ firstValidity g
+    first = first-same f g start (ragged-same f g start long)
+
+    later : firstValidity f ≡ valid → andThen (blocksValidity f) (pairValidity (pairOf f)) ≡ refused r → andThen (blocksValidity g) (pairValidity (pairOf g)) ≡ refused r
     later v e = ⊎-elim
         (λ t. absurd (omega (arith, late-then 7 (blocksValidity f) (pairValidity (pairOf f)) (blocks-late f (eqb-true _ _ t)) (pair-late f (first-valid f v .counts)) r e)))
         (λ t. let wrong : length f ≡ demanded f → ⊥ = eqb-false _ _ t in
-        let x = wrong-length-is f wrong in
-        let y = wrong-length-is g (λ q. wrong (long ∙ q ∙ sym (demanded-same f g long start))) in
-        ap (λ (z : Validity). andThen z (pairValidity (pairOf g))) y ∙ six (pairValidity (pairOf g)) (pairValidity (pairOf f))
-        ∙ ap (λ (z : Validity). andThen z (pairValidity (pairOf f))) (sym x) ∙ e)
+        then-refused _ _ _ (wrong-length-is g (λ q. wrong (long ∙ q ∙ sym (demanded-same f g start)))) ∙ sym (then-refused _ _ _ (wrong-length-is f wrong)) ∙ e)
         (dec (eqb (length f) (demanded f)))
-      where
-        six : (v w : Validity) → andThen (Refused (refusal wrong-length 0 0 0)) v ≡ andThen (Refused (refusal wrong-length 0 0 0)) w
-        six v w = then-refused _ v _ refl ∙ sym (then-refused _ w _ refl)
 
 pub first-block : FirstBlock
-unfolding readAnswer takenUnless
+unfolding readAnswer
 first-block f g lent long start = (
-  first-same f g long start,
-  demanded-same f g long start,
-  size-same f g long start,
-  λ r small e. ap (λ (v : Validity). takenUnless v (taken (pairOf g) (noteOf g)))
-      (early-same f g (length lent) long start r small (refused-at (readValidity f (length lent)) (pairOf f) (noteOf f) r e)),
+  first-same f g start (ragged-same f g start long),
+  demanded-same f g start,
+  size-same f g start (ragged-same f g start long),
+  λ r small e. then-refused _ _ r (early-same f g (length lent) long start r small (given-refused _ _ e)),
 )
+
+-- whole blocks are no refusal 2, and so is one block
+not-ragged : (f : List ℕ) → (length f ≡ 0 → ⊥) → length f % 512 ≡ 0 → ragged f ≡ false
+not-ragged f some whole = or-false (ne-eqb (length f) 0 some) (not-f (eq-eqb (length f % 512) 0 whole))
+
+pub first-block-tells-size : FirstBlockTellsSize
+first-block-tells-size f some whole =
+    let one : length (take 512 f) ≡ 512 = length-take-le 512 f (omega arith) in
+    size-same (take 512 f) f (take-all 512 (take 512 f) (omega arith))
+    (not-ragged (take 512 f) (omega arith) (omega arith) ∙ sym (not-ragged f some whole))

@@ -14,6 +14,7 @@ pub mod FormatLaws
 pub mod BlockLaws
 pub mod WriterLaws
 pub mod ReaderLaws
+pub mod AnswersLaws
 -- the file laws
 pub mod Statements
 pub mod PayloadLaws

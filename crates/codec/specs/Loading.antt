@@ -2,15 +2,11 @@
 use mathlib.Core.List.{List, _++_}
 use mathlib.Core.Bool.{true, false}
 use mathlib.Core.Path.{_≡_}
-use Prim.Native.Nat.{ℕ, _+_, _*_, _/_, _%_, _≤_}
+use Prim.Native.Nat.{ℕ, _*_, _/_, _≤_}
 use lib.ListN.{length, getD, drop}
 use Rattle.mask.specs.Tables.{table}
 use Rattle.codec.specs.Format.{payloadLength}
-use Rattle.codec.specs.Reader.{headerByte, noteOf, countsHold, payloadOf}
-
--- the length of the payload, by the header
-unfoldable pub payloadDemanded : List ℕ → ℕ
-payloadDemanded f = payloadLength (headerByte f 4) (headerByte f 5) (headerByte f 6) (headerByte f 7) (noteOf f)
+use Rattle.codec.specs.Reader.{headerByte, countsHold, payloadDemanded, payloadOf}
 
 -- where the table's entries begin in the payload, and how many they are
 abbrev pub entriesPlace : List ℕ → ℕ
@@ -22,10 +18,6 @@ entriesCount f = headerByte f 7 * (headerByte f 4 * headerByte f 5)
 -- a list whose first n elements are g 0, .., g (n - 1), and whose others are those of l
 abbrev pub front : ℕ → (ℕ → ℕ) → List ℕ → List ℕ
 front n g l = table n g ++ drop n l
-
--- the byte of the file that is byte k of the joined payloads
-abbrev pub payloadByte : List ℕ → ℕ → ℕ
-payloadByte f k = getD f (512 * (k / 508) + 2 + k % 508) 0
 
 -- Q holds the joined payloads of the file f, and zeros after them
 pub record Loaded (f Q : List ℕ) : Type 0 where

@@ -11,8 +11,9 @@ use lib.Dec.{ltb}
 use lib.ListN.{length, getD, length-append, List·getD-append}
 use lib.Seq.{getD-append-add, ext-getD}
 use borrow.Author.Tests.{lt-ltb, le-ltb}
+use Rattle.mask.specs.LogicLaws.{cond-cases}
 use Rattle.mask.specs.Tables.{table}
-use Rattle.mask.specs.TablesLaws.{table-length, table-at}
+use Rattle.mask.specs.TablesLaws.{table-length, table-at, table-past}
 use Rattle.machine.specs.declared.Machine.{Machine}
 use Rattle.machine.specs.declared.Pair.{Pair}
 use Rattle.machine.specs.Machines.{observation, successors, fairSet, nC, nA, setsC, setsA}
@@ -21,7 +22,7 @@ use Rattle.codec.specs.Format.{byteOf, bytesOf, numbers, numberAt, heade
 use Rattle.codec.specs.Reader.{machineAt}
 use Rattle.codec.specs.Statements.{RepresentableMachine, AreBytes}
 use Rattle.codec.specs.FormatLaws.{header-length, machine-length}
-use Rattle.codec.specs.NumberLaws.{bytes-length, bytes-at, numbers-length, numbers-at, number-is, number-byte, numbers-number}
+use Rattle.codec.specs.NumberLaws.{bytes-length, bytes-at, numbers-length, numbers-at, number-is, number-lt, number-byte, numbers-number}
 
 -- l stands in P from a place on
 abbrev pub Stands : List ℕ → List ℕ → ℕ → Type 0
@@ -142,6 +143,26 @@ machine-stands P at N sets small few b =
     (numbers-stand 8 N (λ i. getD (m .successors) i 0) P (at + N + 8) (omega arith) b (λ i h. filled-at 64 N (λ s. numberAt 8 P (at + N + 8 + 8 * s)) i h (omega arith)))
     (numbers-stand 8 sets (λ i. getD (m .fairness) i 0) P (at + N + 8 + 8 * N) (omega arith) b
     (λ i h. filled-at 8 sets (λ k. numberAt 8 P (at + 9 * N + 8 + 8 * k)) i h (omega arith) ∙ ap (numberAt 8 P) (omega arith)))))
+
+-- a machine that was read from bytes is such as the code's types have
+filled-lt : (n count bound : ℕ) (f : ℕ → ℕ) → 0 < bound → ((i : ℕ) → f i < bound) → (i : ℕ) → getD (table n (λ s. cond (ltb s count) (f s) 0)) i 0 < bound
+filled-lt n count bound f pos h i = by-cases (decLt i n)
+    (λ k. rw (table-at n (λ s. cond (ltb s count) (f s) 0) i 0 k) (cond-cases (ltb i count) (λ x. x < bound) (f i) 0 (λ t. h i) (λ t. pos)))
+    (λ k. rw (table-past n (λ s. cond (ltb s count) (f s) 0) i 0 (omega arith)) pos)
+
+pub machine-representable : (P : List ℕ) (at N sets : ℕ) → AreBytes P → RepresentableMachine (machineAt P at N sets)
+unfolding machineAt
+machine-representable P at N sets b =
+    let mask : (k : ℕ) → numberAt 8 P k < 2 ^ 64 = λ k. number-lt 8 P k (λ i l. b (k + i)) in
+    record {
+      observations-length = table-length 64 _;
+      successors-length = table-length 64 _;
+      fairness-length = table-length 8 _;
+      observation-byte = filled-lt 64 N 256 (λ s. getD P (at + s) 0) (omega arith) (λ s. b (at + s));
+      start-mask = mask (at + N);
+      successors-mask = filled-lt 64 N (2 ^ 64) (λ s. numberAt 8 P (at + N + 8 + 8 * s)) (omega arith) (λ s. mask (at + N + 8 + 8 * s));
+      fairness-mask = filled-lt 8 sets (2 ^ 64) (λ k. numberAt 8 P (at + 9 * N + 8 + 8 * k)) (omega arith) (λ k. mask (at + 9 * N + 8 + 8 * k));
+    }
 
 -- ---- payloads
 pub stands-at : (l P : List ℕ) (i j : ℕ) → i ≡ j → Stands l P i → Stands l P j

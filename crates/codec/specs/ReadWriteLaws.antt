@@ -7,53 +7,43 @@ use Prim.Native.Nat.{ℕ, zero, suc, _+_, _-_, _*_, _/_, _%_, _≤_, _<_}
 use native.Mathlib.Nat.{zero-add}
 use native.Mathlib.Decide.{decLt}
 use native.Mathlib.Omega.{arith}
-use lib.Dec.{eqb, leb, ltb}
+use lib.Dec.{eqb, leb}
 use lib.ListN.{length, getD, getD-replicate, List·getD-eq-default}
 use lib.Seq.{ext-getD}
-use borrow.Author.Tests.{eqb-true, leb-true, ltb-true, ltb-false}
-use Rattle.mask.specs.Logic.{not}
+use borrow.Author.Tests.{eqb-true, leb-true, ltb-true}
 use Rattle.mask.specs.LogicLaws.{and-l, and-r, or-e}
-use Rattle.mask.specs.Bounded.{first}
-use Rattle.mask.specs.BoundedLaws.{every-at, first-before}
+use Rattle.mask.specs.BoundedLaws.{every-at}
 use Rattle.mask.specs.Tables.{table}
 use Rattle.mask.specs.TablesLaws.{table-at, table-past}
-use Rattle.machine.specs.declared.Validity.the-variants.{Valid}
+use Rattle.machine.specs.Refusals.{valid}
 use Rattle.machine.specs.Machines.{nC, nA, setsC, setsA}
 use Rattle.machine.specs.Table.{entries}
-use Rattle.machine.specs.RefusalsLaws.{valid-next}
 use Rattle.codec.specs.Format.{byteOf, numbers, numberAt, letters, header, tableBytes, payload, payloadLength, blocksFor, checkAt, blockFront, block, blocked, fileOf}
-use Rattle.codec.specs.Reader.{checkHolds, numberHolds, blockHolds, payloadOf, headerByte, noteOf, headerHolds, firstValidity, demanded, badBlock, paddingHolds, blocksValidity, machineAt, pairOf, entriesOf}
-use Rattle.codec.specs.Loading.{payloadDemanded}
+use Rattle.codec.specs.Reader.{checkHolds, numberHolds, blockHolds, payloadByte, payloadOf, headerByte, noteOf, headerHolds, firstValidity, payloadDemanded, paddingHolds, blocksValidity, machineAt, pairOf, entriesOf}
 use Rattle.codec.specs.Statements.{AreBytes}
 use Rattle.codec.specs.NumberLaws.{number-byte}
 use Rattle.codec.specs.FormatLaws.{payload-length, blocked-length, check-cong, front-at, front-number, front-payload, block-check, blocked-at}
-use Rattle.codec.specs.ReaderLaws.{FirstValid, Fitting, first-valid, fitting, in-range}
+use Rattle.codec.specs.ReaderLaws.{FirstValid, BlocksValid, Fitting, first-valid, blocks-valid, fitting, in-range}
 use Rattle.codec.specs.PayloadLaws.{Stands, Parts, parts-join, stands-join, stands-cons, stands-nil, machine-stands, numbers-stand}
 
--- ---- what was taken: the blocks of a file that is not refused
-not-false : (b : Bool) → not b ≡ false → b ≡ true
-unfolding not
-not-false true e = refl
-not-false false e = sym e
-
-pub record Taken (f : List ℕ) : Type 0 where
+-- ---- the blocks of a file that is not refused
+pub record Whole (f : List ℕ) : Type 0 where
   pub start : FirstValid f
-  pub long : length f ≡ demanded f
-  pub all : (i : ℕ) → i < length f / 512 → blockHolds f i ≡ true
-  pub padding : paddingHolds f ≡ true
+  pub rest : BlocksValid f
 
-pub taken-blocks : (f : List ℕ) → firstValidity f ≡ Valid → blocksValidity f ≡ Valid → Taken f
-unfolding blocksValidity badBlock
-taken-blocks f e v =
-    let a = valid-next _ _ _ v in
-    let b = valid-next _ _ _ (a .1) in
-    let c = valid-next _ _ _ (b .1) in
-    let first-one = first-valid f e in
-    record { start = first-one; long = eqb-true _ _ (not-false _ (a .0)); all = all first-one (b .0); padding = not-false _ (c .0) }
-  where
-    all : FirstValid f → ltb (suc (first (length f / 512 - 1) (λ i. not (blockHolds f (suc i))))) (length f / 512) ≡ false → (i : ℕ) → i < length f / 512 → blockHolds f i ≡ true
-    all s t zero h = s .block
-    all s t (suc i) h = not-false _ (first-before (length f / 512 - 1) (λ i. not (blockHolds f (suc i))) i (omega (arith, ltb-false (suc (first (length f / 512 - 1) (λ i. not (blockHolds f (suc i))))) (length f / 512) t)))
+pub whole : (f : List ℕ) → firstValidity f ≡ valid → blocksValidity f ≡ valid → Whole f
+whole f e v = record { start = first-valid f e; rest = blocks-valid f v }
+
+all-blocks : (f : List ℕ) → Whole f → (i : ℕ) → i < length f / 512 → blockHolds f i ≡ true
+all-blocks f w zero h = w .start .block
+all-blocks f w (suc i) h = w .rest .blocks (suc i) (omega arith) h
+
+-- bytes that are joined are bytes
+pub joined-bytes : (f : List ℕ) (n : ℕ) → AreBytes f → AreBytes (payloadOf f n)
+unfolding payloadOf
+joined-bytes f n b k = by-cases (decLt k (508 * n))
+    (λ h. omega (arith, table-at (508 * n) (payloadByte f) k 0 h, b (512 * (k / 508) + 2 + k % 508)))
+    (λ h. omega (arith, table-past (508 * n) (payloadByte f) k 0 (omega arith)))
 
 -- ---- its payload
 byte-note : (x : ℕ) → leb x 1 ≡ true → x ≡ cond (eqb x 1) 1 0
@@ -61,19 +51,13 @@ byte-note zero h = refl
 byte-note (suc zero) h = refl
 byte-note (suc (suc x)) h = absurd (omega (arith, leb-true (suc (suc x)) 1 h))
 
-module _ (f : List ℕ) (b : AreBytes f) (w : Taken f) where
+module _ (f : List ℕ) (b : AreBytes f) (w : Whole f) where
   fits : Fitting f (length f / 512)
-  fits = fitting f (w .long)
+  fits = fitting f (w .rest .long)
 
-  joined-at : (k : ℕ) → k < 508 * (length f / 512) → getD (payloadOf f (length f / 512)) k 0 ≡ getD f (512 * (k / 508) + 2 + k % 508) 0
+  joined-at : (k : ℕ) → k < 508 * (length f / 512) → getD (payloadOf f (length f / 512)) k 0 ≡ payloadByte f k
   unfolding payloadOf
-  joined-at k h = table-at (508 * (length f / 512)) (λ k. getD f (512 * (k / 508) + 2 + k % 508) 0) k 0 h
-
-  joined-bytes : AreBytes (payloadOf f (length f / 512))
-  unfolding payloadOf
-  joined-bytes k = by-cases (decLt k (508 * (length f / 512)))
-      (λ h. omega (arith, joined-at k h, b (512 * (k / 508) + 2 + k % 508)))
-      (λ h. omega (arith, table-past (508 * (length f / 512)) (λ k. getD f (512 * (k / 508) + 2 + k % 508) 0) k 0 (omega arith)))
+  joined-at k h = table-at (508 * (length f / 512)) (payloadByte f) k 0 h
 
   joined-header : (k : ℕ) → k < 16 → getD (payloadOf f (length f / 512)) k 0 ≡ headerByte f k
   unfolding headerByte
@@ -120,7 +104,7 @@ module _ (f : List ℕ) (b : AreBytes f) (w : Taken f) where
       E = table (entries (pairOf f)) (λ e. numberAt 2 P (at + 2 * e))
 
       cases : (note : Bool) → Stands (cond note (numbers 2 (entries (pairOf f)) (λ e. getD E e 0)) []) P at
-      cases true = numbers-stand 2 (entries (pairOf f)) (λ e. getD E e 0) P at (omega arith) joined-bytes (λ e h. table-at (entries (pairOf f)) _ e 0 h)
+      cases true = numbers-stand 2 (entries (pairOf f)) (λ e. getD E e 0) P at (omega arith) (joined-bytes f (length f / 512) b) (λ e h. table-at (entries (pairOf f)) _ e 0 h)
       cases false = stands-nil P at
 
   parts-stand : Parts (pairOf f) (noteOf f) (entriesOf f) (payloadOf f (length f / 512))
@@ -130,8 +114,8 @@ module _ (f : List ℕ) (b : AreBytes f) (w : Taken f) where
       let P = payloadOf f (length f / 512) in
       record {
         head = header-stands;
-        concrete = machine-stands P 16 (headerByte f 4) (headerByte f 6) (r .states-c) (r .sets-c) joined-bytes;
-        abstraction = machine-stands P (24 + 9 * headerByte f 4 + 8 * headerByte f 6) (headerByte f 5) (headerByte f 7) (r .states-a) (omega (arith, r .sets-a)) joined-bytes;
+        concrete = machine-stands P 16 (headerByte f 4) (headerByte f 6) (r .states-c) (r .sets-c) (joined-bytes f (length f / 512) b);
+        abstraction = machine-stands P (24 + 9 * headerByte f 4 + 8 * headerByte f 6) (headerByte f 5) (headerByte f 7) (r .states-a) (omega (arith, r .sets-a)) (joined-bytes f (length f / 512) b);
         entries = entries-stand;
       }
 
@@ -147,13 +131,12 @@ module _ (f : List ℕ) (b : AreBytes f) (w : Taken f) where
   unfolding blocksFor
   R-blocks = omega (arith, R-length, fits .ends, fits .last)
 
-  padding-zero : (k : ℕ) → payloadDemanded f ≤ k → k < 508 * (length f / 512) → getD f (512 * (k / 508) + 2 + k % 508) 0 ≡ 0
-  unfolding paddingHolds payloadDemanded
+  padding-zero : (k : ℕ) → payloadDemanded f ≤ k → k < 508 * (length f / 512) → payloadByte f k ≡ 0
+  unfolding paddingHolds
   padding-zero k l h =
-      ⊎-elim (λ t. absurd (omega (arith, ltb-true k (payloadLength (headerByte f 4) (headerByte f 5) (headerByte f 6) (headerByte f 7) (noteOf f)) t))) (λ t. eqb-true _ 0 t)
-      (or-e (every-at (508 * (length f / 512)) _ (w .padding) k h))
+      ⊎-elim (λ t. absurd (omega (arith, ltb-true k (payloadDemanded f) t))) (λ t. eqb-true _ 0 t) (or-e (every-at (508 * (length f / 512)) _ (w .rest .padding) k h))
 
-  payload-same : (k : ℕ) → k < 508 * (length f / 512) → getD R k 0 ≡ getD f (512 * (k / 508) + 2 + k % 508) 0
+  payload-same : (k : ℕ) → k < 508 * (length f / 512) → getD R k 0 ≡ payloadByte f k
   unfolding R
   payload-same k h = by-cases (decLt k (payloadDemanded f))
       (λ l. sym (parts-join (pairOf f) (noteOf f) (entriesOf f) (payloadOf f (length f / 512)) parts-stand k (omega (arith, R-length)))
@@ -164,11 +147,11 @@ module _ (f : List ℕ) (b : AreBytes f) (w : Taken f) where
   module _ (i : ℕ) (h : i < length f / 512) where
     number-stands : numberAt 2 f (512 * i) ≡ i
     unfolding blockHolds numberHolds
-    number-stands = eqb-true _ i (and-r _ _ (w .all i h))
+    number-stands = eqb-true _ i (and-r _ _ (all-blocks f w i h))
 
     check-stands : numberAt 2 f (512 * i + 510) ≡ checkAt f (512 * i)
     unfolding blockHolds checkHolds
-    check-stands = eqb-true _ _ (and-l _ _ (w .all i h))
+    check-stands = eqb-true _ _ (and-l _ _ (all-blocks f w i h))
 
     front-same : (j : ℕ) → j < 510 → getD (blockFront R i) j 0 ≡ getD f (512 * i + j) 0
     front-same j l = by-cases (decLt j 2)

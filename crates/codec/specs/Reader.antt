@@ -1,27 +1,27 @@
 -- Document 01: how a file is read, with refusals 1 to 11 in its order.
 use mathlib.Core.Bool.{Bool, false, cond}
-use mathlib.Core.List.{List, _++_}
+use mathlib.Core.List.{List, []}
 use Prim.Native.Nat.{ℕ, suc, _+_, _-_, _*_, _/_, _%_}
-use lib.ListN.{length, getD, drop, replicate}
+use lib.ListN.{length, getD, replicate}
 use lib.Dec.{eqb, leb, ltb}
 use Rattle.mask.specs.Logic.{not, and, or}
 use Rattle.mask.specs.Bounded.{every, first}
 use Rattle.mask.specs.Tables.{table}
 use Rattle.machine.specs.declared.Machine.{Machine}
 use Rattle.machine.specs.declared.Pair.{Pair}
-use Rattle.machine.specs.declared.Refusal.{Refusal}
-use Rattle.machine.specs.declared.Validity.{Validity}
-use Rattle.machine.specs.declared.Validity.the-variants.{Valid, Refused}
-use Rattle.machine.specs.Refusals.{refusal, andThen, bad-length, bad-first-block, bad-header, bad-counts, wrong-length, bad-block, bad-padding, bufferValidity}
+use Rattle.machine.specs.Refusals.{Result, answer, refused, Tested, valid, andThen, bufferAfter, refusal, bad-length, bad-first-block, bad-header, bad-counts, wrong-length, bad-block, bad-padding, bufferValidity}
 use Rattle.machine.specs.Machines.{nC, nA, setsC, setsA}
 use Rattle.machine.specs.WellFormed.{countsOk, pairValidity}
 use Rattle.machine.specs.Table.{entries, tableRoom}
 use Rattle.codec.specs.Format.{letters, numberAt, payloadLength, fileLength, checkAt}
 
--- what a reading can be: the machines, the note whether a table came and the lent table's final content, or a refusal
-pub data Read : Type 0 where
-  taken : Pair → Bool → Read
-  refused : Refusal → Read
+-- "It takes the first 59,904 bytes of longer input as the file."
+abbrev pub inputRoom : ℕ
+inputRoom = 59904
+
+-- what a reading that was not refused gives: the machines, and the note whether a table came
+pub data Taken : Type 0 where
+  taken : Pair → Bool → Taken
 
 -- ---- blocks
 -- the check of block i holds
@@ -35,9 +35,13 @@ numberHolds f i = eqb (numberAt 2 f (512 * i)) i
 unfoldable pub blockHolds : List ℕ → ℕ → Bool
 blockHolds f i = and (checkHolds f i) (numberHolds f i)
 
+-- "bytes 2 to 509 payload": the byte of the file that is byte k of the payloads joined
+abbrev pub payloadByte : List ℕ → ℕ → ℕ
+payloadByte f k = getD f (512 * (k / 508) + 2 + k % 508) 0
+
 -- the payloads of the first n blocks, joined
 unfoldable pub payloadOf : List ℕ → ℕ → List ℕ
-payloadOf f n = table (508 * n) (λ k. getD f (512 * (k / 508) + 2 + k % 508) 0)
+payloadOf f n = table (508 * n) (payloadByte f)
 
 -- ---- the first block
 -- byte k of the payload, which the first block holds
@@ -59,16 +63,23 @@ unfoldable pub countsHold : List ℕ → Bool
 countsHold f = and (countsOk 8 (headerByte f 4) (headerByte f 6)) (countsOk 7 (headerByte f 5) (headerByte f 7))
 
 -- 2 to 5: all that rests on the first block
-unfoldable pub firstValidity : List ℕ → Validity
+unfoldable pub firstValidity : List ℕ → Tested
 firstValidity f =
-    cond (or (eqb (length f) 0) (not (eqb (length f % 512) 0))) (Refused (refusal bad-length 0 0 0))
-    (cond (not (blockHolds f 0)) (Refused (refusal bad-first-block 0 0 0))
-    (cond (not (headerHolds f)) (Refused (refusal bad-header 0 0 0))
-    (cond (not (countsHold f)) (Refused (refusal bad-counts 0 0 0)) Valid)))
+    cond (or (eqb (length f) 0) (not (eqb (length f % 512) 0))) (refused (refusal bad-length 0 0 0))
+    (cond (not (blockHolds f 0)) (refused (refusal bad-first-block 0 0 0))
+    (cond (not (headerHolds f)) (refused (refusal bad-header 0 0 0))
+    (cond (not (countsHold f)) (refused (refusal bad-counts 0 0 0)) valid)))
 
--- the length that the counts demand
+-- the payload's length, and the file's, that the counts demand
+unfoldable pub payloadDemanded : List ℕ → ℕ
+payloadDemanded f = payloadLength (headerByte f 4) (headerByte f 5) (headerByte f 6) (headerByte f 7) (noteOf f)
+
 unfoldable pub demanded : List ℕ → ℕ
 demanded f = fileLength (headerByte f 4) (headerByte f 5) (headerByte f 6) (headerByte f 7) (noteOf f)
+
+-- what the first block tells: the length in bytes that the whole file must have, or a refusal
+unfoldable pub sizeOf : List ℕ → Result ℕ
+sizeOf f = andThen (firstValidity f) (answer (demanded f))
 
 -- ---- the whole file
 -- the first of the later blocks whose check or number is wrong; the file's blocks where none is
@@ -77,18 +88,15 @@ badBlock f = suc (first (length f / 512 - 1) (λ i. not (blockHolds f (suc i))))
 
 -- 8: "padding not zero"
 unfoldable pub paddingHolds : List ℕ → Bool
-paddingHolds f =
-    let len = payloadLength (headerByte f 4) (headerByte f 5) (headerByte f 6) (headerByte f 7) (noteOf f) in
-    let n = length f / 512 in
-    every (508 * n) (λ k. or (ltb k len) (eqb (getD f (512 * (k / 508) + 2 + k % 508) 0) 0))
+paddingHolds f = every (508 * (length f / 512)) (λ k. or (ltb k (payloadDemanded f)) (eqb (payloadByte f k) 0))
 
 -- 6 to 8
-unfoldable pub blocksValidity : List ℕ → Validity
+unfoldable pub blocksValidity : List ℕ → Tested
 blocksValidity f =
     let b = badBlock f in
-    cond (not (eqb (length f) (demanded f))) (Refused (refusal wrong-length 0 0 0))
-    (cond (ltb b (length f / 512)) (Refused (refusal bad-block b 0 0))
-    (cond (not (paddingHolds f)) (Refused (refusal bad-padding 0 0 0)) Valid))
+    cond (not (eqb (length f) (demanded f))) (refused (refusal wrong-length 0 0 0))
+    (cond (ltb b (length f / 512)) (refused (refusal bad-block b 0 0))
+    (cond (not (paddingHolds f)) (refused (refusal bad-padding 0 0 0)) valid))
 
 -- ---- what the payload holds
 -- a machine of N states and some sets, at a place of the payload; entries beyond the counts are zero
@@ -119,25 +127,21 @@ entriesOf f =
     table (entries p) (λ e. numberAt 2 Q (at + 2 * e))
 
 -- all that the reader tests: 1 to 11
-unfoldable pub readValidity : List ℕ → ℕ → Validity
+unfoldable pub readValidity : List ℕ → ℕ → Tested
 readValidity f room =
     andThen (bufferValidity tableRoom room) (andThen (firstValidity f) (andThen (blocksValidity f) (pairValidity (pairOf f))))
 
-unfoldable pub takenUnless : Validity → Read → Read
-takenUnless Valid r = r
-takenUnless (Refused r) v = refused r
-
 -- the reader's whole answer, for a file f and a lent table T
-unfoldable pub readAnswer : List ℕ → List ℕ → Read
-readAnswer f T = takenUnless (readValidity f (length T)) (taken (pairOf f) (noteOf f))
+unfoldable pub readAnswer : List ℕ → List ℕ → Result Taken
+readAnswer f T = andThen (readValidity f (length T)) (answer (taken (pairOf f) (noteOf f)))
 
--- the lent table's final content: "A file without a table leaves the lent table unchanged", and so does a refusal
-unfoldable pub tableUnless : Validity → Bool → List ℕ → List ℕ → List ℕ
-tableUnless Valid note read T = cond note (read ++ drop (length read) T) T
-tableUnless (Refused r) note read T = T
+-- what is written to a lent table: "A file without a table leaves the lent table unchanged."
+unfoldable pub tableOf : List ℕ → List ℕ
+tableOf f = cond (noteOf f) (entriesOf f) []
 
+-- the lent table's final content
 unfoldable pub readTable : List ℕ → List ℕ → List ℕ
-readTable f T = tableUnless (readValidity f (length T)) (noteOf f) (entriesOf f) T
+readTable f T = bufferAfter (readValidity f (length T)) (tableOf f) T
 
 -- "Beside a refusal all machines .. in the result are zero"
 unfoldable pub zeroMachine : Machine
@@ -145,15 +149,3 @@ zeroMachine = record { states = 0; sets = 0; start = 0; observations = replicate
 
 unfoldable pub zeroPair : Pair
 zeroPair = record { concrete = zeroMachine; abstraction = zeroMachine }
-
--- what the first block tells: the length in bytes that the whole file must have, or a refusal
-pub data Sized : Type 0 where
-  bytes : ℕ → Sized
-  refused : Refusal → Sized
-
-unfoldable pub sizedUnless : Validity → ℕ → Sized
-sizedUnless Valid n = bytes n
-sizedUnless (Refused r) n = refused r
-
-unfoldable pub sizeOf : List ℕ → Sized
-sizeOf f = sizedUnless (firstValidity f) (demanded f)

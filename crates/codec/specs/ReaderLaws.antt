@@ -1,6 +1,6 @@
 -- Laws of reading: what the tests of a file give, and what each part of the reader computes, as the definitions of Reader say it.
 use mathlib.Core.Bool.{Bool, true, false, cond}
-use mathlib.Core.List.{List, _++_}
+use mathlib.Core.List.{List, [], _++_}
 use mathlib.Core.Logic.{⊎-elim, by-cases}
 use mathlib.Core.Path.{_≡_, refl, sym, ap, _∙_}
 use Prim.Native.Nat.{ℕ, zero, suc, _+_, _-_, _*_, _/_, _%_, _≤_, _<_}
@@ -10,32 +10,24 @@ use lib.ListN.{length, getD, drop, replicate, length-replicate}
 use lib.Dec.{eqb, ltb}
 use borrow.Author.Tests.{eqb-true, eqb-false, ne-eqb, lt-ltb, ltb-true, ltb-false}
 use Rattle.mask.specs.Logic.{not}
-use Rattle.mask.specs.LogicLaws.{both, cond-cases, and-l, and-r, or-none, or-l, or-r, or-e, not-i, not-f, not-not}
+use Rattle.mask.specs.LogicLaws.{both, cond-cases, and-l, and-r, or-none, or-l, or-r, or-e, not-i, not-f, not-false}
 use Rattle.mask.specs.Bounded.{every}
 use Rattle.mask.specs.BoundedLaws.{every-at, every-of, every-cong, first-is, first-none, first-before}
 use Rattle.mask.specs.Tables.{table}
 use Rattle.mask.specs.TablesLaws.{table-length, table-cong}
-use Rattle.machine.specs.declared.Pair.{Pair}
+use Rattle.machine.specs.Refusals.{Tested, valid, refused, andThen, bufferAfter, refusal, short-buffer, wrong-length}
+use Rattle.machine.specs.RefusalsLaws.{valid-next, then-of, then-refused, then-then, buffer-valid, buffer-short, buffer-made}
 use Rattle.machine.specs.declared.Refusal.{Refusal}
-use Rattle.machine.specs.declared.Validity.{Validity}
-use Rattle.machine.specs.declared.Validity.the-variants.{Valid, Refused}
-use Rattle.machine.specs.Refusals.{refusal, andThen, short-buffer, wrong-length}
 use Rattle.machine.specs.WellFormed.{pairValidity}
 use Rattle.machine.specs.WellFormedLaws.{counts-at, mul-bound}
-use Rattle.machine.specs.RefusalsLaws.{valid-next, then-of}
 use Rattle.machine.specs.Table.{tableRoom}
-use Rattle.codec.specs.declared.Reading.the-variants as reading
-use Rattle.codec.specs.declared.Size.the-variants as size
 use Rattle.codec.specs.Format.{numberAt, payloadLength, fileLength, blocksFor}
-use Rattle.codec.specs.Reader.{Read, taken, blockHolds, headerByte, noteOf, headerHolds, countsHold, firstValidity, demanded, badBlock, paddingHolds, blocksValidity, payloadOf, machineAt, pairOf, entriesOf, readValidity, takenUnless, tableUnless, sizedUnless, sizeOf}
-use Rattle.codec.specs.Answers.{showFor, sizeFor}
-use Rattle.codec.specs.Loading.{payloadDemanded, entriesPlace, entriesCount, front, payloadByte, Loaded}
+use Rattle.codec.specs.Reader.{blockHolds, headerByte, noteOf, headerHolds, countsHold, firstValidity, payloadDemanded, demanded, badBlock, paddingHolds, blocksValidity, payloadByte, payloadOf, machineAt, pairOf, entriesOf, readValidity, tableOf}
+use Rattle.codec.specs.Writer.{fileRoom}
+use Rattle.codec.specs.Loading.{entriesPlace, entriesCount, Loaded}
+use Rattle.codec.specs.Loading.{front}
 use Rattle.codec.specs.NumberLaws.{number-cong}
 use Rattle.codec.specs.FrontLaws.{front-length, front-zeros, front-padded}
-use Rattle.codec.specs.WriterLaws.{buffer-short, buffer-long}
-
-holds : {b : Bool} → not b ≡ false → b ≡ true
-holds {b} e = sym (not-not b) ∙ not-i e
 
 -- ---- the first block
 -- the six zeros, as they stand in the file
@@ -58,7 +50,10 @@ pub record FirstValid (f : List ℕ) : Type 0 where
   pub header : headerHolds f ≡ true
   pub counts : countsHold f ≡ true
 
-pub first-valid : (f : List ℕ) → firstValidity f ≡ Valid → FirstValid f
+long-enough : (n : ℕ) → (n ≡ 0 → ⊥) → n % 512 ≡ 0 → 512 ≤ n
+long-enough n some whole = omega arith
+
+pub first-valid : (f : List ℕ) → firstValidity f ≡ valid → FirstValid f
 unfolding firstValidity
 first-valid f e =
     let a = valid-next _ _ _ e in
@@ -67,40 +62,13 @@ first-valid f e =
     let d = valid-next _ _ _ (c .1) in
     let n = or-none (eqb (length f) 0) (not (eqb (length f % 512) 0)) (a .0) in
     let some : length f ≡ 0 → ⊥ = eqb-false (length f) 0 (n .0) in
-    let whole : length f % 512 ≡ 0 = eqb-true _ 0 (holds (n .1)) in
-    record { long = omega arith; whole = whole; block = holds (b .0); header = holds (c .0); counts = holds (d .0) }
+    let whole : length f % 512 ≡ 0 = eqb-true _ 0 (not-false _ (n .1)) in
+    record { long = long-enough (length f) some whole; whole = whole; block = not-false _ (b .0); header = not-false _ (c .0); counts = not-false _ (d .0) }
 
 -- the length that the counts demand, by the payload's
 pub demanded-is : (f : List ℕ) → demanded f ≡ 512 * ((payloadDemanded f + 507) / 508)
 unfolding demanded fileLength blocksFor payloadDemanded
 demanded-is f = refl
-
--- what the first block tells, as the call answers it
-pub sized-valid : (f : List ℕ) → firstValidity f ≡ Valid → sizeFor (sizeOf f) ≡ size.Bytes (demanded f)
-unfolding sizeFor sizeOf sizedUnless
-sized-valid f e = rw e
-
-pub sized-refused : (f : List ℕ) (r : Refusal) → firstValidity f ≡ Refused r → sizeFor (sizeOf f) ≡ size.Refused r
-unfolding sizeFor sizeOf sizedUnless
-sized-refused f r e = rw e
-
-unless-bytes : (v : Validity) (n m : ℕ) → sizeFor (sizedUnless v n) ≡ size.Bytes m → (v ≡ Valid) × (n ≡ m)
-unfolding sizeFor sizedUnless
-unless-bytes Valid n m e = (refl, cc)
-unless-bytes (Refused r) n m e = let z : _≡_ {A = ℕ} 0 1 = cc in absurd (omega arith)
-
-unless-refused : (v : Validity) (n : ℕ) (r : Refusal) → sizeFor (sizedUnless v n) ≡ size.Refused r → v ≡ Refused r
-unfolding sizeFor sizedUnless
-unless-refused Valid n r e = let z : _≡_ {A = ℕ} 0 1 = cc in absurd (omega arith)
-unless-refused (Refused r) n q e = cc
-
-pub sized-bytes : (f : List ℕ) (n : ℕ) → sizeFor (sizeOf f) ≡ size.Bytes n → (firstValidity f ≡ Valid) × (demanded f ≡ n)
-unfolding sizeOf
-sized-bytes f n e = unless-bytes (firstValidity f) (demanded f) n e
-
-pub refused-sized : (f : List ℕ) (r : Refusal) → sizeFor (sizeOf f) ≡ size.Refused r → firstValidity f ≡ Refused r
-unfolding sizeOf
-refused-sized f r e = unless-refused (firstValidity f) (demanded f) r e
 
 -- ---- the later blocks
 -- n blocks, of which the last has the payload's end
@@ -159,12 +127,8 @@ padding-is f e = both _ _
     spot : (i : ℕ) → i < 508 * n - len → len + 4 * n - 2 + i ≡ 512 * ((len + i) / 508) + 2 + (len + i) % 508
     spot i l = omega (arith, place f n (len + i) w (omega arith) (omega arith))
 
--- ---- the order of the tests
-pub then-refused : (v w : Validity) (r : Refusal) → v ≡ Refused r → andThen v w ≡ Refused r
-unfolding andThen
-then-refused v w r e = rw e
-
-pub wrong-length-is : (f : List ℕ) → (length f ≡ demanded f → ⊥) → blocksValidity f ≡ Refused (refusal wrong-length 0 0 0)
+-- a file of another length than its counts demand
+pub wrong-length-is : (f : List ℕ) → (length f ≡ demanded f → ⊥) → blocksValidity f ≡ refused (refusal wrong-length 0 0 0)
 unfolding blocksValidity
 wrong-length-is f h = rw (not-i (ne-eqb (length f) (demanded f) h))
 
@@ -255,15 +219,15 @@ good-until : (f : List ℕ) → length f / 512 ≤ badBlock f → (i : ℕ) → 
 unfolding badBlock
 good-until f h zero p l = absurd (omega arith)
 good-until f h (suc i) p l =
-    holds (first-before (length f / 512 - 1) (λ i. not (blockHolds f (suc i))) i (omega arith))
+    not-false _ (first-before (length f / 512 - 1) (λ i. not (blockHolds f (suc i))) i (omega arith))
 
-pub blocks-valid : (f : List ℕ) → blocksValidity f ≡ Valid → BlocksValid f
+pub blocks-valid : (f : List ℕ) → blocksValidity f ≡ valid → BlocksValid f
 unfolding blocksValidity
 blocks-valid f e =
     let a = valid-next _ _ _ e in
     let b = valid-next _ _ _ (a .1) in
     let c = valid-next _ _ _ (b .1) in
-    record { long = eqb-true _ _ (holds (a .0)); blocks = good-until f (ltb-false _ _ (b .0)); padding = holds (c .0) }
+    record { long = eqb-true _ _ (not-false _ (a .0)); blocks = good-until f (ltb-false _ _ (b .0)); padding = not-false _ (c .0) }
 
 -- the most that a payload takes
 payload-most : (f : List ℕ) → countsHold f ≡ true → payloadDemanded f ≤ 58648
@@ -277,6 +241,10 @@ payload-most f t =
 pub blocks-room : (f : List ℕ) → FirstValid f → length f ≡ demanded f → 508 * (length f / 512) ≤ 58928
 blocks-room f v e = let w = fitting f e in omega (arith, payload-most f (v .counts))
 
+-- and the file
+pub file-small : (f : List ℕ) → FirstValid f → length f ≡ demanded f → length f ≤ fileRoom
+file-small f v e = let w = fitting f e in omega (arith, payload-most f (v .counts))
+
 pub loaded : (f Q : List ℕ) (w : ℕ) → FirstValid f → length f ≡ demanded f → 508 * (length f / 512) ≤ w
     → Q ≡ front (508 * (length f / 512)) (payloadByte f) (replicate w 0) → Loaded f Q
 unfolding payloadOf
@@ -286,44 +254,28 @@ loaded f Q w v e h q =
     let long : length Q ≡ w = ap length q ∙ front-length (payloadByte f) (replicate w 0) n (rw (length-replicate {A = ℕ} w 0) h) ∙ length-replicate w 0 in
     record { long = v .long; counts = v .counts; room = omega arith; same = λ k. ap (λ (l : List ℕ). getD l k 0) q ∙ front-padded n w (payloadByte f) k }
 
--- ---- the answer
-pub answer-refused : (v : Validity) (x : Read) (r : Refusal) → v ≡ Refused r → showFor (Read.refused r) ≡ showFor (takenUnless v x)
-unfolding takenUnless
-answer-refused v x r e = rw e
+-- ---- the lent table, and all the tests in their order
+-- the lent table of a reading that is not refused
+pub table-after : (f T : List ℕ) (v : Tested) (note : Bool) → v ≡ valid → noteOf f ≡ note
+    → bufferAfter v (tableOf f) T ≡ cond note (entriesOf f ++ drop (length (entriesOf f)) T) T
+unfolding tableOf
+table-after f T v note e t = buffer-made v (cond (noteOf f) (entriesOf f) []) T e ∙ rw t (cases note)
+  where
+    cases : (n : Bool) → cond n (entriesOf f) [] ++ drop (length (cond n (entriesOf f) [])) T ≡ cond n (entriesOf f ++ drop (length (entriesOf f)) T) T
+    cases true = refl
+    cases false = refl
 
-pub answer-taken : (v : Validity) (p : Pair) (note : Bool) → v ≡ Valid → record { pair = p; reading = reading.Taken note } ≡ showFor (takenUnless v (taken p note))
-unfolding takenUnless showFor
-answer-taken v p note e = rw e
-
-pub table-refused : (v : Validity) (note : Bool) (read T : List ℕ) (r : Refusal) → v ≡ Refused r → T ≡ tableUnless v note read T
-unfolding tableUnless
-table-refused v note read T r e = rw e
-
-pub table-taken : (v : Validity) (note : Bool) (read T : List ℕ) → v ≡ Valid → note ≡ true → read ++ drop (length read) T ≡ tableUnless v note read T
-unfolding tableUnless
-table-taken v note read T e t = rw (e, t)
-
-pub table-left : (v : Validity) (note : Bool) (read T : List ℕ) → v ≡ Valid → note ≡ false → T ≡ tableUnless v note read T
-unfolding tableUnless
-table-left v note read T e t = rw (e, t)
-
--- all the tests, in their order
-pub read-short : (f : List ℕ) (room : ℕ) → room < tableRoom → readValidity f room ≡ Refused (refusal short-buffer 0 0 0)
+pub read-short : (f : List ℕ) (room : ℕ) → room < tableRoom → readValidity f room ≡ refused (refusal short-buffer 0 0 0)
 unfolding readValidity
 read-short f room h = then-refused _ _ _ (buffer-short tableRoom room h)
-
-then-then : (u v w : Validity) → andThen u (andThen v w) ≡ andThen (andThen u v) w
-unfolding andThen
-then-then Valid v w = refl
-then-then (Refused r) v w = refl
 
 module _ (f : List ℕ) (room : ℕ) (h : tableRoom ≤ room) where
   grouped : readValidity f room ≡ andThen (andThen (firstValidity f) (blocksValidity f)) (pairValidity (pairOf f))
   unfolding readValidity
-  grouped = then-of _ _ (buffer-long tableRoom room h) ∙ then-then (firstValidity f) (blocksValidity f) (pairValidity (pairOf f))
+  grouped = then-of _ _ (buffer-valid tableRoom room h) ∙ sym (then-then (firstValidity f) (blocksValidity f) (pairValidity (pairOf f)))
 
-  pub read-refused : (r : Refusal) → andThen (firstValidity f) (blocksValidity f) ≡ Refused r → readValidity f room ≡ Refused r
+  pub read-refused : (r : Refusal) → andThen (firstValidity f) (blocksValidity f) ≡ refused r → readValidity f room ≡ refused r
   read-refused r e = grouped ∙ then-refused _ _ r e
 
-  pub read-pair : andThen (firstValidity f) (blocksValidity f) ≡ Valid → readValidity f room ≡ pairValidity (pairOf f)
+  pub read-pair : andThen (firstValidity f) (blocksValidity f) ≡ valid → readValidity f room ≡ pairValidity (pairOf f)
   read-pair e = grouped ∙ then-of _ _ e

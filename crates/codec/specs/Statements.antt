@@ -1,8 +1,9 @@
--- The file laws, as statements over the definitions that the calls' contracts cite. FileLaws.antt proves each.
+-- The file laws, as statements over the definitions that the calls' contracts cite. FileLaws.antt proves each. Machines, tables and files are
+-- any numbers and lists; where a law needs what the code's types give of them, it says so.
 use mathlib.Core.Bool.{Bool, true, false, cond}
 use mathlib.Core.List.{List, _++_}
 use mathlib.Core.Path.{_≡_}
-use Prim.Native.Nat.{ℕ, _≤_, _<_, _^_}
+use Prim.Native.Nat.{ℕ, _≤_, _<_, _%_, _^_}
 use lib.ListN.{length, getD, take, drop}
 use Rattle.mask.specs.Tables.{table}
 use Rattle.machine.specs.declared.Machine.{Machine}
@@ -10,9 +11,10 @@ use Rattle.machine.specs.declared.Pair.{Pair}
 use Rattle.machine.specs.declared.Refusal.{Refusal}
 use Rattle.machine.specs.Table.{entries, tableRoom}
 use Rattle.machine.specs.WellFormed.{wellFormed}
-use Rattle.codec.specs.Format.{fileOf}
-use Rattle.codec.specs.Reader.{taken, firstValidity, demanded, entriesOf, readAnswer, readTable, sizeOf}
-use Rattle.codec.specs.Reader as R
+use Rattle.machine.specs.Machines.{nC, nA, setsC, setsA}
+use Rattle.machine.specs.Refusals.{answer, refused}
+use Rattle.codec.specs.Format.{fileLength, fileOf}
+use Rattle.codec.specs.Reader.{inputRoom, taken, firstValidity, demanded, entriesOf, readAnswer, readTable, sizeOf}
 use Rattle.codec.specs.Writer.{fileRoom, writeAnswer, writeBuffer}
 
 -- what the types of the code give of a machine, whoever made it
@@ -36,33 +38,62 @@ AreBytes f = (i : ℕ) → getD f i 0 < 256
 abbrev pub AreEntries : List ℕ → Type 0
 AreEntries T = (e : ℕ) → getD T e 0 < 65536
 
+-- ---- what the definitions say of a file
 -- what is written reads back: the machines, the note, and the table's entries, with the lent table's other entries as they were
 abbrev pub WriteRead : Type 0
 WriteRead = (p : Pair) (note : Bool) (T lent : List ℕ) → Representable p → wellFormed p ≡ true → AreEntries T → tableRoom ≤ length lent
-    → (readAnswer (fileOf p note T) lent ≡ taken p note)
+    → (readAnswer (fileOf p note T) lent ≡ answer (taken p note))
     × (readTable (fileOf p note T) lent ≡ cond note (table (entries p) (λ e. getD T e 0) ++ drop (entries p) lent) lent)
 
 -- each file that the reader takes, whoever made it, is the one that the writer makes from what was read
 abbrev pub ReadWrite : Type 0
-ReadWrite = (f lent : List ℕ) (p : Pair) (note : Bool) → AreBytes f → readAnswer f lent ≡ taken p note
+ReadWrite = (f lent : List ℕ) (p : Pair) (note : Bool) → AreBytes f → readAnswer f lent ≡ answer (taken p note)
     → (f ≡ fileOf p note (entriesOf f)) × (f ≡ fileOf p note (readTable f lent))
 
 -- a file without a table takes nothing of one
 abbrev pub NoTable : Type 0
 NoTable = (p : Pair) (T U : List ℕ) → fileOf p false T ≡ fileOf p false U
 
--- "refusals up to 6 rest on the first block and the length alone"
+-- ---- what the first block tells
+-- refusals up to 6 rest on the first block and the length alone
 abbrev pub FirstBlock : Type 0
 FirstBlock = (f g lent : List ℕ) → length f ≡ length g → take 512 f ≡ take 512 g
     → (firstValidity f ≡ firstValidity g) × (demanded f ≡ demanded g) × (sizeOf f ≡ sizeOf g)
-    × ((r : Refusal) → r .number ≤ 6 → readAnswer f lent ≡ R.Read.refused r → readAnswer g lent ≡ R.Read.refused r)
+    × ((r : Refusal) → r .number ≤ 6 → readAnswer f lent ≡ refused r → readAnswer g lent ≡ refused r)
 
--- the same two laws of the calls: the writer's buffer, cut to the length that the writer gives, reads back
+-- of a file of whole blocks, the first alone tells the size
+abbrev pub FirstBlockTellsSize : Type 0
+FirstBlockTellsSize = (f : List ℕ) → (length f ≡ 0 → ⊥) → length f % 512 ≡ 0 → sizeOf (take 512 f) ≡ sizeOf f
+
+-- ---- what was taken
+-- the machines are such as the code's types have
+abbrev pub TakenRepresentable : Type 0
+TakenRepresentable = (f lent : List ℕ) (p : Pair) (note : Bool) → AreBytes f → readAnswer f lent ≡ answer (taken p note) → Representable p
+
+-- the file has room where any file has, and so it is none that was cut
+abbrev pub TakenFits : Type 0
+TakenFits = (f lent : List ℕ) (p : Pair) (note : Bool) → readAnswer f lent ≡ answer (taken p note) → (length f ≤ fileRoom) × (take inputRoom f ≡ f)
+
+-- ---- the same of the calls
+-- the writer writes well-formed machines where both lent buffers have room
+abbrev pub WriteAnswers : Type 0
+WriteAnswers = (p : Pair) (note : Bool) (T buffer : List ℕ) → wellFormed p ≡ true → tableRoom ≤ length T → fileRoom ≤ length buffer
+    → writeAnswer p note T buffer ≡ answer (fileLength (nC p) (nA p) (setsC p) (setsA p) note)
+
+-- the writer's buffer, cut to the length that the writer gives, reads back
 abbrev pub WrittenReads : Type 0
 WrittenReads = (p : Pair) (note : Bool) (T buffer lent : List ℕ) (n : ℕ) → Representable p → AreEntries T → tableRoom ≤ length lent
-    → writeAnswer p note T buffer ≡ R.Sized.bytes n → readAnswer (take n (writeBuffer p note T buffer)) lent ≡ taken p note
+    → writeAnswer p note T buffer ≡ answer n
+    → (readAnswer (take n (writeBuffer p note T buffer)) lent ≡ answer (taken p note))
+    × (readTable (take n (writeBuffer p note T buffer)) lent ≡ cond note (table (entries p) (λ e. getD T e 0) ++ drop (entries p) lent) lent)
 
--- and a file that was taken is written again, to the byte, from the machines, the note and the table that were read
+-- a file that was taken is written again, to the byte, from the machines, the note and the table that were read
 abbrev pub ReadWrites : Type 0
-ReadWrites = (f lent buffer : List ℕ) (p : Pair) (note : Bool) → AreBytes f → fileRoom ≤ length buffer → readAnswer f lent ≡ taken p note
-    → (writeAnswer p note (readTable f lent) buffer ≡ R.Sized.bytes (length f)) × (writeBuffer p note (readTable f lent) buffer ≡ f ++ drop (length f) buffer)
+ReadWrites = (f lent buffer : List ℕ) (p : Pair) (note : Bool) → AreBytes f → fileRoom ≤ length buffer → readAnswer f lent ≡ answer (taken p note)
+    → (writeAnswer p note (readTable f lent) buffer ≡ answer (length f)) × (writeBuffer p note (readTable f lent) buffer ≡ f ++ drop (length f) buffer)
+
+-- the writer does not read entries past n × P: of any machines, well formed or not
+abbrev pub EntriesUnread : Type 0
+EntriesUnread = (p : Pair) (note : Bool) (T U buffer : List ℕ) → tableRoom ≤ length T → tableRoom ≤ length U
+    → ((e : ℕ) → e < entries p → getD T e 0 ≡ getD U e 0)
+    → (writeAnswer p note T buffer ≡ writeAnswer p note U buffer) × (writeBuffer p note T buffer ≡ writeBuffer p note U buffer)

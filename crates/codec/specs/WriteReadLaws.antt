@@ -1,7 +1,7 @@
 -- The first file law: what is written reads back.
 use mathlib.Core.Bool.{Bool, true, false, cond}
 use mathlib.Core.Logic.{by-cases}
-use mathlib.Core.Path.{_≡_, refl, sym, ap, _∙_}
+use mathlib.Core.Path.{_≡_, refl, sym, ap, ap₂, _∙_}
 use mathlib.Core.List.{List, _++_}
 use Prim.Native.Nat.{ℕ, zero, suc, _+_, _*_, _/_, _%_, _≤_, _<_}
 use native.Mathlib.Nat.{zero-add}
@@ -15,18 +15,18 @@ use Rattle.mask.specs.BoundedLaws.{every-of, first-none}
 use Rattle.mask.specs.Tables.{table}
 use Rattle.mask.specs.TablesLaws.{table-length, table-at, table-past, table-cong}
 use Rattle.machine.specs.declared.Pair.{Pair}
-use Rattle.machine.specs.declared.Validity.the-variants.{Valid}
-use Rattle.machine.specs.Refusals.{andThen}
+use Rattle.machine.specs.Refusals.{Tested, valid, answer, andThen}
+use Rattle.machine.specs.RefusalsLaws.{given-of, buffer-valid}
 use Rattle.machine.specs.Machines.{nC, nA, setsC, setsA}
 use Rattle.machine.specs.Table.{entries, tableRoom}
 use Rattle.machine.specs.WellFormed.{pairValidity}
 use Rattle.machine.specs.WellFormedLaws.{WellPair, well-pair, well-is-valid, counts-of}
 use Rattle.codec.specs.Format.{numbers, numberAt, letters, header, tableBytes, payload, payloadLength, blocksFor, checkAt, blockFront, blocked, fileOf}
-use Rattle.codec.specs.Reader.{checkHolds, numberHolds, blockHolds, payloadOf, headerByte, noteOf, headerHolds, countsHold, firstValidity, demanded, badBlock, paddingHolds, blocksValidity, pairOf, entriesOf, readValidity, takenUnless, readAnswer, tableUnless, readTable}
+use Rattle.codec.specs.Reader.{checkHolds, numberHolds, blockHolds, payloadOf, headerByte, noteOf, headerHolds, countsHold, firstValidity, payloadDemanded, demanded, badBlock, paddingHolds, blocksValidity, pairOf, entriesOf, readValidity, taken, readAnswer, readTable}
 use Rattle.codec.specs.Statements.{Representable, AreEntries, WriteRead}
 use Rattle.codec.specs.NumberLaws.{number-is}
 use Rattle.codec.specs.FormatLaws.{header-length, payload-length, payload-small, blocks-small, blocked-length, file-length, check-cong, check-lt, front-at, front-number, block-check, blocked-at, blocks-hold, blocked-payload}
-use Rattle.codec.specs.WriterLaws.{buffer-long}
+use Rattle.codec.specs.ReaderLaws.{table-after}
 use Rattle.codec.specs.PayloadLaws.{Stands, parts-of, machine-reads, numbers-read}
 
 -- ---- what is written: the blocks of a payload of at most 116 blocks hold
@@ -138,7 +138,7 @@ module _ (p : Pair) (note : Bool) (T : List ℕ) (w : WellPair p) where
   unfolding demanded
   demanded-is = let e = counts-are in rw (e .0, e .1, e .2, e .3, note-is) (sym (file-length p note T))
 
-  first-valid : firstValidity (fileOf p note T) ≡ Valid
+  first-valid : firstValidity (fileOf p note T) ≡ valid
   unfolding firstValidity
   first-valid =
       let n = blocksFor (length (payload p note T)) in
@@ -147,7 +147,7 @@ module _ (p : Pair) (note : Bool) (T : List ℕ) (w : WellPair p) where
       rw (full, not-f (file-holds 0 some-block), not-f header-is, not-f counts-hold)
 
   padding-is : paddingHolds (fileOf p note T) ≡ true
-  unfolding paddingHolds
+  unfolding paddingHolds payloadDemanded
   padding-is =
       let e = counts-are in
       rw (e .0, e .1, e .2, e .3, note-is)
@@ -159,7 +159,7 @@ module _ (p : Pair) (note : Bool) (T : List ℕ) (w : WellPair p) where
   unfolding badBlock
   no-bad-block = ap suc (first-none _ _ (λ k h. not-f (file-holds (suc k) (omega (arith, file-blocks))))) ∙ omega (arith, file-blocks, some-block)
 
-  blocks-valid : blocksValidity (fileOf p note T) ≡ Valid
+  blocks-valid : blocksValidity (fileOf p note T) ≡ valid
   unfolding blocksValidity
   blocks-valid =
       rw (not-f (eq-eqb _ _ (sym demanded-is)), no-bad-block, le-ltb (length (fileOf p note T) / 512) (length (fileOf p note T) / 512) (omega arith), not-f padding-is)
@@ -191,17 +191,17 @@ module _ (p : Pair) (note : Bool) (T : List ℕ) (w : WellPair p) where
       ap (λ (q : Pair). table (entries q) (λ e. numberAt 2 P (payloadLength (nC q) (nA q) (setsC q) (setsA q) false + 2 * e))) (pair-is r)
       ∙ table-cong (entries p) _ (λ e. getD T e 0) (λ e h. numbers-read 2 (entries p) (λ e. getD T e 0) P at e h (b e) stands)
 
-  read-valid : Representable p → pairValidity p ≡ Valid → (len : ℕ) → tableRoom ≤ len → readValidity (fileOf p note T) len ≡ Valid
+  read-valid : Representable p → pairValidity p ≡ valid → (len : ℕ) → tableRoom ≤ len → readValidity (fileOf p note T) len ≡ valid
   unfolding readValidity andThen
-  read-valid r v len h = rw (buffer-long tableRoom len h, first-valid, blocks-valid, pair-is r, v)
+  read-valid r v len h = rw (buffer-valid tableRoom len h, first-valid, blocks-valid, pair-is r, v)
 
 pub write-read : WriteRead
-unfolding readAnswer readTable takenUnless tableUnless
+unfolding readAnswer readTable
 write-read p note T lent r t b room =
     let w = well-pair p t in
     let v = read-valid p note T w r (well-is-valid p t) (length lent) room in (
-      rw (v, pair-is p note T w r, note-is p note T w),
-      rw (v, note-is p note T w) (cases note (entries-are p note T w r b)),
+      given-of _ _ v ∙ ap₂ (λ (q : Pair) (n : Bool). answer (taken q n)) (pair-is p note T w r) (note-is p note T w),
+      table-after (fileOf p note T) lent _ note v (note-is p note T w) ∙ cases note (entries-are p note T w r b),
     )
   where
     cases : (n : Bool) → (n ≡ true → entriesOf (fileOf p note T) ≡ table (entries p) (λ e. getD T e 0))

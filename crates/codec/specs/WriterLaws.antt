@@ -7,7 +7,6 @@ use native.Mathlib.Nat.{zero-add, div-one, pow-suc, div-div-eq-div-mul}
 use native.Mathlib.Numerals.{add-one}
 use native.Mathlib.Omega.{arith}
 use lib.ListN.{length, getD, set, drop, replicate, length-replicate, getD-replicate}
-use borrow.Author.Tests.{lt-ltb, le-ltb}
 use lib.Seq.{paste, sets}
 use mir.Val.{boolByte}
 use Rattle.mask.specs.Tables.{table}
@@ -17,18 +16,17 @@ use Rattle.machine.specs.declared.Pair.{Pair}
 use Rattle.machine.specs.Machines.{observation, successors, fairSet, nC, nA, setsC, setsA}
 use Rattle.machine.specs.Table.{entries, tableRoom}
 use Rattle.machine.specs.declared.Refusal.{Refusal}
-use Rattle.machine.specs.declared.Validity.the-variants.{Valid, Refused}
-use Rattle.machine.specs.Refusals.{refusal, andThen, short-buffer, bufferValidity}
-use Rattle.machine.specs.WellFormed.{pairValidity}
-use Rattle.machine.specs.WellFormedLaws.{WellPair}
+use Rattle.machine.specs.Refusals.{Tested, valid, answer, refused, refusal, andThen, short-buffer, bufferValidity}
+use Rattle.machine.specs.RefusalsLaws.{then-of, then-refused, then-answer, given-of, given-at, buffer-valid, buffer-short, buffer-made, buffer-kept}
+use Rattle.machine.specs.WellFormed.{pairValidity, wellFormed}
+use Rattle.machine.specs.WellFormedLaws.{WellPair, well-valid, well-is-valid}
 use Rattle.codec.specs.declared.Size.the-variants as size
-use Rattle.codec.specs.Reader.{sizedUnless}
-use Rattle.codec.specs.Writer.{fileRoom, writeValidity, writeAnswer, bufferUnless, writeBuffer}
-use Rattle.codec.specs.Answers.{sizeFor}
+use Rattle.codec.specs.Writer.{fileRoom, writeValidity, writeAnswer, writeBuffer}
+use Rattle.codec.specs.Answers.{sizedOf}
 use Rattle.codec.specs.Format.{byteOf, bytesOf, numbers, letters, header, machineBytes, tableBytes, payload, payloadLength, blocksFor, fileLength, checkAt, blockFront, block, blocked, fileOf}
 use Rattle.codec.specs.NumberLaws.{bytes-length, numbers-length}
 use Rattle.codec.specs.ListLaws.{table-of, rows-more, sets-then, sets-none, sets-snoc, sets-at, sets-front, sets-zeros, pasted}
-use Rattle.codec.specs.FormatLaws.{header-length, machine-length, payload-length, payload-small, front-length, block-length, block-cong, check-cong}
+use Rattle.codec.specs.FormatLaws.{header-length, machine-length, payload-length, payload-small, blocks-small, front-length, block-length, block-cong, check-cong}
 
 -- ---- a number, a byte a turn: r is what is left of x after i bytes
 pub store-none : (l : List ℕ) (at x : ℕ) → l ≡ sets l at (bytesOf 0 x)
@@ -169,7 +167,7 @@ pub file-end : (p : Pair) (note : Bool) (len : ℕ) → len ≡ payloadLength (n
 unfolding fileLength blocksFor
 file-end p note len e = ap (λ (n : ℕ). 512 * ((n + 507) / 508)) e
 
-pub store-file : (p : Pair) (note : Bool) (T R l s : List ℕ) (zeros len : ℕ) → len ≤ 58648 → 58928 ≤ zeros → 59392 ≤ length l
+pub store-file : (p : Pair) (note : Bool) (T R l s : List ℕ) (zeros len : ℕ) → len ≤ 58648 → 58928 ≤ zeros → fileRoom ≤ length l
     → len ≡ payloadLength (nC p) (nA p) (setsC p) (setsA p) note → R ≡ sets (replicate zeros 0) 0 (payload p note T)
     → s ≡ sets l 0 (table (512 * ((len + 507) / 508)) (λ k. getD (block R (k / 512)) (k % 512) 0)) → s ≡ fileOf p note T ++ drop (length (fileOf p note T)) l
 unfolding fileOf blocked blocksFor
@@ -187,34 +185,54 @@ store-file p note T R l s zeros len small room long len-is e f =
     ∙ sets-front l whole (omega (arith, table-length (512 * ((length Q + 507) / 508)) (λ k. getD (block Q (k / 512)) (k % 512) 0)))
 
 -- ---- the whole answer, and what the buffer holds then
-pub buffer-short : (least len : ℕ) → len < least → bufferValidity least len ≡ Refused (refusal short-buffer 0 0 0)
-unfolding bufferValidity
-buffer-short least len h = rw (lt-ltb len least h)
+pub short-table : (p : Pair) (tableLen bufferLen : ℕ) → tableLen < tableRoom → writeValidity p tableLen bufferLen ≡ refused (refusal short-buffer 0 0 0)
+unfolding writeValidity
+short-table p tableLen bufferLen h = then-refused _ _ _ (buffer-short tableRoom tableLen h)
 
-pub buffer-long : (least len : ℕ) → least ≤ len → bufferValidity least len ≡ Valid
-unfolding bufferValidity
-buffer-long least len h = rw (le-ltb len least h)
+-- a table with room tells nothing
+with-table : (p : Pair) (tableLen bufferLen : ℕ) → tableRoom ≤ tableLen → writeValidity p tableLen bufferLen ≡ andThen (bufferValidity fileRoom bufferLen) (pairValidity p)
+unfolding writeValidity
+with-table p tableLen bufferLen h = then-of _ _ (buffer-valid tableRoom tableLen h)
 
-pub short-table : (p : Pair) (tableLen bufferLen : ℕ) → tableLen < tableRoom → writeValidity p tableLen bufferLen ≡ Refused (refusal short-buffer 0 0 0)
-unfolding writeValidity andThen
-short-table p tableLen bufferLen h = rw (buffer-short tableRoom tableLen h)
-
-pub short-file : (p : Pair) (tableLen bufferLen : ℕ) → tableRoom ≤ tableLen → bufferLen < fileRoom → writeValidity p tableLen bufferLen ≡ Refused (refusal short-buffer 0 0 0)
-unfolding writeValidity andThen
-short-file p tableLen bufferLen h k = rw (buffer-long tableRoom tableLen h, buffer-short fileRoom bufferLen k)
+pub short-file : (p : Pair) (tableLen bufferLen : ℕ) → tableRoom ≤ tableLen → bufferLen < fileRoom → writeValidity p tableLen bufferLen ≡ refused (refusal short-buffer 0 0 0)
+short-file p tableLen bufferLen h k = with-table p tableLen bufferLen h ∙ then-refused _ _ _ (buffer-short fileRoom bufferLen k)
 
 pub with-room : (p : Pair) (tableLen bufferLen : ℕ) → tableRoom ≤ tableLen → fileRoom ≤ bufferLen → writeValidity p tableLen bufferLen ≡ pairValidity p
-unfolding writeValidity andThen
-with-room p tableLen bufferLen h k = rw (buffer-long tableRoom tableLen h, buffer-long fileRoom bufferLen k)
+with-room p tableLen bufferLen h k = with-table p tableLen bufferLen h ∙ then-of _ _ (buffer-valid fileRoom bufferLen k)
+
+-- of lent tables with room it makes no difference which
+pub same-tests : (p : Pair) (m n bufferLen : ℕ) → tableRoom ≤ m → tableRoom ≤ n → writeValidity p m bufferLen ≡ writeValidity p n bufferLen
+same-tests p m n bufferLen h k = with-table p m bufferLen h ∙ sym (with-table p n bufferLen k)
 
 module _ (p : Pair) (note : Bool) (T buffer : List ℕ) where
-  pub write-refused : (r : Refusal) → writeValidity p (length T) (length buffer) ≡ Refused r
-      → (size.Refused r ≡ sizeFor (writeAnswer p note T buffer)) × (buffer ≡ writeBuffer p note T buffer)
-  unfolding writeAnswer writeBuffer sizedUnless bufferUnless sizeFor
-  write-refused r e = (rw e, rw e)
+  pub write-refused : {r q : Refusal} → writeValidity p (length T) (length buffer) ≡ refused r → q ≡ r
+      → (sizedOf (size.Refused q) ≡ writeAnswer p note T buffer) × (buffer ≡ writeBuffer p note T buffer)
+  unfolding writeAnswer writeBuffer sizedOf
+  write-refused e z = (ap refused z ∙ sym (then-refused _ _ _ e), sym (buffer-kept _ _ buffer e))
 
-  pub write-valid : writeValidity p (length T) (length buffer) ≡ Valid
-      → (size.Bytes (fileLength (nC p) (nA p) (setsC p) (setsA p) note) ≡ sizeFor (writeAnswer p note T buffer))
-      × (fileOf p note T ++ drop (length (fileOf p note T)) buffer ≡ writeBuffer p note T buffer)
-  unfolding writeAnswer writeBuffer sizedUnless bufferUnless sizeFor
-  write-valid e = (rw e, rw e)
+  pub write-valid : {n : ℕ} → writeValidity p (length T) (length buffer) ≡ valid → n ≡ fileLength (nC p) (nA p) (setsC p) (setsA p) note
+      → (sizedOf (size.Bytes n) ≡ writeAnswer p note T buffer) × (fileOf p note T ++ drop (length (fileOf p note T)) buffer ≡ writeBuffer p note T buffer)
+  unfolding writeAnswer writeBuffer sizedOf
+  write-valid e z = (ap answer z ∙ sym (given-of _ _ e), sym (buffer-made _ _ buffer e))
+
+  -- the writer answers where machines are well formed and both buffers have room
+  pub write-answers : wellFormed p ≡ true → tableRoom ≤ length T → fileRoom ≤ length buffer
+      → writeAnswer p note T buffer ≡ answer (fileLength (nC p) (nA p) (setsC p) (setsA p) note)
+  unfolding writeAnswer
+  write-answers t h k = given-of _ _ (with-room p (length T) (length buffer) h k ∙ well-is-valid p t)
+
+  -- and only there
+  pub answer-valid : {n : ℕ} → writeAnswer p note T buffer ≡ answer n
+      → (pairValidity p ≡ valid) × (writeBuffer p note T buffer ≡ fileOf p note T ++ drop (length (fileOf p note T)) buffer) × (n ≡ fileLength (nC p) (nA p) (setsC p) (setsA p) note)
+  unfolding writeAnswer writeBuffer writeValidity
+  answer-valid e =
+      let t = given-at (writeValidity p (length T) (length buffer)) _ e in
+      let a = then-answer (bufferValidity tableRoom (length T)) _ (t .0) in
+      (then-answer (bufferValidity fileRoom (length buffer)) (pairValidity p) (a .1) .1, buffer-made _ _ buffer (t .0), sym (t .1))
+
+  -- the file has room in the buffer
+  pub answer-small : {n : ℕ} → writeAnswer p note T buffer ≡ answer n → n ≤ fileRoom
+  unfolding fileLength
+  answer-small e =
+      let t = answer-valid e in
+      omega (arith, t .2, blocks-small _ (payload-small p note (well-valid p (t .0))))

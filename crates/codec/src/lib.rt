@@ -25,6 +25,15 @@ pub enum Size {
     Refused(Refusal),
 }
 
+// The room that a file of any counts takes: 116 blocks.
+pub const FILE_ROOM: usize = 59392;
+
+// What is taken as the file, of longer input.
+pub const INPUT_ROOM: usize = 59904;
+
+// The payload of 116 blocks.
+const PAYLOAD_ROOM: usize = 58928;
+
 pub mod reader;
 pub mod writer;
 

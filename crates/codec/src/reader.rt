@@ -1,4 +1,5 @@
 // Reading a file, and its length from the first block alone.
+use super::PAYLOAD_ROOM;
 use super::Reading;
 use super::Show;
 use super::Size;
@@ -15,13 +16,14 @@ ghost use Prim.Native.Nat.{_+_, _*_, _/_, _^_, _≤_, _<_};
 ghost use lib.ListN.{length, getD, drop, replicate};
 ghost use lib.Dec.{eqb};
 ghost use Rattle.mask.specs.Bounded.{every};
-ghost use Rattle.machine.specs.Refusals.{refusal, andThen};
+ghost use Rattle.machine.specs.Refusals.{answer, refused, valid, testedOf, andThen, bufferAfter};
 ghost use Rattle.machine.specs.WellFormed.{pairValidity};
 ghost use Rattle.machine.specs.Table.{tableRoom};
 ghost use Rattle.codec.specs.Format.{letters, numberAt, payloadLength};
-ghost use Rattle.codec.specs.Reader.{checkHolds, numberHolds, blockHolds, headerByte, noteOf, headerHolds, countsHold, firstValidity, demanded, badBlock, paddingHolds, blocksValidity, machineAt, pairOf, entriesOf, Read, taken, takenUnless, readAnswer, tableUnless, readTable, zeroMachine, sizeOf};
-ghost use Rattle.codec.specs.Answers.{showFor, sizeFor};
-ghost use Rattle.codec.specs.Loading.{payloadDemanded, payloadByte, front, Loaded};
+ghost use Rattle.codec.specs.Reader.{checkHolds, numberHolds, blockHolds, payloadByte, headerByte, noteOf, headerHolds, countsHold, firstValidity, payloadDemanded, demanded, badBlock, paddingHolds, blocksValidity, machineAt, pairOf, entriesOf, taken, readAnswer, tableOf, readTable, zeroMachine, zeroPair, sizeOf};
+ghost use Rattle.codec.specs.Answers.{readOf, pairGiven, sizedOf, refusalOf};
+ghost use Rattle.codec.specs.Loading.{Loaded};
+ghost use Rattle.codec.specs.Loading.{front};
 
 // ---- Numbers and blocks
 
@@ -146,36 +148,24 @@ fn counts_hold(bytes: &[u8]) -> bool
     }
 }
 
-// A refusal whose spot is a block, or 0.
-fn refused(number: u32, block: usize) -> Validity
-    ensures { λ r. ⌜ r ≡ Validity.Refused (refusal number block 0 0) ⌝ }
-{
-    Validity::Refused(Refusal {
-        number: number,
-        first: block,
-        second: 0,
-        third: 0,
-    })
-}
-
 // Refusals 2 to 5, which rest on the length and the first block.
 fn first_validity(bytes: &[u8]) -> Validity
-    ensures { λ r. ⌜ r ≡ firstValidity (now (bytes .entry)) ⌝ }
+    ensures { λ r. ⌜ testedOf r ≡ firstValidity (now (bytes .entry)) ⌝ }
 {
     if bytes.len() == 0 {
-        return refused(machine::BAD_LENGTH, 0);
+        return Validity::Refused(machine::refuse(machine::BAD_LENGTH, 0, 0, 0));
     }
     if bytes.len() % 512 != 0 {
-        return refused(machine::BAD_LENGTH, 0);
+        return Validity::Refused(machine::refuse(machine::BAD_LENGTH, 0, 0, 0));
     }
     if !block_holds(bytes, 0) {
-        return refused(machine::BAD_FIRST_BLOCK, 0);
+        return Validity::Refused(machine::refuse(machine::BAD_FIRST_BLOCK, 0, 0, 0));
     }
     if !header_holds(bytes) {
-        return refused(machine::BAD_HEADER, 0);
+        return Validity::Refused(machine::refuse(machine::BAD_HEADER, 0, 0, 0));
     }
     if !counts_hold(bytes) {
-        return refused(machine::BAD_COUNTS, 0);
+        return Validity::Refused(machine::refuse(machine::BAD_COUNTS, 0, 0, 0));
     }
     Validity::Valid
 }
@@ -209,7 +199,7 @@ fn payload_demanded(bytes: &[u8]) -> usize
 
 // A file's length in bytes, by its first block; refusals 2 to 5.
 pub fn file_size(bytes: &[u8]) -> Size
-    ensures { λ r. ⌜ r ≡ sizeFor (sizeOf (now (bytes .entry))) ⌝ }
+    ensures { λ r. ⌜ sizedOf r ≡ sizeOf (now (bytes .entry)) ⌝ }
 {
     match first_validity(bytes) {
         Validity::Refused(r) => Size::Refused(r),
@@ -250,27 +240,27 @@ fn padding_holds(bytes: &[u8]) -> bool
 // Refusals 7 and 8.
 fn later_validity(bytes: &[u8]) -> Validity
     requires { ⌜ length (now bytes) ≡ demanded (now bytes) ⌝ }
-    ensures { λ r. ⌜ r ≡ blocksValidity (now (bytes .entry)) ⌝ }
+    ensures { λ r. ⌜ testedOf r ≡ blocksValidity (now (bytes .entry)) ⌝ }
 {
     let b = bad_block(bytes);
     if b < bytes.len() / 512 {
-        return refused(machine::BAD_BLOCK, b);
+        return Validity::Refused(machine::refuse(machine::BAD_BLOCK, b, 0, 0));
     }
     if !padding_holds(bytes) {
-        return refused(machine::BAD_PADDING, 0);
+        return Validity::Refused(machine::refuse(machine::BAD_PADDING, 0, 0, 0));
     }
     Validity::Valid
 }
 
 // Refusals 2 to 8: up to 6 by the length that the first block demands.
 fn file_validity(bytes: &[u8]) -> Validity
-    ensures { λ r. ⌜ r ≡ andThen (firstValidity (now (bytes .entry))) (blocksValidity (now (bytes .entry))) ⌝ }
+    ensures { λ r. ⌜ testedOf r ≡ andThen (firstValidity (now (bytes .entry))) (blocksValidity (now (bytes .entry))) ⌝ }
 {
     match file_size(bytes) {
         Size::Refused(r) => Validity::Refused(r),
         Size::Bytes(n) => {
             if bytes.len() != n {
-                return refused(machine::WRONG_LENGTH, 0);
+                return Validity::Refused(machine::refuse(machine::WRONG_LENGTH, 0, 0, 0));
             }
             later_validity(bytes)
         }
@@ -393,7 +383,8 @@ fn zero_machine() -> Machine
 
 // The answer beside a refusal.
 fn refused_show(r: Refusal) -> Show
-    ensures { λ s. ⌜ s ≡ showFor (Read.refused r) ⌝ }
+    ensures answer { λ s. ⌜ readOf s ≡ refused r ⌝ }
+    ensures machines { λ s. ⌜ s .pair ≡ zeroPair ⌝ }
 {
     Show {
         pair: Pair {
@@ -404,15 +395,15 @@ fn refused_show(r: Refusal) -> Show
     }
 }
 
-// The show of a file whose blocks hold, with its table in the lent one: refusals 9 to 11, and what is taken. The payload's array is as long
-// as the payload of 116 blocks.
+// The show of a file whose blocks hold, with its table in the lent one: refusals 9 to 11, and what is taken.
 fn take_show(bytes: &[u8], table: &mut [u16]) -> Show
-    requires { ⌜ andThen (firstValidity (now bytes)) (blocksValidity (now bytes)) ≡ Validity.Valid ⌝ }
+    requires { ⌜ andThen (firstValidity (now bytes)) (blocksValidity (now bytes)) ≡ valid ⌝ }
     requires { ⌜ tableRoom ≤ length (now table) ⌝ }
-    ensures answer { λ r. ⌜ r ≡ showFor (takenUnless (pairValidity (pairOf (now (bytes .entry)))) (taken (pairOf (now (bytes .entry))) (noteOf (now (bytes .entry))))) ⌝ }
-    ensures content { λ _. ⌜ now (table .exit) ≡ tableUnless (pairValidity (pairOf (now (bytes .entry)))) (noteOf (now (bytes .entry))) (entriesOf (now (bytes .entry))) (now (table .entry)) ⌝ }
+    ensures answer { λ r. ⌜ readOf r ≡ andThen (pairValidity (pairOf (now (bytes .entry)))) (answer (taken (pairOf (now (bytes .entry))) (noteOf (now (bytes .entry))))) ⌝ }
+    ensures machines { λ r. ⌜ r .pair ≡ pairGiven (andThen (pairValidity (pairOf (now (bytes .entry)))) (answer (taken (pairOf (now (bytes .entry))) (noteOf (now (bytes .entry)))))) ⌝ }
+    ensures content { λ _. ⌜ now (table .exit) ≡ bufferAfter (pairValidity (pairOf (now (bytes .entry)))) (tableOf (now (bytes .entry))) (now (table .entry)) ⌝ }
 {
-    let mut payload = [0u8; 58928];
+    let mut payload = [0u8; PAYLOAD_ROOM];
     join(bytes, &mut payload);
     let pair = pair_at(bytes, &payload);
     match machine::pair_validity(pair) {
@@ -432,19 +423,26 @@ fn take_show(bytes: &[u8], table: &mut [u16]) -> Show
 
 // Reads a file: its machines, the note whether a table came, and the table into a lent one.
 pub fn read_file(bytes: &[u8], table: &mut [u16]) -> Show
-    ensures answer { λ r. ⌜ r ≡ showFor (readAnswer (now (bytes .entry)) (now (table .entry))) ⌝ }
+    ensures answer { λ r. ⌜ readOf r ≡ readAnswer (now (bytes .entry)) (now (table .entry)) ⌝ }
+    ensures machines { λ r. ⌜ r .pair ≡ pairGiven (readAnswer (now (bytes .entry)) (now (table .entry))) ⌝ }
     ensures content { λ _. ⌜ now (table .exit) ≡ readTable (now (bytes .entry)) (now (table .entry)) ⌝ }
 {
-    if table.len() < 28672 {
-        return refused_show(Refusal {
-            number: machine::SHORT_BUFFER,
-            first: 0,
-            second: 0,
-            third: 0,
-        });
+    if table.len() < machine::TABLE_ROOM {
+        return refused_show(machine::refuse(machine::SHORT_BUFFER, 0, 0, 0));
     }
     match file_validity(bytes) {
         Validity::Refused(r) => refused_show(r),
         Validity::Valid => take_show(bytes, table),
+    }
+}
+
+// The refusal of a reading: the call by which a caller passes it on, after `let Reading::Taken(note) = reading else { .. }`. A reading that took
+// its file has no refusal.
+pub fn refusal_of(reading: Reading) -> Refusal
+    ensures { λ r. ⌜ r ≡ refusalOf reading ⌝ }
+{
+    match reading {
+        Reading::Refused(r) => r,
+        Reading::Taken(_) => machine::refuse(0, 0, 0, 0),
     }
 }

@@ -1,10 +1,11 @@
 // Writing a file: the payload is put together in an array of its own, then cut into blocks.
+use super::FILE_ROOM;
+use super::PAYLOAD_ROOM;
 use super::Size;
 use super::check_at;
 use super::copy_to;
 use machine::Machine;
 use machine::Pair;
-use machine::Refusal;
 use machine::Validity;
 ghost use mathlib.Core.Path.{_≡_};
 ghost use mathlib.Core.Bool.{true};
@@ -15,15 +16,10 @@ ghost use lib.Seq.{sets};
 ghost use Rattle.mask.specs.Tables.{table};
 ghost use Rattle.machine.specs.Machines.{nC, nA, setsC, setsA};
 ghost use Rattle.machine.specs.WellFormed.{wellFormed};
-ghost use Rattle.machine.specs.Refusals.{refusal};
-ghost use Rattle.codec.specs.Writer.{writeAnswer, writeBuffer};
-ghost use Rattle.codec.specs.Answers.{sizeFor};
+ghost use Rattle.machine.specs.Table.{tableRoom};
+ghost use Rattle.codec.specs.Writer.{fileRoom, writeAnswer, writeBuffer};
+ghost use Rattle.codec.specs.Answers.{sizedOf};
 ghost use Rattle.codec.specs.Format.{bytesOf, numbers, header, machineBytes, payload, payloadLength, fileLength, block, fileOf};
-
-// The room that a lent table and a lent buffer must have.
-const TABLE_ROOM: usize = 28672;
-
-const FILE_ROOM: usize = 59392;
 
 // ---- Bytes, numbers and machines
 
@@ -112,7 +108,7 @@ fn put_header(out: &mut [u8], p: Pair, with_table: bool)
 // Writes the whole payload from the front, and gives its length.
 fn put_payload(out: &mut [u8], p: Pair, with_table: bool, table: &[u16]) -> usize
     requires { ⌜ wellFormed p ≡ true ⌝ }
-    requires { ⌜ (28672 ≤ length (now table)) × (58648 ≤ length (now out)) ⌝ }
+    requires { ⌜ (tableRoom ≤ length (now table)) × (58648 ≤ length (now out)) ⌝ }
     ensures length { λ r. ⌜ r ≡ payloadLength (nC p) (nA p) (setsC p) (setsA p) «with_table» ⌝ }
     ensures bytes { λ _. ⌜ now (out .exit) ≡ sets (now (out .entry)) 0 (payload p «with_table» (now (table .entry))) ⌝ }
 {
@@ -153,43 +149,31 @@ fn put_blocks(out: &mut [u8], payload: &[u8], count: usize)
     }
 }
 
-// Writes the file of a well-formed pair, and gives its length. The payload's array is as long as the payload of 116 blocks.
+// Writes the file of a well-formed pair, and gives its length.
 fn put_file(p: Pair, with_table: bool, table: &[u16], buffer: &mut [u8]) -> usize
     requires { ⌜ wellFormed p ≡ true ⌝ }
-    requires { ⌜ (28672 ≤ length (now table)) × (59392 ≤ length (now buffer)) ⌝ }
+    requires { ⌜ (tableRoom ≤ length (now table)) × (fileRoom ≤ length (now buffer)) ⌝ }
     ensures length { λ r. ⌜ r ≡ fileLength (nC p) (nA p) (setsC p) (setsA p) «with_table» ⌝ }
     ensures bytes { λ _. ⌜ now (buffer .exit) ≡ fileOf p «with_table» (now (table .entry)) ++ drop (length (fileOf p «with_table» (now (table .entry)))) (now (buffer .entry)) ⌝ }
 {
-    let mut payload = [0u8; 58928];
+    let mut payload = [0u8; PAYLOAD_ROOM];
     let len = put_payload(&mut payload, p, with_table, table);
     let blocks = (len + 507) / 508;
     put_blocks(buffer, &payload, blocks);
     512 * blocks
 }
 
-// Refusal 1, of either lent buffer.
-fn short_buffer() -> Size
-    ensures { λ r. ⌜ r ≡ Size.Refused (refusal 1 0 0 0) ⌝ }
-{
-    Size::Refused(Refusal {
-        number: machine::SHORT_BUFFER,
-        first: 0,
-        second: 0,
-        third: 0,
-    })
-}
-
 // Writes the file of a pair into a lent buffer, with the table if `with_table` says so, and gives the file's length in bytes. Stopped by 1, 5
 // and 9 to 11, it writes nothing.
 pub fn write_file(p: Pair, with_table: bool, table: &[u16], buffer: &mut [u8]) -> Size
-    ensures answer { λ r. ⌜ r ≡ sizeFor (writeAnswer p «with_table» (now (table .entry)) (now (buffer .entry))) ⌝ }
+    ensures answer { λ r. ⌜ sizedOf r ≡ writeAnswer p «with_table» (now (table .entry)) (now (buffer .entry)) ⌝ }
     ensures bytes { λ _. ⌜ now (buffer .exit) ≡ writeBuffer p «with_table» (now (table .entry)) (now (buffer .entry)) ⌝ }
 {
-    if table.len() < TABLE_ROOM {
-        return short_buffer();
+    if table.len() < machine::TABLE_ROOM {
+        return Size::Refused(machine::refuse(machine::SHORT_BUFFER, 0, 0, 0));
     }
     if buffer.len() < FILE_ROOM {
-        return short_buffer();
+        return Size::Refused(machine::refuse(machine::SHORT_BUFFER, 0, 0, 0));
     }
     match machine::pair_validity(p) {
         Validity::Refused(r) => Size::Refused(r),

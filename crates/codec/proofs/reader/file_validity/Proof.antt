@@ -1,15 +1,18 @@
-use mathlib.Core.Path.{_≡_, sym, _∙_}
-use Rattle.machine.specs.declared.Validity.the-variants.{Valid}
-use Rattle.machine.specs.RefusalsLaws.{then-of}
-use Rattle.codec.specs.Reader.{firstValidity, demanded}
-use Rattle.codec.specs.ReaderLaws.{sized-bytes, refused-sized, then-refused, wrong-length-is}
+-- The size that the first block tells gives 2 to 5, and beside the length 6.
+use mathlib.Core.Path.{_≡_, sym, ap, _∙_}
+use Rattle.machine.specs.Refusals.{valid, refused, testedOf}
+use Rattle.machine.specs.RefusalsLaws.{then-of, then-refused, given-at, given-refused}
+use Rattle.codec.specs.Reader.{firstValidity, demanded, sizeOf}
+use Rattle.codec.specs.ReaderLaws.{wrong-length-is}
+use Rattle.codec.specs.AnswersLaws.{sized-bytes, sized-refused}
 use borrow.Author.Needs.{needs}
 use Rattle.codec.proofs.reader.file_validity.Statement.{statement}
 use Rattle.codec.proofs.reader.file_validity.Tie as tie
 
 -- where the call gives a length, the first block is right, and the length is the one that it demands
-told : (c : tie.After-known-told2) → let f = c .before .before .before .before .before .args .bytes .now in (firstValidity f ≡ Valid) × (demanded f ≡ c .before .n .given .0 .0)
-told c = sized-bytes _ _ (sym (c .before .before .before .file-size .ensures) ∙ c .before .n .given .1)
+told : (c : tie.After-known-told2) → let f = c .before .before .before .before .before .args .bytes .now in (firstValidity f ≡ valid) × (demanded f ≡ c .before .n .given .0 .0)
+unfolding sizeOf
+told c = given-at _ _ (sized-bytes (c .before .before .before .file-size .ensures) (c .before .n .given .1))
 
 file-size-requires : tie.Need-file-size-requires
 file-size-requires c κs = search needs
@@ -20,19 +23,21 @@ enum-known-r c = search needs
 enum-known-n : tie.Need-enum-known-n
 enum-known-n c = search needs
 
-refused-requires : tie.Need-refused-requires
-refused-requires c κs = search needs
+refuse-requires : tie.Need-refuse-requires
+refuse-requires c κs = search needs
 
 returns : tie.Need-returns
+unfolding testedOf
 returns c =
     let t = told (c .before .before) in
-    sym (then-of _ _ (t .0) ∙ wrong-length-is _ (λ e. c .before .if1 .taken (e ∙ t .1)) ∙ sym (c .refused .ensures))
+    ap refused (c .refuse .ensures) ∙ sym (then-of _ _ (t .0) ∙ wrong-length-is _ (λ e. c .before .if1 .taken (e ∙ t .1)))
 
 later-validity-requires : tie.Need-later-validity-requires
 later-validity-requires c κs = c .if1 .left ∙ sym (told (c .before) .1)
 
 returns-2 : tie.Need-returns-2
-returns-2 c = sym (then-refused _ _ _ (refused-sized _ _ (sym (c .before .before .before .file-size .ensures) ∙ c .before .r .given .1)))
+unfolding testedOf sizeOf
+returns-2 c = sym (then-refused _ _ _ (given-refused _ _ (sized-refused (c .before .before .before .file-size .ensures) (c .before .r .given .1))))
 
 returns-3 : tie.Need-returns-3
 returns-3 c = c .later-validity .ensures ∙ sym (then-of _ _ (told (c .before .before) .0))
@@ -44,7 +49,7 @@ file-validity-spec =
     file-size-requires
     enum-known-r
     enum-known-n
-    refused-requires
+    refuse-requires
     returns
     later-validity-requires
     returns-2

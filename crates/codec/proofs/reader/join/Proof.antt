@@ -5,7 +5,8 @@ use native.Mathlib.Omega.{arith}
 use lib.ListN.{length, drop}
 use lib.Seq.{paste}
 use borrow.Author.Needs.{needs}
-use Rattle.codec.specs.Loading.{front, payloadByte}
+use Rattle.codec.specs.Reader.{payloadByte}
+use Rattle.codec.specs.Loading.{front}
 use Rattle.codec.specs.FrontLaws.{front-none}
 use Rattle.codec.specs.BlockLaws.{join-turn}
 use Rattle.codec.proofs.reader.join.Statement.{statement}

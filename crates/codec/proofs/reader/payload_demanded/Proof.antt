@@ -1,5 +1,5 @@
 use mathlib.Core.Path.{_∙_}
-use Rattle.codec.specs.Loading.{payloadDemanded}
+use Rattle.codec.specs.Reader.{payloadDemanded}
 use borrow.Author.Needs.{needs}
 use Rattle.codec.proofs.reader.payload_demanded.Statement.{statement}
 use Rattle.codec.proofs.reader.payload_demanded.Tie as tie

@@ -1,5 +1,6 @@
+use mathlib.Core.Path.{refl}
 use Rattle.codec.specs.Reader.{zeroPair}
-use Rattle.codec.specs.Answers.{showFor}
+use Rattle.codec.specs.Answers.{readOf, readBeside}
 use borrow.Author.Needs.{needs}
 use Rattle.codec.proofs.reader.refused_show.Statement.{statement}
 use Rattle.codec.proofs.reader.refused_show.Tie as tie
@@ -11,8 +12,8 @@ zero-machine-requires-2 : tie.Need-zero-machine-requires-2
 zero-machine-requires-2 c κs = search needs
 
 returns : tie.Need-returns
-unfolding showFor zeroPair
-returns c = rw (c .before .zero-machine .ensures, c .zero-machine2 .ensures)
+unfolding readOf readBeside zeroPair
+returns c = (refl, rw (c .before .zero-machine .ensures, c .zero-machine2 .ensures))
 
 pub refused-show-spec : {M : Type 1} → statement M
 refused-show-spec = tie.close (tie.spec zero-machine-requires zero-machine-requires-2 returns)

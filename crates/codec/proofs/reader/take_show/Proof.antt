@@ -1,17 +1,16 @@
+-- The joined payloads are loaded, so the machines and the table are those of the definition; their tests tell which answer is given.
 use Prim.Native.Nat.{ℕ, _/_, _*_, _≤_}
-use mathlib.Core.Bool.{Bool}
-use mathlib.Core.Path.{_≡_, sym, ap, ap₂, _∙_}
+use mathlib.Core.Bool.{true, false}
+use mathlib.Core.Path.{_≡_, sym, ap, _∙_}
 use lib.ListN.{length, length-replicate}
-use Rattle.machine.specs.declared.Pair.{Pair}
+use Rattle.machine.specs.Refusals.{valid, testedOf}
+use Rattle.machine.specs.RefusalsLaws.{then-answer, then-refused, given-of, tested-valid, tested-refused, buffer-kept}
 use Rattle.machine.specs.WellFormed.{pairValidity}
-use Rattle.codec.specs.declared.Show.{Show}
-use Rattle.codec.specs.declared.Reading.the-variants as reading
-use Rattle.codec.specs.Reader.{noteOf, pairOf, taken, takenUnless}
-use Rattle.codec.specs.Answers.{showFor}
-use Rattle.machine.specs.declared.Validity.the-variants.{Valid}
-use Rattle.machine.specs.RefusalsLaws.{then-answer}
+use Rattle.codec.specs.Reader.{pairOf}
+use Rattle.codec.specs.Answers.{readOf}
 use Rattle.codec.specs.Loading.{Loaded}
-use Rattle.codec.specs.ReaderLaws.{FirstValid, first-valid, blocks-valid, blocks-room, loaded, answer-refused, answer-taken, table-refused, table-taken, table-left}
+use Rattle.codec.specs.ReaderLaws.{FirstValid, first-valid, blocks-valid, blocks-room, loaded, table-after}
+use Rattle.codec.specs.AnswersLaws.{shown-taken, shown-refused}
 use borrow.Author.Needs.{needs}
 use Rattle.codec.proofs.reader.take_show.Statement.{statement}
 use Rattle.codec.proofs.reader.take_show.Tie as tie
@@ -30,17 +29,11 @@ there c =
     loaded _ _ 58928 (first s) (blocks-valid _ (then-answer _ _ (s .pre .0) .1) .long) (room s) (c .join .ensures)
 
 -- the pair that was read, and what its tests say
-read : (c : tie.After-pair-validity) → c .pair-validity .result ≡ pairValidity (pairOf (c .before .before .before .before .before .before .before .before .args .bytes .now))
+read : (c : tie.After-pair-validity) → testedOf (c .pair-validity .result) ≡ pairValidity (pairOf (c .before .before .before .before .before .before .before .before .args .bytes .now))
 read c = c .pair-validity .ensures ∙ ap pairValidity (c .before .pair-at .ensures)
 
-valid : (c : tie.After-enum-told) → pairValidity (pairOf (c .before .before .before .before .before .before .before .before .before .before .args .bytes .now)) ≡ Valid
-valid c = sym (read (c .before .before)) ∙ c .enum-told .given .1
-
-shown : (c : tie.After-note-of) → let f = c .before .before .before .before .before .before .before .before .before .before .before .args .bytes .now in
-    record { pair = c .before .before .before .before .pair-at .result; reading = reading.Taken (c .note-of .result) } ≡ showFor (takenUnless (pairValidity (pairOf f)) (taken (pairOf f) (noteOf f)))
-shown c =
-    ap₂ {C = Show} (λ (p : Pair) (note : Bool). record { pair = p; reading = reading.Taken note }) (c .before .before .before .before .pair-at .ensures) (c .note-of .ensures)
-    ∙ answer-taken _ _ _ (valid (c .before))
+right : (c : tie.After-enum-told) → pairValidity (pairOf (c .before .before .before .before .before .before .before .before .before .before .args .bytes .now)) ≡ valid
+right c = tested-valid (read (c .before .before)) (c .enum-told .given .1)
 
 slice-aggregate-join : tie.Need-slice-aggregate-join
 slice-aggregate-join c = search needs
@@ -80,19 +73,27 @@ table-at-requires c κs =
 
 returns : tie.Need-returns
 returns c =
-    let e = sym (read (c .before .before .before .before)) ∙ c .before .before .r .given .1 in
-    (c .refused-show .ensures ∙ answer-refused _ _ _ e, table-refused _ _ _ _ _ e)
+    let e = tested-refused (read (c .before .before .before .before)) (c .before .before .r .given .1) in
+    let shown = shown-refused (c .refused-show .result) (then-refused _ _ _ e) (c .refused-show .ensures .0) (c .refused-show .ensures .1) in
+    (shown .0, (shown .1, sym (buffer-kept _ _ _ e)))
 
 same-length : tie.Need-same-length
 same-length c = search needs
 
 returns-2 : tie.Need-returns-2
+unfolding readOf
 returns-2 c =
     let note = c .before .before .before .before .before in
-    (shown (note .before), c .before .before .table-at .ensures ∙ table-taken _ _ _ _ (valid (note .before .before)) (sym (note .before .note-of .ensures) ∙ note .if1 .taken))
+    let e = right (note .before .before) in
+    let shown = shown-taken _ (given-of _ _ e) (note .before .before .before .before .before .pair-at .ensures) (note .before .note-of .ensures) in
+    (shown .0, (shown .1, c .before .before .table-at .ensures ∙ sym (table-after _ _ _ true e (sym (note .before .note-of .ensures) ∙ note .if1 .taken))))
 
 returns-3 : tie.Need-returns-3
-returns-3 c = (shown (c .before), table-left _ _ _ _ (valid (c .before .before)) (sym (c .before .note-of .ensures) ∙ c .if1 .left))
+unfolding readOf
+returns-3 c =
+    let e = right (c .before .before) in
+    let shown = shown-taken _ (given-of _ _ e) (c .before .before .before .before .before .pair-at .ensures) (c .before .note-of .ensures) in
+    (shown .0, (shown .1, sym (table-after _ _ _ false e (sym (c .before .note-of .ensures) ∙ c .if1 .left))))
 
 pub take-show-spec : {M : Type 1} → statement M
 take-show-spec =

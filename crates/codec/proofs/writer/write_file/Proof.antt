@@ -1,33 +1,32 @@
--- `codec::writer::write_file` meets its contract: each way out has the answer and the buffer that the definitions give for the tests on that way.
-use mathlib.Core.Path.{sym, ap, _∙_}
+-- Each way out has the answer and the buffer that the definitions give for the tests on that way.
+use mathlib.Core.Path.{_≡_, refl, _∙_}
 use native.Mathlib.Omega.{arith}
 use lib.ListN.{length}
 use borrow.Author.Needs.{needs}
-use Rattle.machine.specs.Refusals.{refusal}
+use Rattle.machine.specs.Refusals.{valid}
+use Rattle.machine.specs.RefusalsLaws.{tested-valid, tested-refused}
+use Rattle.machine.specs.WellFormed.{pairValidity}
 use Rattle.machine.specs.WellFormedLaws.{valid-is-well}
-use Rattle.codec.specs.declared.Size.the-variants as size
 use Rattle.codec.specs.WriterLaws.{short-table, short-file, with-room, write-refused, write-valid}
 use Rattle.codec.proofs.writer.write_file.Statement.{statement}
 use Rattle.codec.proofs.writer.write_file.Tie as tie
 
-short-buffer-requires : tie.Need-short-buffer-requires
-short-buffer-requires c κs = search needs
+refuse-requires : tie.Need-refuse-requires
+refuse-requires c κs = search needs
 
 returns : tie.Need-returns
 returns c =
     let x = c .before .before .before .before .args in
-    let e = write-refused (x .p) (x .with-table) (x .table .now) (x .buffer .now) (refusal 1 0 0 0) (short-table (x .p) (length (x .table .now)) (length (x .buffer .now)) (omega arith)) in
-    (c .short-buffer .ensures ∙ e .0, e .1)
+    write-refused (x .p) (x .with-table) (x .table .now) (x .buffer .now) (short-table (x .p) (length (x .table .now)) (length (x .buffer .now)) (omega arith)) (c .refuse .ensures)
 
-short-buffer-requires-2 : tie.Need-short-buffer-requires-2
-short-buffer-requires-2 c κs = search needs
+refuse-requires-2 : tie.Need-refuse-requires-2
+refuse-requires-2 c κs = search needs
 
 returns-2 : tie.Need-returns-2
 returns-2 c =
     let x = c .before .before .before .before .before .args in
-    let e = write-refused (x .p) (x .with-table) (x .table .now) (x .buffer .now) (refusal 1 0 0 0)
-    (short-file (x .p) (length (x .table .now)) (length (x .buffer .now)) (omega arith) (omega arith)) in
-    (c .short-buffer2 .ensures ∙ e .0, e .1)
+    write-refused (x .p) (x .with-table) (x .table .now) (x .buffer .now)
+    (short-file (x .p) (length (x .table .now)) (length (x .buffer .now)) (omega arith) (omega arith)) (c .refuse2 .ensures)
 
 pair-validity-requires : tie.Need-pair-validity-requires
 pair-validity-requires c κs = search needs
@@ -38,16 +37,18 @@ enum-known-r c = search needs
 enum-told : tie.Need-enum-told
 enum-told c = search needs
 
+right : (c : tie.After-enum-told) → pairValidity (c .before .before .before .before .before .before .before .args .p) ≡ valid
+right c = tested-valid (c .before .before .pair-validity .ensures) (c .enum-told .given .1)
+
 put-file-requires : tie.Need-put-file-requires
-put-file-requires c κs =
-    (valid-is-well (c .before .before .before .before .before .before .before .before .args .p) (sym (c .before .before .before .pair-validity .ensures) ∙ c .before .enum-told .given .1), omega arith)
+put-file-requires c κs = (valid-is-well _ (right (c .before)), omega arith)
 
 returns-3 : tie.Need-returns-3
 returns-3 c =
     let x = c .before .before .before .before .before .before .before .before .args in
-    write-refused (x .p) (x .with-table) (x .table .now) (x .buffer .now) (c .before .r .given .0 .0)
+    write-refused (x .p) (x .with-table) (x .table .now) (x .buffer .now)
     (with-room (x .p) (length (x .table .now)) (length (x .buffer .now)) (omega arith) (omega arith)
-    ∙ sym (c .before .before .before .pair-validity .ensures) ∙ c .before .r .given .1)
+    ∙ tested-refused (c .before .before .before .pair-validity .ensures) (c .before .r .given .1)) refl
 
 same-length : tie.Need-same-length
 same-length c = search needs
@@ -58,16 +59,16 @@ returns-4 c =
     let f = c .before .before .put-file in
     let e = write-valid (x .p) (x .with-table) (x .table .now) (x .buffer .now)
     (with-room (x .p) (length (x .table .now)) (length (x .buffer .now)) (omega (arith, c .before .before .before .before .before .before .before .before .if1)) (omega (arith, c .before .before .before .before .before .before .before .if2))
-    ∙ sym (c .before .before .before .before .before .before .pair-validity .ensures) ∙ c .before .before .before .before .enum-told .given .1) in
-    (ap size.Bytes (f .ensures .0) ∙ e .0, f .ensures .1 ∙ e .1)
+    ∙ right (c .before .before .before .before)) (f .ensures .0) in
+    (e .0, f .ensures .1 ∙ e .1)
 
 pub write-file-spec : {M : Type 1} → statement M
 write-file-spec =
     tie.close
     (tie.spec
-    short-buffer-requires
+    refuse-requires
     returns
-    short-buffer-requires-2
+    refuse-requires-2
     returns-2
     pair-validity-requires
     enum-known-r
