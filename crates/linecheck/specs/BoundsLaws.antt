@@ -1,5 +1,5 @@
 -- Laws of a line as a bound: its cases, that it is what document 01 asks of the entry, and what the walks of the check find.
-use mathlib.Core.Bool.{Bool, true, false, cond}
+use mathlib.Core.Bool.{Bool, true, false}
 use mathlib.Core.List.{List}
 use mathlib.Core.Path.{_≡_, refl, sym, ap, _∙_}
 use Prim.Native.Nat.{ℕ, _+_, _-_, _*_, _^_, _≤_, _<_}
@@ -22,8 +22,8 @@ use Rattle.machine.specs.ObservedLaws.{has-matched}
 use Rattle.machine.specs.WellFormedLaws.{WellPair, bits-small}
 use Rattle.machine.specs.Ranks.{levelOf, setOf}
 use Rattle.machine.specs.Step.{steps, partner, inRow, found}
-use Rattle.machine.specs.Table.{blank, entryIndex, entry}
-use Rattle.machine.specs.RowLaws.{row-found}
+use Rattle.machine.specs.Table.{blank, entryIndex, placeOf, entry}
+use Rattle.machine.specs.RowLaws.{row-found, place-is}
 use Rattle.machine.specs.Lines.{atMost, rankLine, passes}
 use Rattle.machine.specs.LinesLaws.{goal-bound, inside-bound, outside-bound, passes-covered, blank-passes}
 use Rattle.linecheck.specs.declared.Line.{Line}
@@ -49,14 +49,20 @@ module _ (m most j after c a e matched : ℕ) (concreteSets : List ℕ) (abstrac
   unfolding lineOf
   line-above t h = rw (not-f t, lt-ltb most e h)
 
-  pub line-goal : hasBit matched a ≡ true → e ≤ most → e ≡ 0 → line ≡ record { holds = hasBit abstractSet a; section = after; bound = 65534 }
+  pub line-goal : hasBit matched a ≡ true → e ≤ most → e ≡ 0 → (held : Bool) → held ≡ hasBit abstractSet a
+      → record { holds = held; section = after; bound = blank - 1 } ≡ line
   unfolding lineOf
-  line-goal t h z = rw (not-f t, le-ltb most e h, eq-eqb e 0 z)
+  line-goal t h z held i = rw (not-f t, le-ltb most e h, eq-eqb e 0 z, i)
 
-  pub line-ranked : hasBit matched a ≡ true → e ≤ most → (e ≡ 0 → ⊥)
-      → line ≡ record { holds = true; section = j; bound = cond (hasBit (getD concreteSets (setOf m e) 0) c) ((levelOf m e - 1) * m) e }
-  unfolding lineOf
-  line-ranked t h z = rw (not-f t, le-ltb most e h, ne-eqb e 0 z)
+  -- of an entry that is not 0: in set k the bound is below its level, elsewhere it is the entry
+  module _ (t : hasBit matched a ≡ true) (h : e ≤ most) (z : e ≡ 0 → ⊥) (level set : ℕ) (l : level ≡ levelOf m e) (k : set ≡ setOf m e) where
+    pub line-inside : hasBit (getD concreteSets set 0) c ≡ true → record { holds = true; section = j; bound = (level - 1) * m } ≡ line
+    unfolding lineOf
+    line-inside i = rw (not-f t, le-ltb most e h, ne-eqb e 0 z, ← l, ← k, i)
+
+    pub line-outside : hasBit (getD concreteSets set 0) c ≡ false → record { holds = true; section = j; bound = e } ≡ line
+    unfolding lineOf
+    line-outside i = rw (not-f t, le-ltb most e h, ne-eqb e 0 z, ← l, ← k, i)
 
   pub line-section : (n : ℕ) (L : Line) → L ≡ line → j < n → after < n → L .section < n
   unfolding lineOf
@@ -81,6 +87,12 @@ entry-small p T small j c a = small _
 
 matched-bit : (p : Pair) → WellPair p → (c a : ℕ) → c < nC p → a < nA p → hasBit (getD (matchedMasks p) c 0) a ≡ matched p c a
 matched-bit p w c a hc ha = has-matched p w c hc a ∙ and-true-l _ (lt-ltb a (nA p) ha)
+
+-- the place that is found for an entry of a well-formed pair
+pub place-at : (p : Pair) → WellPair p → (r j c a : ℕ) → r ≡ placeOf (nC p) (nA p) j c a → j < 7 → c < nC p → a < 64 → r ≡ entryIndex (nC p) (nA p) j c a
+place-at p w r j c a e hj hc ha =
+    e ∙ place-is (nC p) (nA p) j c a (omega (arith, w .concrete .states-high)) (omega (arith, w .abstraction .states-high)) (omega arith)
+    (omega (arith, w .concrete .states-high)) (omega arith)
 
 -- a successor mask of the concrete machine has no state at or past nC
 pub moves-small : (p : Pair) → WellPair p → (c : ℕ) → c < nC p → getD (p .concrete .successors) c 0 < 2 ^ 64 → getD (p .concrete .successors) c 0 < 2 ^ nC p

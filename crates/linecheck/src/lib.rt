@@ -10,10 +10,10 @@ ghost use Rattle.mask.specs.Logic.{not};
 ghost use Rattle.mask.specs.Bounded.{count};
 ghost use Rattle.machine.specs.WellFormed.{wellFormed};
 ghost use Rattle.machine.specs.Ranks.{levelOf, setOf};
-ghost use Rattle.machine.specs.Table.{blank};
+ghost use Rattle.machine.specs.Table.{blank, tableRoom};
 ghost use Rattle.machine.specs.Lines.{linesValidity};
 ghost use Rattle.machine.specs.Observed.{matchedMasks};
-ghost use Rattle.machine.specs.Refusals.{refusal, failing-entry};
+ghost use Rattle.machine.specs.Refusals.{answer, testedOf};
 ghost use Rattle.machine.specs.Verdict.{lackingStart, startVerdict, checkVerdict};
 ghost use Rattle.linecheck.specs.Answers.{verdictOf};
 ghost use Rattle.linecheck.specs.Bounds.{lineOf};
@@ -22,7 +22,7 @@ use machine::Refusal;
 use machine::Validity;
 
 // What the check says: Carried with the count, NotCarried with c and the count, or where it was stopped.
-pub enum Answer {
+pub enum Checked {
     Carried(usize),
     NotCarried(usize, usize),
     Refused(Refusal),
@@ -85,17 +85,15 @@ fn line_of(
         return Line {
             holds: mask::has(abstract_set, a),
             section: next,
-            bound: 65534,
+            bound: machine::BLANK - 1,
         };
     }
     let rank = level_of(m, e);
     let k = rank.set;
     let below = (rank.level - 1) * m;
-    let bound = if mask::has(concrete_sets[k], c) {
-        below as u16
-    } else {
-        e
-    };
+    let lower = below as u16;
+    let inside = mask::has(concrete_sets[k], c);
+    let bound = if inside { lower } else { e };
     Line {
         holds: true,
         section: j,
@@ -103,23 +101,10 @@ fn line_of(
     }
 }
 
-// The refusal of entry (j, c, a); its section is counted from 1.
-fn failing(j: usize, c: usize, a: usize) -> Validity
-    requires { ⌜ j < 7 ⌝ }
-    ensures { λ r. ⌜ r ≡ Validity.Refused (refusal failing-entry (j + 1) c a) ⌝ }
-{
-    Validity::Refused(Refusal {
-        number: machine::FAILING_ENTRY,
-        first: j + 1,
-        second: c,
-        third: a,
-    })
-}
-
 // Whether each line of a table of well-formed machines holds, and if not where the first is that fails.
 fn lines_validity(p: Pair, matched: [u64; 64], table: &[u16]) -> Validity
-    requires { ⌜ (wellFormed p ≡ true) × ((matched ≡ matchedMasks p) × (28672 ≤ length (now table))) ⌝ }
-    ensures { λ r. ⌜ r ≡ linesValidity p (now (table .entry)) ⌝ }
+    requires { ⌜ (wellFormed p ≡ true) × ((matched ≡ matchedMasks p) × (tableRoom ≤ length (now table))) ⌝ }
+    ensures { λ r. ⌜ testedOf r ≡ linesValidity p (now (table .entry)) ⌝ }
 {
     let concrete = p.concrete;
     let abstraction = p.abstraction;
@@ -136,7 +121,8 @@ fn lines_validity(p: Pair, matched: [u64; 64], table: &[u16]) -> Validity
             for a in 0..na {
                 let at = machine::entry_index(nc, na, j, c, a);
                 let e = table[at];
-                if e != 65535 {
+                if e != machine::BLANK {
+                    let spot = machine::refuse(machine::FAILING_ENTRY, j + 1, c, a);
                     let line = line_of(
                         m,
                         most,
@@ -150,7 +136,7 @@ fn lines_validity(p: Pair, matched: [u64; 64], table: &[u16]) -> Validity
                         abstraction.fairness[j],
                     );
                     if !line.holds {
-                        answer = failing(j, c, a);
+                        answer = Validity::Refused(spot);
                         break 'lines;
                     }
                     let section = line.section;
@@ -162,7 +148,7 @@ fn lines_validity(p: Pair, matched: [u64; 64], table: &[u16]) -> Validity
                         let from = machine::entry_index(nc, na, section, d, 0);
                         let to = from + na;
                         if !machine::has_partner(moves, matched[d], &table[from..to], bound) {
-                            answer = failing(j, c, a);
+                            answer = Validity::Refused(spot);
                             break 'lines;
                         }
                         rest = mask::rest(rest);
@@ -181,7 +167,7 @@ fn covered_count(table: &[u16], entries: usize) -> usize
 {
     let mut found: usize = 0;
     for e in 0..entries {
-        if table[e] != 65535 {
+        if table[e] != machine::BLANK {
             found += 1;
         }
     }
@@ -190,7 +176,7 @@ fn covered_count(table: &[u16], entries: usize) -> usize
 
 // The lowest concrete start state without an abstract start state beside it that is not blank in section 1; nc where there is none.
 fn lacking_start(p: Pair, table: &[u16]) -> usize
-    requires { ⌜ (wellFormed p ≡ true) × (28672 ≤ length (now table)) ⌝ }
+    requires { ⌜ (wellFormed p ≡ true) × (tableRoom ≤ length (now table)) ⌝ }
     ensures { λ r. ⌜ r ≡ lackingStart p (now (table .entry)) ⌝ }
 {
     let concrete = p.concrete;
@@ -205,7 +191,7 @@ fn lacking_start(p: Pair, table: &[u16]) -> usize
                 abstraction.start,
                 abstraction.start,
                 &table[from..to],
-                65534,
+                machine::BLANK - 1,
             ) {
                 return c;
             }
@@ -215,32 +201,27 @@ fn lacking_start(p: Pair, table: &[u16]) -> usize
 }
 
 // The check: what the table says of the pair, or where it was stopped.
-pub fn check_table(p: Pair, table: &[u16]) -> Answer
+pub fn check_table(p: Pair, table: &[u16]) -> Checked
     ensures { λ r. ⌜ verdictOf r ≡ checkVerdict p (now (table .entry)) ⌝ }
 {
-    if table.len() < 28672 {
-        return Answer::Refused(Refusal {
-            number: machine::SHORT_BUFFER,
-            first: 0,
-            second: 0,
-            third: 0,
-        });
+    if table.len() < machine::TABLE_ROOM {
+        return Checked::Refused(machine::refuse(machine::SHORT_BUFFER, 0, 0, 0));
     }
     let valid = machine::pair_validity(p);
     if let Validity::Refused(r) = valid {
-        return Answer::Refused(r);
+        return Checked::Refused(r);
     }
     let lines = lines_validity(p, machine::matched_masks(p), table);
     if let Validity::Refused(r) = lines {
-        return Answer::Refused(r);
+        return Checked::Refused(r);
     }
     verdict_of_starts(p, table)
 }
 
 // What is said of a table that passes each line.
-fn verdict_of_starts(p: Pair, table: &[u16]) -> Answer
-    requires { ⌜ (wellFormed p ≡ true) × (28672 ≤ length (now table)) ⌝ }
-    ensures { λ r. ⌜ verdictOf r ≡ startVerdict p (now (table .entry)) ⌝ }
+fn verdict_of_starts(p: Pair, table: &[u16]) -> Checked
+    requires { ⌜ (wellFormed p ≡ true) × (tableRoom ≤ length (now table)) ⌝ }
+    ensures { λ r. ⌜ verdictOf r ≡ answer (startVerdict p (now (table .entry))) ⌝ }
 {
     let concrete = p.concrete;
     let abstraction = p.abstraction;
@@ -250,8 +231,8 @@ fn verdict_of_starts(p: Pair, table: &[u16]) -> Answer
     let found = covered_count(table, n * (nc * na));
     let c = lacking_start(p, table);
     if c < nc {
-        Answer::NotCarried(c, found)
+        Checked::NotCarried(c, found)
     } else {
-        Answer::Carried(found)
+        Checked::Carried(found)
     }
 }

@@ -8,4 +8,5 @@ pub mod PlayLaws
 pub mod AnswerLaws
 pub mod SoundLaws
 pub mod PlayerLaws
+pub mod UnreadLaws
 pub mod Theorems

@@ -15,14 +15,14 @@ use Rattle.mask.specs.BoundedLaws.{first-before, first-has, first-most, some-of
 use Rattle.mask.specs.TablesLaws.{table-length}
 use Rattle.machine.specs.declared.Machine.{Machine}
 use Rattle.machine.specs.declared.Pair.{Pair}
-use Rattle.machine.specs.declared.Validity.the-variants.{Valid}
+use Rattle.machine.specs.Refusals.{valid}
 use Rattle.machine.specs.Machines.{nA, setsA, moves, starts}
 use Rattle.machine.specs.Lassos.{Lasso, lassoLength, moment, isFair, isPlay}
 use Rattle.machine.specs.Step.{found}
 use Rattle.machine.specs.Lines.{passesEach}
 use Rattle.machine.specs.LinesLaws.{valid-passes}
 use Rattle.machine.specs.WellFormedLaws.{WellPair, well-valid}
-use Rattle.machine.specs.Player.{badLength, badStep, missedSet, lassoValidity, startPartner, startValidity, placeAt, loopStart, samePlace, lastRound, earlierRound, stemLength, loopLength, run, playValidity}
+use Rattle.machine.specs.Player.{badLength, badStep, missedSet, lassoValidity, startPartner, startValidity, placeAt, loopStart, samePlace, lastRound, earlierRound, stemLength, loopLength, run, runRoom, playValidity}
 use Rattle.machine.specs.RefusalsLaws.{valid-next, valid-if, then-answer}
 use Rattle.soundness.specs.Statements.{IsRun}
 use Rattle.soundness.specs.Plays.{runBetween}
@@ -68,7 +68,7 @@ module _ (m : Machine) (l : Lasso) where
   unfolding isFair missedSet
   good-fair h = every-of _ _ (λ k b. not-false _ (h k b))
 
-  pub good-lasso : lassoValidity m l ≡ Valid → GoodLasso
+  pub good-lasso : lassoValidity m l ≡ valid → GoodLasso
   unfolding lassoValidity
   good-lasso e =
       let a = valid-next _ _ _ e in
@@ -101,7 +101,7 @@ module _ (p : Pair) (T : List ℕ) (l : Lasso) where
     pub good : GoodLasso (p .concrete) l
     pub partnered : found (startPartner p T (moment l 0)) ≡ true
 
-  pub playable : playValidity p T l ≡ Valid → Playable
+  pub playable : playValidity p T l ≡ valid → Playable
   unfolding playValidity startValidity
   playable e =
       let a = then-answer _ _ e in
@@ -159,8 +159,8 @@ module _ (p : Pair) (T : List ℕ) (l : Lasso) where
       rw (sym (rounds-between (length (l .stem)) (length (l .loop)) x z (omega arith)))
       (table-cut (loopStart p T l x) ((z - x) * length (l .loop)) (λ t. placeAt p T l t .state))
 
--- 448 rounds of a lasso of at most 64 states
-room : (stem loop rounds : ℕ) → stem + loop ≤ 64 → rounds ≤ 448 → 0 < rounds → stem + rounds * loop ≤ 28672
+-- 448 rounds of a lasso of at most 64 states fit the buffer
+room : (stem loop rounds : ℕ) → stem + loop ≤ 64 → rounds ≤ 448 → 0 < rounds → stem + rounds * loop ≤ runRoom
 room stem loop zero h b z = absurd (omega arith)
 room stem loop (suc n) h b z =
     let small : n * loop ≤ n * 64 = mul-le-mul-left n (omega arith) in

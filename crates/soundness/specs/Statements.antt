@@ -1,23 +1,25 @@
--- What is shown of endless plays over the definitions of document 01. Each statement is a type; Theorems.antt gives a proof of each.
+-- What is shown, over the definitions of document 01, of a table that passes each line and of the player. Each statement is a type that holds
+-- all its hypotheses; Theorems.antt gives a proof of each.
 use mathlib.Core.Bool.{true}
 use mathlib.Core.List.{List}
 use mathlib.Core.Path.{_≡_}
 use Prim.Native.Nat.{ℕ, _+_, _≤_, _<_}
-use lib.ListN.{length, take, drop}
+use lib.ListN.{length, getD, take, drop}
 use Rattle.machine.specs.declared.Pair.{Pair}
-use Rattle.machine.specs.declared.Validity.the-variants.{Valid}
+use Rattle.machine.specs.Refusals.{answer, valid}
 use Rattle.machine.specs.Machines.{nC, starts}
 use Rattle.machine.specs.WellFormed.{wellFormed}
 use Rattle.machine.specs.Lassos.{Lasso, isPlay, SameObservations}
+use Rattle.machine.specs.Table.{tableRoom, entries}
 use Rattle.machine.specs.Lines.{passesEach}
-use Rattle.machine.specs.Verdict.{carried, startCovered, linesVerdict}
-use Rattle.machine.specs.Player.{samePlace, lastRound, earlierRound, stemLength, loopLength, run, playValidity}
+use Rattle.machine.specs.Verdict.{carried, startCovered, linesVerdict, checkVerdict}
+use Rattle.machine.specs.Player.{samePlace, lastRound, earlierRound, stemLength, loopLength, run, runRoom, playValidity, playerAnswer, playerBuffer}
 
 -- the concrete lasso l has a fair lasso of the abstract machine, from a start state, with the same observation at every moment
 abbrev pub Matched : Pair → Lasso → Type 0
 Matched p l = (k : Lasso) × (isPlay (p .abstraction) k ≡ true) × SameObservations (p .concrete) l (p .abstraction) k
 
--- 6. if a table passes each line and has the start pairs, every fair lasso of the concrete machine from a start state, of any length, is matched
+-- if a table passes each line and has the start pairs, every fair lasso of the concrete machine from a start state, of any length, is matched
 abbrev pub PassingIsSound : Type 0
 PassingIsSound = (p : Pair) (T : List ℕ) → wellFormed p ≡ true → passesEach p T ≡ true
     → ((c : ℕ) → c < nC p → starts (p .concrete) c ≡ true → startCovered p T c ≡ true)
@@ -25,16 +27,16 @@ PassingIsSound = (p : Pair) (T : List ℕ) → wellFormed p ≡ true → passesE
 
 -- the same of what the check says
 abbrev pub CarriedIsSound : Type 0
-CarriedIsSound = (p : Pair) (T : List ℕ) (n : ℕ) → linesVerdict p T ≡ carried n → (l : Lasso) → isPlay (p .concrete) l ≡ true → Matched p l
+CarriedIsSound = (p : Pair) (T : List ℕ) (n : ℕ) → linesVerdict p T ≡ answer (carried n) → (l : Lasso) → isPlay (p .concrete) l ≡ true → Matched p l
 
--- 7. the player's run
+-- the player's run
 pub record IsRun (p : Pair) (T : List ℕ) (l : Lasso) : Type 0 where
   -- it ends by its rule, after at most 448 rounds
   pub soon : lastRound p T l ≤ 448
   pub order : earlierRound p T l < lastRound p T l
   pub returns : samePlace p T l (earlierRound p T l) (lastRound p T l) ≡ true
   -- its run fits the buffer, and is stem and loop
-  pub fits : length (run p T l) ≤ 28672
+  pub fits : length (run p T l) ≤ runRoom
   pub whole : length (run p T l) ≡ stemLength p T l + loopLength p T l
   -- and is a fair lasso of the abstract machine from a start state
   pub fair : isPlay (p .abstraction) (record { stem = take (stemLength p T l) (run p T l); loop = drop (stemLength p T l) (run p T l) }) ≡ true
@@ -42,4 +44,17 @@ pub record IsRun (p : Pair) (T : List ℕ) (l : Lasso) : Type 0 where
       (record { stem = take (stemLength p T l) (run p T l); loop = drop (stemLength p T l) (run p T l) })
 
 abbrev pub PlayerIsRight : Type 0
-PlayerIsRight = (p : Pair) (T : List ℕ) (l : Lasso) → playValidity p T l ≡ Valid → IsRun p T l
+PlayerIsRight = (p : Pair) (T : List ℕ) (l : Lasso) → playValidity p T l ≡ valid → IsRun p T l
+
+-- two tables have the same n × P entries
+abbrev pub SameEntries : Pair → List ℕ → List ℕ → Type 0
+SameEntries p T U = (e : ℕ) → e < entries p → getD T e 0 ≡ getD U e 0
+
+-- "those past n × P are neither read": tables with room and the same n × P entries get the same answer of the check
+abbrev pub CheckUnread : Type 0
+CheckUnread = (p : Pair) (T U : List ℕ) → tableRoom ≤ length T → tableRoom ≤ length U → SameEntries p T U → checkVerdict p T ≡ checkVerdict p U
+
+-- and the same answer of the player, with the same bytes in the buffer
+abbrev pub PlayerUnread : Type 0
+PlayerUnread = (p : Pair) (T U : List ℕ) → tableRoom ≤ length T → tableRoom ≤ length U → SameEntries p T U → (l : Lasso) (buffer : List ℕ)
+    → (playerAnswer p T l buffer ≡ playerAnswer p U l buffer) × (playerBuffer p T l buffer ≡ playerBuffer p U l buffer)

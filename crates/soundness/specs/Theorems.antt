@@ -2,11 +2,12 @@
 use Rattle.machine.specs.Lassos.{moment}
 use Rattle.machine.specs.WellFormedLaws.{well-pair, valid-is-well}
 use Rattle.machine.specs.VerdictLaws.{carried-at}
-use Rattle.soundness.specs.Statements.{PassingIsSound, CarriedIsSound, PlayerIsRight}
+use Rattle.soundness.specs.Statements.{PassingIsSound, CarriedIsSound, PlayerIsRight, CheckUnread, PlayerUnread}
 use Rattle.soundness.specs.PlayLaws.{play-at}
 use Rattle.soundness.specs.AnswerLaws.{start-found}
 use Rattle.soundness.specs.SoundLaws.{returns, closes, agrees}
 use Rattle.soundness.specs.PlayerLaws.{playable, player-run}
+use Rattle.soundness.specs.UnreadLaws.{check-same, answer-same, buffer-same}
 
 pub passing-is-sound : PassingIsSound
 passing-is-sound p T well passing start l play =
@@ -17,7 +18,13 @@ passing-is-sound p T well passing start l play =
     (_, closes p T w passing l y s (r .0) (r .1) (r .2) (r .4), agrees p T w passing l y s (r .0) (r .1) (r .2) (r .4))
 
 pub carried-is-sound : CarriedIsSound
-carried-is-sound p T n e = let c = carried-at p T n e in passing-is-sound p T (valid-is-well p (c .valid)) (c .passing) (c .start)
+carried-is-sound p T n e = let c = carried-at p T n e in passing-is-sound p T (valid-is-well p (c .well)) (c .passing) (c .start)
 
 pub player-is-right : PlayerIsRight
 player-is-right p T l e = player-run p T l (playable p T l e)
+
+pub check-unread : CheckUnread
+check-unread p T U long long′ same = check-same p T U same long long′
+
+pub player-unread : PlayerUnread
+player-unread p T U long long′ same l buffer = (answer-same p T U same l buffer long long′, buffer-same p T U same l buffer long long′)

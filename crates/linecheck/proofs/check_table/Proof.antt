@@ -1,29 +1,35 @@
+-- The tests are made in the order of the definition, and each return is the first that refuses, or the answer.
 use mathlib.Core.Bool.{true}
-use mathlib.Core.Path.{_≡_, sym, _∙_}
+use mathlib.Core.Path.{_≡_, sym, ap, _∙_}
 use Prim.Native.Nat.{_≤_}
 use native.Mathlib.Omega.{arith}
 use lib.ListN.{length}
 use borrow.Author.Needs.{needs}
-use Rattle.machine.specs.declared.Validity.the-variants.{Valid}
+use Rattle.machine.specs.Refusals.{valid, refused}
+use Rattle.machine.specs.RefusalsLaws.{tested-valid, tested-refused}
+use Rattle.machine.specs.Table.{tableRoom}
+use Rattle.machine.specs.VerdictLaws.{check-short, check-invalid, check-fails, check-passes}
 use Rattle.machine.specs.WellFormed.{pairValidity, wellFormed}
 use Rattle.machine.specs.WellFormedLaws.{valid-is-well}
 use Rattle.linecheck.specs.Answers.{verdictOf}
-use Rattle.linecheck.specs.AnswersLaws.{check-short, check-invalid, check-fails, check-passes}
 use Rattle.linecheck.proofs.check_table.Statement.{statement}
 use Rattle.linecheck.proofs.check_table.Tie as tie
 
-room : (c : tie.Else1) → 28672 ≤ length (c .before .before .args .table .now)
+room : (c : tie.Else1) → tableRoom ≤ length (c .before .before .args .table .now)
 room c = omega arith
 
-valid : (c : tie.After-enum-told) → pairValidity (c .before .before .before .before .before .args .p) ≡ Valid
-valid c = sym (c .before .before .pair-validity .ensures) ∙ c .enum-told .given .1
+pair-valid : (c : tie.After-enum-told) → pairValidity (c .before .before .before .before .before .args .p) ≡ valid
+pair-valid c = tested-valid (c .before .before .pair-validity .ensures) (c .enum-told .given .1)
 
 well : (c : tie.After-enum-told) → wellFormed (c .before .before .before .before .before .args .p) ≡ true
-well c = valid-is-well (c .before .before .before .before .before .args .p) (valid c)
+well c = valid-is-well (c .before .before .before .before .before .args .p) (pair-valid c)
+
+refuse-requires : tie.Need-refuse-requires
+refuse-requires c κs = search needs
 
 returns : tie.Need-returns
 unfolding verdictOf
-returns c = let x = c .before .before .args in sym (check-short (x .p) (x .table .now) (c .if1 .taken))
+returns c = let x = c .before .before .before .args in ap refused (c .refuse .ensures) ∙ sym (check-short (x .p) (x .table .now) (c .before .if1 .taken))
 
 pair-validity-requires : tie.Need-pair-validity-requires
 pair-validity-requires c κs = search needs
@@ -36,7 +42,7 @@ unfolding verdictOf
 returns-2 c =
     let v = c .before .before .before in
     let x = v .before .before .before .args in
-    sym (check-invalid (x .p) (x .table .now) (room (v .before)) _ (sym (v .pair-validity .ensures) ∙ c .before .valid .given .1))
+    sym (check-invalid (x .p) (x .table .now) (room (v .before)) _ (tested-refused (v .pair-validity .ensures) (c .before .valid .given .1)))
 
 enum-told : tie.Need-enum-told
 enum-told c = search needs
@@ -57,7 +63,7 @@ returns-3 c =
     let v = l .before .before in
     let e = v .before .before .before in
     let x = e .before .before .args in
-    sym (check-fails (x .p) (x .table .now) (room e) _ (valid v) (sym (l .lines-validity .ensures) ∙ c .before .lines .given .1))
+    sym (check-fails (x .p) (x .table .now) (room e) _ (pair-valid v) (tested-refused (l .lines-validity .ensures) (c .before .lines .given .1)))
 
 enum-told-2 : tie.Need-enum-told-2
 enum-told-2 c = search needs
@@ -72,12 +78,13 @@ returns-4 c =
     let e = v .before .before .before in
     let x = e .before .before .args in
     c .verdict-of-starts .ensures
-    ∙ sym (check-passes (x .p) (x .table .now) (room e) (valid v) (sym (l .lines-validity .ensures) ∙ c .before .enum-told2 .given .1))
+    ∙ sym (check-passes (x .p) (x .table .now) (room e) (pair-valid v) (tested-valid (l .lines-validity .ensures) (c .before .enum-told2 .given .1)))
 
 pub check-table-spec : {M : Type 1} → statement M
 check-table-spec =
     tie.close
     (tie.spec
+    refuse-requires
     returns
     pair-validity-requires
     enum-known-valid

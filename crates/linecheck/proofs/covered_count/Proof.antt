@@ -1,3 +1,4 @@
+-- What is found so far is the count of the entries passed.
 use mathlib.Core.Bool.{Bool}
 use mathlib.Core.List.{List}
 use mathlib.Core.Logic.{⊎-elim}

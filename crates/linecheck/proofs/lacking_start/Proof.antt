@@ -1,3 +1,4 @@
+-- At the loop's head no earlier state lacks a partner; the single step finds one in the row of section 1 exactly if the definition does.
 use mathlib.Core.Bool.{false}
 use mathlib.Core.Logic.{⊎-elim}
 use mathlib.Core.Path.{_≡_, refl, sym, _∙_}
@@ -7,11 +8,12 @@ use lib.ListN.{length, getD}
 use borrow.Author.Count.{below-more, below-none}
 use borrow.Author.Needs.{needs}
 use borrow.Author.Tests.{not-true, not-false}
+use Rattle.machine.specs.Machines.{nC, nA}
 use Rattle.machine.specs.WellFormedLaws.{WellPair, well-pair}
-use Rattle.machine.specs.Table.{blank}
+use Rattle.machine.specs.Table.{blank, entryIndex}
 use Rattle.machine.specs.RowLaws.{row-room}
 use Rattle.machine.specs.Verdict.{startCovered}
-use Rattle.linecheck.specs.BoundsLaws.{pairOf}
+use Rattle.linecheck.specs.BoundsLaws.{pairOf, place-at}
 use Rattle.linecheck.specs.StartsLaws.{lacks, lacks-not, lacks-covered, lacks-is, lacking-is, lacking-none, start-found}
 use Rattle.linecheck.proofs.lacking_start.Statement.{statement}
 use Rattle.linecheck.proofs.lacking_start.Tie as tie
@@ -31,7 +33,16 @@ well c = well-pair (top c .args .p) (top c .pre .0)
 small : (c : tie.At-loop Inv-loop μ-loop) (i : ℕ) → getD (top c .args .table .now) i 0 ≤ blank
 small c i = omega (arith, c .before .before .before .shared-slice-known .given i)
 
--- the row of section 1 beside c lies within the table
+-- the row of section 1 beside c
+from : (c : tie.After-entry-index Inv-loop μ-loop)
+    → let l = c .before .before .before .before in
+    let p = top l .args .p in
+    c .entry-index .result ≡ entryIndex (nC p) (nA p) 0 (l .loop .c) 0
+from c =
+    let l = c .before .before .before .before in
+    place-at (top l .args .p) (well l) _ 0 (l .loop .c) 0 (c .entry-index .ensures) (omega arith) (omega arith) (omega arith)
+
+-- lies within the table
 room : (c : tie.After-entry-index Inv-loop μ-loop)
     → let x = top (c .before .before .before .before) .args in
     c .entry-index .result + x .p .abstraction .states ≤ length (x .table .now)
@@ -41,7 +52,7 @@ room c =
     let w = well l in
     omega (
       arith,
-      c .entry-index .ensures,
+      from c,
       top l .pre .1,
       row-room (p .concrete .states) (p .abstraction .states) 0 (l .loop .c) (omega arith) (w .concrete .states-high) (w .abstraction .states-high) (omega arith),
     )
@@ -54,7 +65,7 @@ covered c =
     let l = i .before .before .before .before in
     let x = top l .args in
     c .has-partner .ensures
-    ∙ start-found (x .p) (x .table .now) (well l) (small l) (l .loop .c) (i .entry-index .result) (i .entry-index .result + x .p .abstraction .states) (i .entry-index .ensures) refl (room i) _
+    ∙ start-found (x .p) (x .table .now) (well l) (small l) (l .loop .c) (i .entry-index .result) (i .entry-index .result + x .p .abstraction .states) (from i) refl (room i) _
 
 loop-holds : tie.Need-loop-holds Inv-loop μ-loop
 loop-holds c = (search needs, below-none _)
@@ -63,9 +74,7 @@ has-requires : tie.Need-has-requires Inv-loop μ-loop
 has-requires c κs = search needs
 
 entry-index-requires : tie.Need-entry-index-requires Inv-loop μ-loop
-entry-index-requires c κs =
-    let w = well (c .before .before .before) in
-    omega (arith, w .concrete .states-high, w .abstraction .states-high)
+entry-index-requires c κs = search needs
 
 add-to : tie.Need-add-to Inv-loop μ-loop
 add-to c = omega (arith, room c, top (c .before .before .before .before) .good)
@@ -81,6 +90,9 @@ part-has-partner-start c = search needs
 
 part-has-partner-end : tie.Need-part-has-partner-end Inv-loop μ-loop
 part-has-partner-end c = room c
+
+sub-has-partner-2 : tie.Need-sub-has-partner-2 Inv-loop μ-loop
+sub-has-partner-2 c = search needs
 
 has-partner-requires : tie.Need-has-partner-requires Inv-loop μ-loop
 has-partner-requires c κs = search needs
@@ -135,6 +147,7 @@ lacking-start-spec =
     sub-has-partner
     part-has-partner-start
     part-has-partner-end
+    sub-has-partner-2
     has-partner-requires
     returns
     add-c

@@ -1,3 +1,4 @@
+-- The quotient and the remainder are the definitions'; a quotient is at most what is divided.
 use native.Mathlib.Nat.{div-le-self}
 use native.Mathlib.Omega.{arith}
 use borrow.Author.Needs.{needs}

@@ -1,5 +1,5 @@
--- `lines_validity` meets its contract. At the loops' heads all earlier sections, rows and entries pass and nothing is refused; in the walk
--- the entry passes exactly if every successor that is left is served.
+-- At the loops' heads all earlier sections, rows and entries pass and nothing is refused; in the walk the entry passes exactly if every
+-- successor that is left is served.
 use mathlib.Core.Bool.{true, false}
 use mathlib.Core.List.{List}
 use mathlib.Core.Logic.{⊎-elim}
@@ -19,27 +19,26 @@ use Rattle.mask.specs.Bounded.{every, everyIn}
 use Rattle.mask.specs.BoundedLaws.{every-at, every-of, everyIn-zero}
 use Rattle.mask.specs.WalkLaws.{everyIn-hit, everyIn-miss}
 use Rattle.machine.specs.declared.Pair.{Pair}
-use Rattle.machine.specs.declared.Validity.the-variants.{Refused}
-use Rattle.machine.specs.Refusals.{refusal, failing-entry}
+use Rattle.machine.specs.Refusals.{refused, testedOf}
 use Rattle.machine.specs.Machines.{next, nC, nA, setsA}
 use Rattle.machine.specs.Observed.{matchedMasks}
 use Rattle.machine.specs.WellFormedLaws.{WellPair, well-pair, pairs-small, ranks-small}
 use Rattle.machine.specs.StepLaws.{next-lt}
-use Rattle.machine.specs.Table.{blank}
+use Rattle.machine.specs.Table.{blank, entryIndex}
 use Rattle.machine.specs.RowLaws.{row-room, entry-room}
 use Rattle.machine.specs.Lines.{passes, linesValidity}
 use Rattle.machine.specs.LinesLaws.{lines-fail, lines-valid, each-of}
-use Rattle.linecheck.specs.BoundsLaws.{pairOf, serves, line-section, moves-small, passes-if-blank, passes-if, fails-if, taken-lt, step-found}
+use Rattle.linecheck.specs.BoundsLaws.{pairOf, place-at, serves, line-section, moves-small, passes-if-blank, passes-if, fails-if, taken-lt, step-found}
 use Rattle.linecheck.proofs.lines_validity.Statement.{statement}
 use Rattle.linecheck.proofs.lines_validity.Tie as tie
 
 abbrev Inv-loop3 : tie.InvT-loop3
-Inv-loop3 table matched concrete abstraction nc na m n concrete-sets most answer₀ j next c a at e section bound moves rest₀ answer rest =
+Inv-loop3 table matched concrete abstraction nc na m n concrete-sets most answer₀ j next c a at e spot section bound moves rest₀ answer rest =
     let p = pairOf concrete abstraction in
     (rest < 2 ^ nc) × (passes p table j c a ≡ everyIn 64 rest (serves p table moves section bound)) × (answer ≡ answer₀)
 
 abbrev μ-loop3 : tie.MeasureT-loop3
-μ-loop3 table matched concrete abstraction nc na m n concrete-sets most answer₀ j next c a at e section bound moves rest₀ answer rest = rest
+μ-loop3 table matched concrete abstraction nc na m n concrete-sets most answer₀ j next c a at e spot section bound moves rest₀ answer rest = rest
 
 abbrev Inv-loop2 : tie.InvT-loop2
 Inv-loop2 table matched concrete abstraction nc na m n concrete-sets most answer₀ j next c a₀ answer a =
@@ -75,6 +74,9 @@ Placed = tie.After-entry-index Inv-loop3 μ-loop3 Inv-loop2 μ-loop2 Inv-loop μ
 abbrev Lined : Type 0
 Lined = tie.After-line-of Inv-loop3 μ-loop3 Inv-loop2 μ-loop2 Inv-loop μ-loop Inv-lines μ-lines
 
+abbrev Refusing : Type 0
+Refusing = tie.After-refuse Inv-loop3 μ-loop3 Inv-loop2 μ-loop2 Inv-loop μ-loop Inv-lines μ-lines
+
 abbrev Walk : Type 0
 Walk = tie.At-loop3 Inv-loop3 μ-loop3 Inv-loop2 μ-loop2 Inv-loop μ-loop Inv-lines μ-lines
 
@@ -103,7 +105,10 @@ abbrev a-of : Entry → ℕ
 a-of d = d .before .loop2 .a
 
 abbrev placed : Lined → Placed
-placed l = l .before .before .before .before .before
+placed l = l .before .before .before .before .before .before
+
+abbrev refusing : Lined → Refusing
+refusing l = l .before .before .before
 
 abbrev entry : Lined → Entry
 entry l = placed l .before
@@ -139,14 +144,23 @@ narrow d =
     let w = well d in
     (omega (arith, section-in d, w .abstraction .sets-high), omega (arith, concrete-in d, w .concrete .states-high), omega (arith, abstract-in d, w .abstraction .states-high))
 
--- the entry's place is within the table
+-- the entry's place
+place-of : (i : Placed)
+    → let d = i .before in
+    i .entry-index .result ≡ entryIndex (nC (p-of d)) (nA (p-of d)) (j-of d) (c-of d) (a-of d)
+place-of i =
+    let d = i .before in
+    let n = narrow d in
+    place-at (p-of d) (well d) _ (j-of d) (c-of d) (a-of d) (i .entry-index .ensures) (n .0) (concrete-in d) (n .2)
+
+-- is within the table
 place-in : (i : Placed) → i .entry-index .result < length (T-of (i .before))
 place-in i =
     let d = i .before in
     let w = well d in
     omega (
       arith,
-      i .entry-index .ensures,
+      place-of i,
       start d .before .pre .1 .1,
       entry-room (nC (p-of d)) (nA (p-of d)) (j-of d) (c-of d) (narrow d .0) (w .concrete .states-high) (w .abstraction .states-high) (a-of d) (concrete-in d) (abstract-in d),
     )
@@ -172,7 +186,7 @@ section-small l =
     omega (arith, well d .abstraction .sets-high, line-section _ _ _ _ _ _ _ _ _ _ n (l .line-of .result) (l .line-of .ensures) (section-in d) k)
 
 covered : (l : Lined) → getD (T-of (entry l)) (placed l .entry-index .result) 0 ≡ blank → ⊥
-covered l = l .before .before .before .if1 .taken
+covered l = l .before .before .before .before .if1 .taken
 
 moves-fit : (d : Entry) → getD (p-of d .concrete .successors) (c-of d) 0 < 2 ^ 64
 moves-fit d = let f : Fits w64 (getD (p-of d .concrete .successors) (c-of d) 0) = search needs in f .fits
@@ -189,7 +203,17 @@ rest-fits t =
     let d = entry (lined t) in
     omega (arith, t .loop3 .inv .0, pow-mono {i = nC (p-of d)} {j = 64} (well d .concrete .states-high))
 
--- the row that is looked in lies within the table
+-- the row that is looked in
+row-of : (r : Row)
+    → let l = lined (walk (taken r)) in
+    let d = entry l in
+    r .entry-index2 .result ≡ entryIndex (nC (p-of d)) (nA (p-of d)) (l .line-of .result .section) (taken r .lowest .result) 0
+row-of r =
+    let l = lined (walk (taken r)) in
+    let d = entry l in
+    place-at (p-of d) (well d) _ (l .line-of .result .section) (taken r .lowest .result) 0 (r .entry-index2 .ensures) (section-small l) (taken-in (taken r)) (omega arith)
+
+-- lies within the table
 row-in : (r : Row)
     → let d = entry (lined (walk (taken r))) in
     r .entry-index2 .result + nA (p-of d) ≤ length (T-of d)
@@ -199,7 +223,7 @@ row-in r =
     let w = well d in
     omega (
       arith,
-      r .entry-index2 .ensures,
+      row-of r,
       start d .before .pre .1 .1,
       row-room (nC (p-of d)) (nA (p-of d)) (l .line-of .result .section) (taken r .lowest .result) (section-small l) (w .concrete .states-high) (w .abstraction .states-high) (taken-in (taken r)),
     )
@@ -218,14 +242,16 @@ told c =
     let l = lined (walk (taken r)) in
     let d = entry l in
     c .has-partner .ensures
-    ∙ step-found (p-of d) (T-of d) (well d) (masks-of d) (made d) (l .line-of .result .section) (taken r .lowest .result) (r .entry-index2 .result) (r .entry-index2 .result + nA (p-of d)) (r .entry-index2 .ensures) refl
+    ∙ step-found (p-of d) (T-of d) (well d) (masks-of d) (made d) (l .line-of .result .section) (taken r .lowest .result) (r .entry-index2 .result) (r .entry-index2 .result + nA (p-of d)) (row-of r) refl
     (row-in r) (taken-in (taken r)) (moves-of l) (l .line-of .result .bound) _
 
--- the first entry that fails is where the loops are left
-stopped : (d : Entry) → passes (p-of d) (T-of d) (j-of d) (c-of d) (a-of d) ≡ false
-    → Refused (refusal failing-entry (j-of d + 1) (c-of d) (a-of d)) ≡ linesValidity (p-of d) (T-of d)
-stopped d e =
-    rw add-one (sym (lines-fail (p-of d) (T-of d) (j-of d) (c-of d) (a-of d) (section-in d) (concrete-in d) (abstract-in d) e
+-- the first entry that fails is where the loops are left, with its spot
+stopped : (l : Lined)
+    → let d = entry l in
+    passes (p-of d) (T-of d) (j-of d) (c-of d) (a-of d) ≡ false → refused (refusing l .refuse .result) ≡ linesValidity (p-of d) (T-of d)
+stopped l e =
+    let d = entry l in
+    ap refused (refusing l .refuse .ensures) ∙ rw add-one (sym (lines-fail (p-of d) (T-of d) (j-of d) (c-of d) (a-of d) (section-in d) (concrete-in d) (abstract-in d) e
     (d .before .before .before .before .before .before .lines .inv .1) (d .before .before .before .loop .inv .1) (d .before .loop2 .inv .1)))
 
 mul-most : tie.Need-mul-most Inv-loop3 μ-loop3 Inv-loop2 μ-loop2 Inv-loop μ-loop Inv-lines μ-lines
@@ -247,9 +273,7 @@ loop2-holds : tie.Need-loop2-holds Inv-loop3 μ-loop3 Inv-loop2 μ-loop2 Inv-loo
 loop2-holds c = (search needs, below-none _, refl)
 
 entry-index-requires : tie.Need-entry-index-requires Inv-loop3 μ-loop3 Inv-loop2 μ-loop2 Inv-loop μ-loop Inv-lines μ-lines
-entry-index-requires c κs =
-    let w = well c in
-    omega (arith, w .concrete .states-high, w .abstraction .states-high, w .abstraction .sets-high, section-in c, concrete-in c, abstract-in c)
+entry-index-requires c κs = search needs
 
 mul-e : tie.Need-mul-e Inv-loop3 μ-loop3 Inv-loop2 μ-loop2 Inv-loop μ-loop Inv-lines μ-lines
 mul-e c = omega (arith, place-in c, start (c .before) .before .good)
@@ -257,23 +281,26 @@ mul-e c = omega (arith, place-in c, start (c .before) .before .good)
 shared-slice-read-e : tie.Need-shared-slice-read-e Inv-loop3 μ-loop3 Inv-loop2 μ-loop2 Inv-loop μ-loop Inv-lines μ-lines
 shared-slice-read-e c = place-in (c .before)
 
+add-refuse : tie.Need-add-refuse Inv-loop3 μ-loop3 Inv-loop2 μ-loop2 Inv-loop μ-loop Inv-lines μ-lines
+add-refuse c = omega (arith, narrow (c .before .before .before))
+
+refuse-requires : tie.Need-refuse-requires Inv-loop3 μ-loop3 Inv-loop2 μ-loop2 Inv-loop μ-loop Inv-lines μ-lines
+refuse-requires c κs = search needs
+
 mul-line-of : tie.Need-mul-line-of Inv-loop3 μ-loop3 Inv-loop2 μ-loop2 Inv-loop μ-loop Inv-lines μ-lines
-mul-line-of c = omega (arith, narrow (c .before .before .before))
+mul-line-of c = omega (arith, narrow (c .before .before .before .before))
 
 array-read-line-of : tie.Need-array-read-line-of Inv-loop3 μ-loop3 Inv-loop2 μ-loop2 Inv-loop μ-loop Inv-lines μ-lines
-array-read-line-of c = narrow (c .before .before .before) .1
+array-read-line-of c = narrow (c .before .before .before .before) .1
 
 mul-line-of-2 : tie.Need-mul-line-of-2 Inv-loop3 μ-loop3 Inv-loop2 μ-loop2 Inv-loop μ-loop Inv-lines μ-lines
-mul-line-of-2 c = omega (arith, narrow (c .before .before .before .before))
+mul-line-of-2 c = omega (arith, narrow (c .before .before .before .before .before))
 
 element-copy-out-line-of : tie.Need-element-copy-out-line-of Inv-loop3 μ-loop3 Inv-loop2 μ-loop2 Inv-loop μ-loop Inv-lines μ-lines
-element-copy-out-line-of c = omega (arith, narrow (c .before .before .before .before))
+element-copy-out-line-of c = omega (arith, narrow (c .before .before .before .before .before))
 
 line-of-requires : tie.Need-line-of-requires Inv-loop3 μ-loop3 Inv-loop2 μ-loop2 Inv-loop μ-loop Inv-lines μ-lines
-line-of-requires c κs = let d = c .before .before .before .before .before in (well d .concrete .sets-low, well d .concrete .sets-high)
-
-failing-requires : tie.Need-failing-requires Inv-loop3 μ-loop3 Inv-loop2 μ-loop2 Inv-loop μ-loop Inv-lines μ-lines
-failing-requires c κs = narrow (entry (c .before .before)) .0
+line-of-requires c κs = let d = c .before .before .before .before .before .before in (well d .concrete .sets-low, well d .concrete .sets-high)
 
 mul-moves : tie.Need-mul-moves Inv-loop3 μ-loop3 Inv-loop2 μ-loop2 Inv-loop μ-loop Inv-lines μ-lines
 mul-moves c = omega (arith, narrow (entry (c .before .before)))
@@ -293,7 +320,7 @@ loop3-holds c =
     let d = entry l in
     let i = placed l in (
       moves-small (p-of d) (well d) (c-of d) (concrete-in d) (moves-fit d),
-      passes-if (p-of d) (T-of d) (well d) (small d) (j-of d) (c-of d) (a-of d) (i .entry-index .result) (i .entry-index .ensures) (masks-of d) (after-of d) (l .line-of .result) (made d) (later d) (concrete-in d)
+      passes-if (p-of d) (T-of d) (well d) (small d) (j-of d) (c-of d) (a-of d) (i .entry-index .result) (place-of i) (masks-of d) (after-of d) (l .line-of .result) (made d) (later d) (concrete-in d)
           (abstract-in d) (covered l) (l .line-of .ensures) (not-false _ (c .before .before .if2 .left)) (moves-fit d),
       refl,
     )
@@ -302,7 +329,7 @@ lowest-requires : tie.Need-lowest-requires Inv-loop3 μ-loop3 Inv-loop2 μ-loop2
 lowest-requires c κs = search needs
 
 entry-index-requires-2 : tie.Need-entry-index-requires-2 Inv-loop3 μ-loop3 Inv-loop2 μ-loop2 Inv-loop μ-loop Inv-lines μ-lines
-entry-index-requires-2 c κs = let l = lined (walk c) in let d = entry l in omega (arith, section-small l, well d .concrete .states-high, well d .abstraction .states-high, taken-in c)
+entry-index-requires-2 c κs = search needs
 
 add-to : tie.Need-add-to Inv-loop3 μ-loop3 Inv-loop2 μ-loop2 Inv-loop μ-loop Inv-lines μ-lines
 add-to c = omega (arith, row-in c, start (entry (lined (walk (taken c)))) .before .good)
@@ -327,9 +354,6 @@ part-has-partner-end c = row-in c
 
 has-partner-requires : tie.Need-has-partner-requires Inv-loop3 μ-loop3 Inv-loop2 μ-loop2 Inv-loop μ-loop Inv-lines μ-lines
 has-partner-requires c κs = search needs
-
-failing-requires-2 : tie.Need-failing-requires-2 Inv-loop3 μ-loop3 Inv-loop2 μ-loop2 Inv-loop μ-loop Inv-lines μ-lines
-failing-requires-2 c κs = narrow (entry (lined (walk (taken (c .before .before .before))))) .0
 
 rest-requires : tie.Need-rest-requires Inv-loop3 μ-loop3 Inv-loop2 μ-loop2 Inv-loop μ-loop Inv-lines μ-lines
 rest-requires c κs = search needs
@@ -366,10 +390,10 @@ loop2-again c =
     let d = i .before in (
       search needs,
       below-more _ _ (d .before .loop2 .inv .1)
-          (⊎-elim (λ w. w .8 .inv .1 ∙ rw (w .9 .left) (everyIn-zero 64 _))
-          (λ w. passes-if-blank (p-of d) (T-of d) (well d) (small d) (j-of d) (c-of d) (a-of d) (i .entry-index .result) (i .entry-index .ensures) (w .0 .left))
+          (⊎-elim (λ w. w .9 .inv .1 ∙ rw (w .10 .left) (everyIn-zero 64 _))
+          (λ w. passes-if-blank (p-of d) (T-of d) (well d) (small d) (j-of d) (c-of d) (a-of d) (i .entry-index .result) (place-of i) (w .0 .left))
           (c .if1 .came)),
-      ⊎-elim (λ w. w .10 ∙ w .8 .inv .2) (λ w. w .1) (c .if1 .came) ∙ d .before .loop2 .inv .2,
+      ⊎-elim (λ w. w .11 ∙ w .9 .inv .2) (λ w. w .1) (c .if1 .came) ∙ d .before .loop2 .inv .2,
     )
 
 add-c : tie.Need-add-c Inv-loop3 μ-loop3 Inv-loop2 μ-loop2 Inv-loop μ-loop Inv-lines μ-lines
@@ -399,32 +423,33 @@ lines-again c = (
 )
 
 returns : tie.Need-returns Inv-loop3 μ-loop3 Inv-loop2 μ-loop2 Inv-loop μ-loop Inv-lines μ-lines
+unfolding testedOf
 returns c =
     let x = c .before .before .before .before .before .before .args in
     let i = c .before .lines .inv in
-    i .2
+    ap testedOf (i .2)
     ∙ sym (lines-valid (x .p) (x .table .now) (each-of (x .p) (x .table .now) (λ j k a hj hk ha. every-at _ _ (every-at _ _ (i .1 j (omega arith)) k hk) a ha)))
 
 returns-2 : tie.Need-returns-2 Inv-loop3 μ-loop3 Inv-loop2 μ-loop2 Inv-loop μ-loop Inv-lines μ-lines
+unfolding testedOf
 returns-2 c =
-    let l = c .before .before .before in
+    let l = c .before .before in
     let d = entry l in
     let i = placed l in
-    c .failing .ensures
-    ∙ stopped d (fails-if (p-of d) (T-of d) (well d) (small d) (j-of d) (c-of d) (a-of d) (i .entry-index .result) (i .entry-index .ensures) (masks-of d) (after-of d) (l .line-of .result) (made d) (later d)
-    (concrete-in d) (abstract-in d) (covered l) (l .line-of .ensures) (not-true _ (c .before .if2 .taken)))
+    stopped l (fails-if (p-of d) (T-of d) (well d) (small d) (j-of d) (c-of d) (a-of d) (i .entry-index .result) (place-of i) (masks-of d) (after-of d) (l .line-of .result) (made d) (later d)
+    (concrete-in d) (abstract-in d) (covered l) (l .line-of .ensures) (not-true _ (c .if2 .taken)))
 
 returns-3 : tie.Need-returns-3 Inv-loop3 μ-loop3 Inv-loop2 μ-loop2 Inv-loop μ-loop Inv-lines μ-lines
+unfolding testedOf
 returns-3 c =
-    let h = c .before .before in
+    let h = c .before in
     let w = taken (h .before .before) in
     let t = walk w in
     let l = lined t in
     let d = entry l in
     let q = serves (p-of d) (T-of d) (moves-of l) (l .line-of .result .section) (l .line-of .result .bound) in
-    c .failing2 .ensures
-    ∙ stopped d (t .loop3 .inv .1
-    ∙ everyIn-miss 64 (t .loop3 .rest) q (w .lowest .result) (omega arith) (rest-fits t) (w .lowest .ensures) (sym (told h) ∙ not-true _ (c .before .if3 .taken)))
+    stopped l (t .loop3 .inv .1
+    ∙ everyIn-miss 64 (t .loop3 .rest) q (w .lowest .result) (omega arith) (rest-fits t) (w .lowest .ensures) (sym (told h) ∙ not-true _ (c .if3 .taken)))
 
 pub lines-validity-spec : {M : Type 1} → statement M
 lines-validity-spec =
@@ -447,12 +472,13 @@ lines-validity-spec =
     entry-index-requires
     mul-e
     shared-slice-read-e
+    add-refuse
+    refuse-requires
     mul-line-of
     array-read-line-of
     mul-line-of-2
     element-copy-out-line-of
     line-of-requires
-    failing-requires
     mul-moves
     element-copy-out-moves
     mul-rest
@@ -468,7 +494,6 @@ lines-validity-spec =
     part-has-partner-start
     part-has-partner-end
     has-partner-requires
-    failing-requires-2
     rest-requires
     loop3-less
     loop3-again

@@ -1,7 +1,9 @@
-use mathlib.Core.Path.{sym}
+-- The count and the lowest state without a partner are the definition's; which of the two answers is said is the same test.
+use mathlib.Core.Path.{sym, ap}
 use native.Mathlib.Omega.{arith}
 use borrow.Author.Needs.{needs}
 use Rattle.machine.specs.WellFormedLaws.{WellPair, well-pair, pairs-small, entries-small}
+use Rattle.machine.specs.Refusals.{answer}
 use Rattle.linecheck.specs.Answers.{verdictOf}
 use Rattle.linecheck.specs.AnswersLaws.{start-lacking, start-carried}
 use Rattle.linecheck.proofs.verdict_of_starts.Statement.{statement}
@@ -26,13 +28,13 @@ returns : tie.Need-returns
 unfolding verdictOf
 returns c =
     let x = c .before .before .before .before .before .before .args in
-    sym (start-lacking (x .p) (x .table .now) _ _ (c .before .before .covered-count .ensures) (c .before .lacking-start .ensures) (omega arith))
+    sym (ap answer (start-lacking (x .p) (x .table .now) _ _ (c .before .before .covered-count .ensures) (c .before .lacking-start .ensures) (omega arith)))
 
 returns-2 : tie.Need-returns-2
 unfolding verdictOf
 returns-2 c =
     let x = c .before .before .before .before .before .before .args in
-    sym (start-carried (x .p) (x .table .now) _ _ (c .before .before .covered-count .ensures) (c .before .lacking-start .ensures) (omega arith))
+    sym (ap answer (start-carried (x .p) (x .table .now) _ _ (c .before .before .covered-count .ensures) (c .before .lacking-start .ensures) (omega arith)))
 
 pub verdict-of-starts-spec : {M : Type 1} → statement M
 verdict-of-starts-spec =
