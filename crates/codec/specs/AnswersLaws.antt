@@ -35,13 +35,21 @@ pub sized-refused : {z : Size} {a : Result ℕ} {r : Refusal} → sizedOf z ≡ 
 unfolding sizedOf
 sized-refused e z = sym e ∙ ap sizedOf z
 
--- ---- what such contracts of the reader need
+-- ---- the machines beside an answer
+pub pair-taken : {a : Result Taken} {p : Pair} {note : Bool} → a ≡ answer (taken p note) → pairGiven a ≡ p
+unfolding pairGiven
+pair-taken e = ap pairGiven e
+
+pub pair-refused : {a : Result Taken} {r : Refusal} → a ≡ refused r → pairGiven a ≡ zeroPair
+unfolding pairGiven
+pair-refused e = ap pairGiven e
+
+-- ---- both contracts of the reader at once, where it takes a file and where it refuses one
 pub shown-taken : (p : Pair) {q : Pair} {m n : Bool} {a : Result Taken} → a ≡ answer (taken q n) → p ≡ q → m ≡ n
     → (readBeside p (reading.Taken m) ≡ a) × (p ≡ pairGiven a)
-unfolding readBeside pairGiven
-shown-taken p e f g = (ap₂ (λ (x : Pair) (y : Bool). answer (taken x y)) f g ∙ sym e, f ∙ sym (ap pairGiven e))
+unfolding readBeside
+shown-taken p e f g = (ap₂ (λ (x : Pair) (y : Bool). answer (taken x y)) f g ∙ sym e, f ∙ sym (pair-taken e))
 
 pub shown-refused : (s : Show) {r : Refusal} {a : Result Taken} → a ≡ refused r → readOf s ≡ refused r → s .pair ≡ zeroPair
     → (readOf s ≡ a) × (s .pair ≡ pairGiven a)
-unfolding pairGiven
-shown-refused s e f g = (f ∙ sym e, g ∙ sym (ap pairGiven e))
+shown-refused s e f g = (f ∙ sym e, g ∙ sym (pair-refused e))

@@ -1,10 +1,9 @@
 -- The file laws, each as Statements.antt states it.
 use mathlib.Core.Bool.{Bool, true, false, false≢true, cond}
-use mathlib.Core.Logic.{⊎-elim, by-cases}
+use mathlib.Core.Logic.{⊎-elim}
 use mathlib.Core.Path.{_≡_, sym, ap, ap₂, subst, _∙_}
 use mathlib.Core.List.{List, _++_}
 use Prim.Native.Nat.{ℕ, _+_, _*_, _/_, _%_, _≤_, _<_}
-use native.Mathlib.Decide.{decLt}
 use native.Mathlib.Omega.{arith}
 use lib.Dec.{eqb, ltb}
 use lib.ListN.{length, getD, take, drop, length-append, length-drop, List·getD-append}
@@ -13,25 +12,25 @@ use borrow.Author.Tests.{eq-eqb, ne-eqb, eqb-true, eqb-false}
 use Rattle.mask.specs.Logic.{not, or}
 use Rattle.mask.specs.LogicLaws.{dec, or-false, not-f}
 use Rattle.mask.specs.BoundedLaws.{every-cong}
-use Rattle.mask.specs.TablesLaws.{table-length, table-at, table-past}
+use Rattle.mask.specs.TablesLaws.{table-length}
 use Rattle.machine.specs.declared.Machine.{Machine}
 use Rattle.machine.specs.declared.Pair.{Pair}
 use Rattle.machine.specs.declared.Refusal.{Refusal}
-use Rattle.machine.specs.Refusals.{Tested, valid, answer, refused, refusal, andThen, bufferAfter, wrong-length, bad-block, bad-padding, beyond-counts, no-start, no-successor, bufferValidity}
-use Rattle.machine.specs.RefusalsLaws.{refused-not-answer, refused-is, answer-is, then-of, then-refused, then-answer, then-cases, given-of, given-at, given-refused, buffer-room, buffer-made, buffer-length}
+use Rattle.machine.specs.Refusals.{Tested, valid, answer, refused, refusal, andThen, bufferAfter, bad-block, bad-padding, beyond-counts, no-start, no-successor, bufferValidity}
+use Rattle.machine.specs.RefusalsLaws.{refused-not-answer, refused-is, then-of, then-refused, then-answer, then-cases, given-of, given-at, given-refused, buffer-room, buffer-made}
 use Rattle.machine.specs.Machines.{nC, nA, setsC, setsA}
 use Rattle.machine.specs.Table.{entries, tableRoom}
 use Rattle.machine.specs.WellFormed.{beyondCounts, stuckState, contentValidity, pairValidity}
 use Rattle.machine.specs.WellFormedLaws.{valid-is-well}
 use Rattle.codec.specs.Format.{letters, fileLength, fileOf}
-use Rattle.codec.specs.Reader.{inputRoom, Taken, taken, checkHolds, numberHolds, blockHolds, headerByte, noteOf, headerHolds, countsHold, firstValidity, demanded, badBlock, paddingHolds, blocksValidity, payloadOf, machineAt, pairOf, entriesOf, readValidity, readAnswer, tableOf, readTable, sizeOf}
+use Rattle.codec.specs.Reader.{inputRoom, taken, checkHolds, numberHolds, blockHolds, headerByte, noteOf, headerHolds, countsHold, firstValidity, demanded, badBlock, paddingHolds, blocksValidity, payloadOf, machineAt, pairOf, entriesOf, readValidity, readAnswer, readTable, sizeOf}
 use Rattle.codec.specs.Writer.{fileRoom, writeValidity, writeAnswer, writeBuffer}
-use Rattle.codec.specs.Statements.{AreBytes, Representable, WriteRead, ReadWrite, NoTable, FirstBlock, FirstBlockTellsSize, TakenRepresentable, TakenFits, WriteAnswers, WrittenReads, ReadWrites, EntriesUnread}
+use Rattle.codec.specs.Statements.{Representable, WriteRead, ReadWrite, NoTable, FirstBlock, FirstBlockTellsSize, TakenRepresentable, TakenFits, WriteAnswers, WrittenReads, ReadWrites, EntriesUnread}
 use Rattle.codec.specs.NumberLaws.{number-cong}
 use Rattle.codec.specs.FormatLaws.{check-cong, file-length, file-cong}
 use Rattle.codec.specs.WriterLaws as writer
 use Rattle.codec.specs.WriterLaws.{with-room, same-tests, answer-valid}
-use Rattle.codec.specs.ReaderLaws.{first-valid, blocks-valid, file-small, table-after, wrong-length-is}
+use Rattle.codec.specs.ReaderLaws.{first-valid, blocks-valid, few-blocks, table-after, wrong-length-is}
 use Rattle.codec.specs.PayloadLaws.{machine-representable}
 use Rattle.codec.specs.WriteReadLaws as written
 use Rattle.codec.specs.ReadWriteLaws.{whole, joined-bytes, file-same}
@@ -90,7 +89,8 @@ taken-representable f lent p note b e =
 pub taken-fits : TakenFits
 taken-fits f lent p note e =
     let w = was-taken f lent p note e in
-    let small : length f ≤ fileRoom = file-small f (first-valid f (w .start)) (blocks-valid f (w .blocks) .long) in
+    let small : length f ≤ fileRoom =
+    omega (arith, few-blocks f (first-valid f (w .start)) (blocks-valid f (w .blocks) .long), first-valid f (w .start) .whole) in
     (small, take-all inputRoom f (omega arith))
 
 -- ---- what was taken is written again

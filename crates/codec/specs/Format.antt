@@ -50,6 +50,13 @@ payload p note T = header p note ++ (machineBytes (p .concrete) ++ (machineBytes
 unfoldable pub payloadLength : ℕ → ℕ → ℕ → ℕ → Bool → ℕ
 payloadLength c a m n note = 32 + 9 * (c + a) + 8 * (m + n) + cond note (2 * (n * (c * a))) 0
 
+-- "at most 58,648, or 116 blocks": the longest payload, and the payload of 116 blocks
+abbrev pub payloadMost : ℕ
+payloadMost = 58648
+
+abbrev pub payloadRoom : ℕ
+payloadRoom = 58928
+
 -- the blocks that a payload of some length takes
 unfoldable pub blocksFor : ℕ → ℕ
 blocksFor len = (len + 507) / 508

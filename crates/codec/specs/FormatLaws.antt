@@ -2,7 +2,7 @@
 use mathlib.Core.Bool.{Bool, true, false, cond}
 use mathlib.Core.Path.{_≡_, refl, sym, ap, ap₂, _∙_}
 use mathlib.Core.List.{List, _++_}
-use Prim.Native.Nat.{ℕ, suc, _+_, _-_, _*_, _/_, _%_, _≤_, _<_}
+use Prim.Native.Nat.{ℕ, suc, _+_, _*_, _/_, _%_, _≤_, _<_}
 use native.Mathlib.Omega.{arith}
 use lib.ListN.{length, getD, length-append, List·getD-append}
 use lib.Seq.{getD-append-add}
@@ -13,9 +13,9 @@ use Rattle.mask.specs.TablesLaws.{table-length, table-at, table-cong}
 use Rattle.machine.specs.declared.Machine.{Machine}
 use Rattle.machine.specs.declared.Pair.{Pair}
 use Rattle.machine.specs.Machines.{observation, successors, fairSet, nC, nA, setsC, setsA}
-use Rattle.machine.specs.Table.{entries}
-use Rattle.machine.specs.WellFormedLaws.{WellPair, entries-small}
-use Rattle.codec.specs.Format.{byteOf, bytesOf, numbers, header, machineBytes, tableBytes, payload, payloadLength, blocksFor, fileLength, checkAt, blockFront, block, blocked, fileOf}
+use Rattle.machine.specs.Table.{entries, tableRoom}
+use Rattle.machine.specs.WellFormedLaws.{WellPair, mul-bound}
+use Rattle.codec.specs.Format.{byteOf, bytesOf, numbers, header, machineBytes, tableBytes, payload, payloadMost, payloadLength, blocksFor, fileLength, checkAt, blockFront, block, blocked, fileOf}
 use Rattle.codec.specs.NumberLaws.{bytes-length, bytes-at, numbers-length}
 
 -- ---- how long the parts are
@@ -63,14 +63,21 @@ payload-length p note T =
       table-bytes-length p note T,
     )
 
--- "at most 58,648, or 116 blocks"
-pub payload-small : (p : Pair) (note : Bool) → WellPair p → payloadLength (nC p) (nA p) (setsC p) (setsA p) note ≤ 58648
-unfolding payloadLength
-payload-small p note w =
-    cond-cases note (λ x. 32 + 9 * (nC p + nA p) + 8 * (setsC p + setsA p) + x ≤ 58648) (2 * entries p) 0
-    (λ t. omega (arith, entries-small p w, w .concrete, w .abstraction)) (λ t. omega (arith, w .concrete, w .abstraction))
+-- the entries and the payload of counts in their ranges
+pub entries-most : (c a n : ℕ) → c ≤ 64 → a ≤ 64 → n ≤ 7 → n * (c * a) ≤ tableRoom
+entries-most c a n h k l = mul-bound n (c * a) 7 4096 l (mul-bound c a 64 64 h k)
 
-pub blocks-small : (len : ℕ) → len ≤ 58648 → blocksFor len ≤ 116
+pub payload-most : (c a m n : ℕ) (note : Bool) → c ≤ 64 → a ≤ 64 → m ≤ 8 → n ≤ 7 → payloadLength c a m n note ≤ payloadMost
+unfolding payloadLength
+payload-most c a m n note h k i l =
+    cond-cases note (λ x. 32 + 9 * (c + a) + 8 * (m + n) + x ≤ payloadMost) (2 * (n * (c * a))) 0
+    (λ t. omega (arith, entries-most c a n h k l)) (λ t. omega arith)
+
+pub payload-small : (p : Pair) (note : Bool) → WellPair p → payloadLength (nC p) (nA p) (setsC p) (setsA p) note ≤ payloadMost
+payload-small p note w =
+    payload-most (nC p) (nA p) (setsC p) (setsA p) note (w .concrete .states-high) (w .abstraction .states-high) (w .concrete .sets-high) (w .abstraction .sets-high)
+
+pub blocks-small : (len : ℕ) → len ≤ payloadMost → blocksFor len ≤ 116
 unfolding blocksFor
 blocks-small len h = omega arith
 

@@ -8,14 +8,14 @@ use native.Mathlib.Nat.{add-sub-of-le}
 use native.Mathlib.Numerals.{add-one}
 use native.Mathlib.Decide.{decLt}
 use native.Mathlib.Omega.{arith}
-use lib.ListN.{length, getD, set, take, drop, replicate, length-append, length-drop, length-replicate, getD-replicate, List·getD-append, List·getD-eq-default}
-use lib.Seq.{drop-cons, set-at, take-at, drop-at, drop-drop, getD-append-add, getD-take, getD-drop, length-take-le, append-snoc, ext-getD, paste, paste-suc}
+use lib.ListN.{length, getD, set, drop, replicate, length-append, length-drop, length-replicate, getD-replicate, List·getD-append, List·getD-eq-default}
+use lib.Seq.{drop-cons, set-at, take-at, drop-at, drop-drop, getD-append-add, getD-drop, append-snoc, ext-getD, paste}
 use lib.Dec.{ltb}
 use borrow.Author.Tests.{lt-ltb, le-ltb}
 use Rattle.mask.specs.Tables.{table}
 use Rattle.mask.specs.TablesLaws.{table-length, table-at, table-past}
 use Rattle.codec.specs.Loading.{front}
-use Rattle.codec.specs.ListLaws.{table-append, table-snoc}
+use Rattle.codec.specs.ListLaws.{table-append, table-snoc, part-table}
 
 module _ (g : ℕ → ℕ) (l : List ℕ) where
   pub front-none : l ≡ front 0 g l
@@ -63,21 +63,7 @@ front-padded n w g k =
     by-cases (decLt k n) (λ q. front-at g (replicate w 0) n k q ∙ sym (table-at n g k 0 q))
     (λ q. let p : n ≤ k = omega arith in front-past g (replicate w 0) n k p ∙ zeros-at w k ∙ sym (table-past n g k 0 p))
 
--- ---- one block of m elements, copied from a place of another list
-part-table : (s : List ℕ) (at m : ℕ) (g : ℕ → ℕ) → at + m ≤ length s → ((k : ℕ) → k < m → getD s (at + k) 0 ≡ g k) → take m (drop at s) ≡ table m g
-part-table s at m g h e =
-    let long : length (take m (drop at s)) ≡ m = length-take-le m (drop at s) (rw (length-drop at s) (omega arith)) in
-    ext-getD 0 (take m (drop at s)) (table m g) (long ∙ sym (table-length m g))
-    (λ k l. let q : k < m = omega arith in getD-take m (drop at s) k 0 q ∙ getD-drop at s k 0 ∙ e k q ∙ sym (table-at m g k 0 q))
-
--- one store of such a copy
-pub copy-turn : (d s l : List ℕ) (from to i : ℕ) → to + i < length d → from + i < length s → l ≡ paste d to (drop from s) i
-    → set l (to + i) (getD s (from + i) 0) ≡ paste d to (drop from s) (i + 1)
-copy-turn d s l from to i h q e =
-    ap₂ (λ (m : List ℕ) (v : ℕ). set m (to + i) v) e (sym (getD-drop from s i 0))
-    ∙ paste-suc d to (drop from s) i 0 h (rw (length-drop from s) (omega arith)) ∙ ap (paste d to (drop from s)) (sym (add-one i))
-
--- and the whole of it, behind what is filled already
+-- one block of m elements, copied from a place of another list
 pub front-block : (g : ℕ → ℕ) (l : List ℕ) (n m : ℕ) (s : List ℕ) (at : ℕ) → at + m ≤ length s
     → ((k : ℕ) → k < m → getD s (at + k) 0 ≡ g (n + k)) → paste (front n g l) n (drop at s) m ≡ front (n + m) g l
 front-block g l n m s at q e =

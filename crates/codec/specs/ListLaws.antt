@@ -1,14 +1,15 @@
 -- Laws of lists that are tables, joined tables, and runs of stores.
-use mathlib.Core.Path.{_≡_, refl, sym, ap, _∙_}
+use mathlib.Core.Path.{_≡_, refl, sym, ap, ap₂, _∙_}
 use mathlib.Core.Logic.{by-cases}
 use mathlib.Core.List.{List, [], _∷_, _++_}
 use Prim.Native.Nat.{ℕ, zero, suc, _+_, _-_, _*_, _/_, _%_, _≤_, _<_}
 use native.Mathlib.Nat.{zero-add, add-zero, suc-add, add-suc}
 use native.Mathlib.Decide.{decLt}
+use native.Mathlib.Numerals.{add-one}
 use native.Mathlib.Omega.{arith}
 use lib.Arith.{digits-div, digits-mod}
 use lib.ListN.{length, getD, set, take, drop, length-append, length-drop, List·getD-append, List·getD-eq-default}
-use lib.Seq.{paste, sets, sets-eq, getD-take, ext-getD, getD-append-add, getD-drop, length-take-le}
+use lib.Seq.{paste, paste-suc, sets, sets-eq, getD-take, ext-getD, getD-append-add, getD-drop, length-take-le}
 use Rattle.mask.specs.Tables.{table}
 use Rattle.mask.specs.TablesLaws.{table-length, table-at, table-cong}
 
@@ -77,16 +78,27 @@ module _ {A : Type 0} where
   pub sets-front : (l vs : List A) → length vs ≤ length l → sets l 0 vs ≡ vs ++ drop (length vs) l
   sets-front l vs h = let e : 0 + length vs ≡ length vs = omega arith in sets-eq vs l 0 (omega arith) ∙ ap (λ (k : ℕ). vs ++ drop k l) e
 
+-- ---- copies
+-- m elements from a place of a list
+pub part-table : (s : List ℕ) (at m : ℕ) (g : ℕ → ℕ) → at + m ≤ length s → ((k : ℕ) → k < m → getD s (at + k) 0 ≡ g k) → take m (drop at s) ≡ table m g
+part-table s at m g h e =
+    let long : length (take m (drop at s)) ≡ m = length-take-le m (drop at s) (rw (length-drop at s) (omega arith)) in
+    ext-getD 0 (take m (drop at s)) (table m g) (long ∙ sym (table-length m g))
+    (λ k l. let q : k < m = omega arith in getD-take m (drop at s) k 0 q ∙ getD-drop at s k 0 ∙ e k q ∙ sym (table-at m g k 0 q))
+
+-- one store of a copy
+pub copy-turn : (d s l : List ℕ) (from to i : ℕ) → to + i < length d → from + i < length s → l ≡ paste d to (drop from s) i
+    → set l (to + i) (getD s (from + i) 0) ≡ paste d to (drop from s) (i + 1)
+copy-turn d s l from to i h q e =
+    ap₂ (λ (m : List ℕ) (v : ℕ). set m (to + i) v) e (sym (getD-drop from s i 0))
+    ∙ paste-suc d to (drop from s) i 0 h (rw (length-drop from s) (omega arith)) ∙ ap (paste d to (drop from s)) (sym (add-one i))
+
 -- a copy is a run of stores
 pub pasted : (l s t : List ℕ) (at from n : ℕ) → from + n ≤ length s → at + n ≤ length l → t ≡ paste l at (drop from s) n → t ≡ sets l at (table n (λ i. getD s (from + i) 0))
 pasted l s t at from n h k e =
     let vs = table n (λ i. getD s (from + i) 0) in
     let vs-length : length vs ≡ n = table-length n (λ i. getD s (from + i) 0) in
-    let part = take n (drop from s) in
-    let part-length : length part ≡ n = length-take-le n (drop from s) (omega (arith, length-drop from s)) in
-    let same : vs ≡ part =
-    table-cong n (λ i. getD s (from + i) 0) (λ i. getD part i 0) (λ i q. sym (getD-take n (drop from s) i 0 q ∙ getD-drop from s i 0)) ∙ table-of 0 n part part-length in
-    e ∙ ap (λ (r : List ℕ). take at l ++ r ++ drop (at + n) l) (sym same)
+    e ∙ ap (λ (r : List ℕ). take at l ++ r ++ drop (at + n) l) (part-table s from n (λ i. getD s (from + i) 0) h (λ i q. refl))
     ∙ ap (λ (m : ℕ). take at l ++ vs ++ drop (at + m) l) (sym vs-length) ∙ sym (sets-eq vs l at (omega arith))
 
 -- a run from the front over zeros: past its end stands what getD gives there

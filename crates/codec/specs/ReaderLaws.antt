@@ -10,7 +10,7 @@ use lib.ListN.{length, getD, drop, replicate, length-replicate}
 use lib.Dec.{eqb, ltb}
 use borrow.Author.Tests.{eqb-true, eqb-false, ne-eqb, lt-ltb, ltb-true, ltb-false}
 use Rattle.mask.specs.Logic.{not}
-use Rattle.mask.specs.LogicLaws.{both, cond-cases, and-l, and-r, or-none, or-l, or-r, or-e, not-i, not-f, not-false}
+use Rattle.mask.specs.LogicLaws.{both, and-l, and-r, or-none, or-l, or-r, or-e, not-i, not-f, not-false}
 use Rattle.mask.specs.Bounded.{every}
 use Rattle.mask.specs.BoundedLaws.{every-at, every-of, every-cong, first-is, first-none, first-before}
 use Rattle.mask.specs.Tables.{table}
@@ -21,12 +21,12 @@ use Rattle.machine.specs.declared.Refusal.{Refusal}
 use Rattle.machine.specs.WellFormed.{pairValidity}
 use Rattle.machine.specs.WellFormedLaws.{counts-at, mul-bound}
 use Rattle.machine.specs.Table.{tableRoom}
-use Rattle.codec.specs.Format.{numberAt, payloadLength, fileLength, blocksFor}
+use Rattle.codec.specs.Format.{numberAt, payloadMost, payloadLength, fileLength, blocksFor}
 use Rattle.codec.specs.Reader.{blockHolds, headerByte, noteOf, headerHolds, countsHold, firstValidity, payloadDemanded, demanded, badBlock, paddingHolds, blocksValidity, payloadByte, payloadOf, machineAt, pairOf, entriesOf, readValidity, tableOf}
-use Rattle.codec.specs.Writer.{fileRoom}
 use Rattle.codec.specs.Loading.{entriesPlace, entriesCount, Loaded}
 use Rattle.codec.specs.Loading.{front}
 use Rattle.codec.specs.NumberLaws.{number-cong}
+use Rattle.codec.specs.FormatLaws.{entries-most, payload-most}
 use Rattle.codec.specs.FrontLaws.{front-length, front-zeros, front-padded}
 
 -- ---- the first block
@@ -191,8 +191,8 @@ pair-is f Q w =
 
 -- ---- the table of such a file
 -- its entries have room in a lent table
-pub entries-fit : (f : List ℕ) → countsHold f ≡ true → entriesCount f ≤ 28672
-entries-fit f t = let r = in-range f t in mul-bound (headerByte f 7) _ 7 4096 (r .sets-a) (mul-bound (headerByte f 4) (headerByte f 5) 64 64 (r .states-c) (r .states-a))
+pub entries-fit : (f : List ℕ) → countsHold f ≡ true → entriesCount f ≤ tableRoom
+entries-fit f t = let r = in-range f t in entries-most (headerByte f 4) (headerByte f 5) (headerByte f 7) (r .states-c) (r .states-a) (r .sets-a)
 
 -- and they end where the payload does
 pub entries-end : (f : List ℕ) → noteOf f ≡ true → entriesPlace f + 2 * entriesCount f ≡ payloadDemanded f
@@ -229,21 +229,15 @@ blocks-valid f e =
     let c = valid-next _ _ _ (b .1) in
     record { long = eqb-true _ _ (not-false _ (a .0)); blocks = good-until f (ltb-false _ _ (b .0)); padding = not-false _ (c .0) }
 
--- the most that a payload takes
-payload-most : (f : List ℕ) → countsHold f ≡ true → payloadDemanded f ≤ 58648
-unfolding payloadDemanded payloadLength
-payload-most f t =
+-- it has no more than 116
+payload-fits : (f : List ℕ) → countsHold f ≡ true → payloadDemanded f ≤ payloadMost
+unfolding payloadDemanded
+payload-fits f t =
     let r = in-range f t in
-    cond-cases (noteOf f) (λ x. 32 + 9 * (headerByte f 4 + headerByte f 5) + 8 * (headerByte f 6 + headerByte f 7) + x ≤ 58648) _ 0
-    (λ q. omega (arith, entries-fit f t)) (λ q. omega arith)
+    payload-most (headerByte f 4) (headerByte f 5) (headerByte f 6) (headerByte f 7) (noteOf f) (r .states-c) (r .states-a) (r .sets-c) (r .sets-a)
 
--- and the blocks' payloads
-pub blocks-room : (f : List ℕ) → FirstValid f → length f ≡ demanded f → 508 * (length f / 512) ≤ 58928
-blocks-room f v e = let w = fitting f e in omega (arith, payload-most f (v .counts))
-
--- and the file
-pub file-small : (f : List ℕ) → FirstValid f → length f ≡ demanded f → length f ≤ fileRoom
-file-small f v e = let w = fitting f e in omega (arith, payload-most f (v .counts))
+pub few-blocks : (f : List ℕ) → FirstValid f → length f ≡ demanded f → length f / 512 ≤ 116
+few-blocks f v e = let w = fitting f e in omega (arith, payload-fits f (v .counts))
 
 pub loaded : (f Q : List ℕ) (w : ℕ) → FirstValid f → length f ≡ demanded f → 508 * (length f / 512) ≤ w
     → Q ≡ front (508 * (length f / 512)) (payloadByte f) (replicate w 0) → Loaded f Q

@@ -15,7 +15,7 @@ use Rattle.mask.specs.BoundedLaws.{every-of, first-none}
 use Rattle.mask.specs.Tables.{table}
 use Rattle.mask.specs.TablesLaws.{table-length, table-at, table-past, table-cong}
 use Rattle.machine.specs.declared.Pair.{Pair}
-use Rattle.machine.specs.Refusals.{Tested, valid, answer, andThen}
+use Rattle.machine.specs.Refusals.{valid, answer, andThen}
 use Rattle.machine.specs.RefusalsLaws.{given-of, buffer-valid}
 use Rattle.machine.specs.Machines.{nC, nA, setsC, setsA}
 use Rattle.machine.specs.Table.{entries, tableRoom}

@@ -2,7 +2,7 @@
 use mathlib.Core.Path.{_≡_, refl, sym, ap, _∙_}
 use mathlib.Core.Bool.{Bool, true, false, cond}
 use mathlib.Core.List.{List, [], _∷_, _++_}
-use Prim.Native.Nat.{ℕ, _+_, _-_, _*_, _/_, _%_, _^_, _≤_, _<_}
+use Prim.Native.Nat.{ℕ, _+_, _*_, _/_, _%_, _^_, _≤_, _<_}
 use native.Mathlib.Nat.{zero-add, div-one, pow-suc, div-div-eq-div-mul}
 use native.Mathlib.Numerals.{add-one}
 use native.Mathlib.Omega.{arith}
@@ -16,14 +16,14 @@ use Rattle.machine.specs.declared.Pair.{Pair}
 use Rattle.machine.specs.Machines.{observation, successors, fairSet, nC, nA, setsC, setsA}
 use Rattle.machine.specs.Table.{entries, tableRoom}
 use Rattle.machine.specs.declared.Refusal.{Refusal}
-use Rattle.machine.specs.Refusals.{Tested, valid, answer, refused, refusal, andThen, short-buffer, bufferValidity}
+use Rattle.machine.specs.Refusals.{valid, answer, refused, refusal, andThen, short-buffer, bufferValidity}
 use Rattle.machine.specs.RefusalsLaws.{then-of, then-refused, then-answer, given-of, given-at, buffer-valid, buffer-short, buffer-made, buffer-kept}
 use Rattle.machine.specs.WellFormed.{pairValidity, wellFormed}
 use Rattle.machine.specs.WellFormedLaws.{WellPair, well-valid, well-is-valid}
 use Rattle.codec.specs.declared.Size.the-variants as size
 use Rattle.codec.specs.Writer.{fileRoom, writeValidity, writeAnswer, writeBuffer}
 use Rattle.codec.specs.Answers.{sizedOf}
-use Rattle.codec.specs.Format.{byteOf, bytesOf, numbers, letters, header, machineBytes, tableBytes, payload, payloadLength, blocksFor, fileLength, checkAt, blockFront, block, blocked, fileOf}
+use Rattle.codec.specs.Format.{byteOf, bytesOf, numbers, letters, header, machineBytes, tableBytes, payload, payloadMost, payloadRoom, payloadLength, blocksFor, fileLength, checkAt, blockFront, block, blocked, fileOf}
 use Rattle.codec.specs.NumberLaws.{bytes-length, numbers-length}
 use Rattle.codec.specs.ListLaws.{table-of, rows-more, sets-then, sets-none, sets-snoc, sets-at, sets-front, sets-zeros, pasted}
 use Rattle.codec.specs.FormatLaws.{header-length, machine-length, payload-length, payload-small, blocks-small, front-length, block-length, block-cong, check-cong}
@@ -159,7 +159,7 @@ store-blocks Q l s t i e f =
     ∙ ap (λ (x : List ℕ). table (512 * i) (λ k. getD (block Q (k / 512)) (k % 512) 0) ++ x) (table-of 0 512 (block Q i) (block-length Q i))))
 
 -- ---- a file: the payload, whose length is len, is stored over zeros, then cut into blocks
-pub length-small : (p : Pair) (note : Bool) (len : ℕ) → WellPair p → len ≡ payloadLength (nC p) (nA p) (setsC p) (setsA p) note → len ≤ 58648
+pub length-small : (p : Pair) (note : Bool) (len : ℕ) → WellPair p → len ≡ payloadLength (nC p) (nA p) (setsC p) (setsA p) note → len ≤ payloadMost
 length-small p note len w e = omega (arith, payload-small p note w)
 
 pub file-end : (p : Pair) (note : Bool) (len : ℕ) → len ≡ payloadLength (nC p) (nA p) (setsC p) (setsA p) note
@@ -167,7 +167,7 @@ pub file-end : (p : Pair) (note : Bool) (len : ℕ) → len ≡ payloadLength (n
 unfolding fileLength blocksFor
 file-end p note len e = ap (λ (n : ℕ). 512 * ((n + 507) / 508)) e
 
-pub store-file : (p : Pair) (note : Bool) (T R l s : List ℕ) (zeros len : ℕ) → len ≤ 58648 → 58928 ≤ zeros → fileRoom ≤ length l
+pub store-file : (p : Pair) (note : Bool) (T R l s : List ℕ) (zeros len : ℕ) → len ≤ payloadMost → payloadRoom ≤ zeros → fileRoom ≤ length l
     → len ≡ payloadLength (nC p) (nA p) (setsC p) (setsA p) note → R ≡ sets (replicate zeros 0) 0 (payload p note T)
     → s ≡ sets l 0 (table (512 * ((len + 507) / 508)) (λ k. getD (block R (k / 512)) (k % 512) 0)) → s ≡ fileOf p note T ++ drop (length (fileOf p note T)) l
 unfolding fileOf blocked blocksFor

@@ -19,7 +19,7 @@ ghost use Rattle.machine.specs.WellFormed.{wellFormed};
 ghost use Rattle.machine.specs.Table.{tableRoom};
 ghost use Rattle.codec.specs.Writer.{fileRoom, writeAnswer, writeBuffer};
 ghost use Rattle.codec.specs.Answers.{sizedOf};
-ghost use Rattle.codec.specs.Format.{bytesOf, numbers, header, machineBytes, payload, payloadLength, fileLength, block, fileOf};
+ghost use Rattle.codec.specs.Format.{bytesOf, numbers, header, machineBytes, payload, payloadMost, payloadLength, fileLength, block, fileOf};
 
 // ---- Bytes, numbers and machines
 
@@ -108,7 +108,7 @@ fn put_header(out: &mut [u8], p: Pair, with_table: bool)
 // Writes the whole payload from the front, and gives its length.
 fn put_payload(out: &mut [u8], p: Pair, with_table: bool, table: &[u16]) -> usize
     requires { ⌜ wellFormed p ≡ true ⌝ }
-    requires { ⌜ (tableRoom ≤ length (now table)) × (58648 ≤ length (now out)) ⌝ }
+    requires { ⌜ (tableRoom ≤ length (now table)) × (payloadMost ≤ length (now out)) ⌝ }
     ensures length { λ r. ⌜ r ≡ payloadLength (nC p) (nA p) (setsC p) (setsA p) «with_table» ⌝ }
     ensures bytes { λ _. ⌜ now (out .exit) ≡ sets (now (out .entry)) 0 (payload p «with_table» (now (table .entry))) ⌝ }
 {

@@ -1,3 +1,4 @@
+-- After i turns the sum is that of the first i bytes; each adds at most 130,050, so that 32 bits hold it.
 use Prim.Native.Nat.{ℕ, _+_, _-_, _*_, _%_, _≤_}
 use mathlib.Core.Path.{_≡_, sym, ap, _∙_}
 use native.Mathlib.Omega.{arith}

@@ -1,10 +1,11 @@
+-- After i turns the first i bytes are copied.
 use Prim.Native.Nat.{_+_, _-_, _≤_}
 use mathlib.Core.Path.{_≡_, refl, ap, _∙_}
 use native.Mathlib.Omega.{arith}
 use lib.ListN.{length, drop, length-set}
 use lib.Seq.{paste, paste-zero}
 use borrow.Author.Needs.{needs}
-use Rattle.codec.specs.FrontLaws.{copy-turn}
+use Rattle.codec.specs.ListLaws.{copy-turn}
 use Rattle.codec.proofs.copy_to.Statement.{statement}
 use Rattle.codec.proofs.copy_to.Tie as tie
 

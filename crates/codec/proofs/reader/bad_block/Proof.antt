@@ -1,3 +1,4 @@
+-- Each later block that was passed holds, so the first that does not is the answer.
 use Prim.Native.Nat.{ℕ, _-_, _≤_, _<_}
 use mathlib.Core.Bool.{true}
 use mathlib.Core.Path.{_≡_, sym, _∙_}

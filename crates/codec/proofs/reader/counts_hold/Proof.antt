@@ -1,3 +1,4 @@
+-- The header's bytes are the counts; those of the concrete machine are tested first.
 use mathlib.Core.Path.{_≡_, sym, _∙_, ap₂}
 use Rattle.mask.specs.LogicLaws.{and-true-l, and-false-l}
 use Rattle.machine.specs.WellFormed.{countsOk}

@@ -1,3 +1,4 @@
+-- After e turns the first e entries are written, and those behind are as they were; a number of two bytes is an entry.
 use Prim.Native.Nat.{ℕ, _+_, _-_, _*_, _≤_}
 use mathlib.Core.List.{List}
 use mathlib.Core.Path.{_≡_, refl, ap, _∙_}

@@ -1,3 +1,4 @@
+-- The parts of the test are made one after the other, and one that fails makes the whole fail.
 use Prim.Native.Nat.{ℕ}
 use mathlib.Core.Path.{sym, _∙_, ap}
 use borrow.Author.Tests.{eq-eqb, ne-eqb, le-leb, lt-leb, not-true, not-false}

@@ -1,3 +1,4 @@
+-- After i turns the payloads of the first i blocks stand at the front.
 use Prim.Native.Nat.{ℕ, _+_, _-_, _*_, _/_, _≤_}
 use mathlib.Core.List.{List}
 use mathlib.Core.Path.{_≡_, refl, ap, _∙_}

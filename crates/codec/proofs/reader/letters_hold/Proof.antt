@@ -1,3 +1,4 @@
+-- The letters that were passed are right, and one that is wrong makes the whole fail.
 use Prim.Native.Nat.{ℕ, _-_, _≤_, _<_}
 use mathlib.Core.Path.{_≡_, refl, sym, ap, _∙_}
 use mathlib.Core.Bool.{true}

@@ -1,3 +1,4 @@
+-- Each array is zeros that are filled from the front, as the definition's tables are.
 use native.Mathlib.Omega.{arith}
 use Rattle.codec.specs.ReaderLaws.{machine-is}
 use borrow.Author.Needs.{needs}

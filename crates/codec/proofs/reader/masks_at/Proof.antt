@@ -1,3 +1,4 @@
+-- After k turns the first k masks are written, and those behind are as they were.
 use Prim.Native.Nat.{ℕ, _+_, _-_, _*_, _≤_}
 use mathlib.Core.Path.{_≡_, refl, ap, _∙_}
 use native.Mathlib.Omega.{arith}

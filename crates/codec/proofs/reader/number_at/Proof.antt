@@ -1,3 +1,4 @@
+-- The highest byte comes first: before byte i - 1 is taken, x is the number of the bytes from i on, and so below 256 ^ (n - i).
 use Prim.Native.Nat.{ℕ, _+_, _-_, _*_, _≤_, _<_, _^_}
 use mathlib.Core.Path.{_≡_, sym}
 use native.Mathlib.Omega.{arith}

@@ -1,3 +1,4 @@
+-- The length is the one demanded, so all the padding stands in the last block, before its check.
 use Prim.Native.Nat.{ℕ, _+_, _-_, _*_, _/_}
 use mathlib.Core.Path.{ap, _∙_}
 use native.Mathlib.Omega.{arith}

@@ -1,3 +1,4 @@
+-- The payload is loaded and as long as the counts demand, so both machines lie in it and are those of the file.
 use mathlib.Core.Path.{ap₂, _∙_}
 use native.Mathlib.Omega.{arith}
 use Rattle.machine.specs.declared.Machine.{Machine}

@@ -1,3 +1,4 @@
+-- The header's bytes are the counts.
 use mathlib.Core.Path.{_∙_}
 use Rattle.codec.specs.Reader.{payloadDemanded}
 use borrow.Author.Needs.{needs}

@@ -1,3 +1,4 @@
+-- The counts are bytes, so no product and no sum overflows.
 use native.Mathlib.Omega.{arith}
 use Rattle.codec.specs.Format.{payloadLength}
 use Rattle.codec.specs.ReaderLaws.{pairs-room, entries-room}

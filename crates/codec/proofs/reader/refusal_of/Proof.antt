@@ -1,4 +1,4 @@
-use mathlib.Core.Path.{refl, sym, ap, _∙_}
+use mathlib.Core.Path.{sym, ap, _∙_}
 use Rattle.codec.specs.Answers.{refusalOf}
 use borrow.Author.Needs.{needs}
 use Rattle.codec.proofs.reader.refusal_of.Statement.{statement}

@@ -1,3 +1,4 @@
+-- The entries stand behind the machines, end where the payload does, and have room in a lent table.
 use Prim.Native.Nat.{ℕ, _+_, _*_}
 use mathlib.Core.Path.{_≡_, ap₂, _∙_}
 use native.Mathlib.Omega.{arith}

@@ -2,14 +2,16 @@
 use Prim.Native.Nat.{ℕ, _/_, _*_, _≤_}
 use mathlib.Core.Bool.{true, false}
 use mathlib.Core.Path.{_≡_, sym, ap, _∙_}
+use native.Mathlib.Omega.{arith}
 use lib.ListN.{length, length-replicate}
 use Rattle.machine.specs.Refusals.{valid, testedOf}
 use Rattle.machine.specs.RefusalsLaws.{then-answer, then-refused, given-of, tested-valid, tested-refused, buffer-kept}
 use Rattle.machine.specs.WellFormed.{pairValidity}
+use Rattle.codec.specs.Format.{payloadRoom}
 use Rattle.codec.specs.Reader.{pairOf}
 use Rattle.codec.specs.Answers.{readOf}
 use Rattle.codec.specs.Loading.{Loaded}
-use Rattle.codec.specs.ReaderLaws.{FirstValid, first-valid, blocks-valid, blocks-room, loaded, table-after}
+use Rattle.codec.specs.ReaderLaws.{FirstValid, first-valid, blocks-valid, few-blocks, loaded, table-after}
 use Rattle.codec.specs.AnswersLaws.{shown-taken, shown-refused}
 use borrow.Author.Needs.{needs}
 use Rattle.codec.proofs.reader.take_show.Statement.{statement}
@@ -19,14 +21,14 @@ first : (c : tie.Start) → FirstValid (c .args .bytes .now)
 first c = first-valid _ (then-answer _ _ (c .pre .0) .0)
 
 -- the payload fits its array
-room : (c : tie.Start) → 508 * (length (c .args .bytes .now) / 512) ≤ 58928
-room c = blocks-room _ (first c) (blocks-valid _ (then-answer _ _ (c .pre .0) .1) .long)
+room : (c : tie.Start) → 508 * (length (c .args .bytes .now) / 512) ≤ payloadRoom
+room c = omega (arith, few-blocks _ (first c) (blocks-valid _ (then-answer _ _ (c .pre .0) .1) .long))
 
 -- and is there once it is joined
 there : (c : tie.After-join) → Loaded (c .before .before .before .before .args .bytes .now) (c .join .last .1 .0)
 there c =
     let s = c .before .before .before .before in
-    loaded _ _ 58928 (first s) (blocks-valid _ (then-answer _ _ (s .pre .0) .1) .long) (room s) (c .join .ensures)
+    loaded _ _ payloadRoom (first s) (blocks-valid _ (then-answer _ _ (s .pre .0) .1) .long) (room s) (c .join .ensures)
 
 -- the pair that was read, and what its tests say
 read : (c : tie.After-pair-validity) → testedOf (c .pair-validity .result) ≡ pairValidity (pairOf (c .before .before .before .before .before .before .before .before .args .bytes .now))
@@ -39,7 +41,7 @@ slice-aggregate-join : tie.Need-slice-aggregate-join
 slice-aggregate-join c = search needs
 
 join-requires : tie.Need-join-requires
-join-requires c κs = rw (length-replicate {A = ℕ} 58928 0) (room (c .before .before .before))
+join-requires c κs = rw (length-replicate {A = ℕ} payloadRoom 0) (room (c .before .before .before))
 
 slice-aggregate-pair-at : tie.Need-slice-aggregate-pair-at
 slice-aggregate-pair-at c = search needs

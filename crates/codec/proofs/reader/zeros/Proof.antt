@@ -1,3 +1,4 @@
+-- The bytes that were passed are zero, and one that is not makes the whole fail.
 use Prim.Native.Nat.{ℕ, _+_, _-_, _≤_, _<_}
 use mathlib.Core.Path.{_≡_, sym}
 use mathlib.Core.Bool.{true}

@@ -1,4 +1,4 @@
--- `codec::writer::put_block` meets its contract: the number, the part of the payload and the check are stored one behind the other.
+-- The number, the part of the payload and the check are stored one behind the other.
 use borrow.Author.Needs.{needs}
 use Rattle.codec.specs.WriterLaws.{store-block}
 use Rattle.codec.proofs.writer.put_block.Statement.{statement}

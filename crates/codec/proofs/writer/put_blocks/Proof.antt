@@ -1,4 +1,4 @@
--- `codec::writer::put_blocks` meets its contract. The invariant: the first i blocks are stored. The measure is how many are left.
+-- After i turns the first i blocks are stored.
 use mathlib.Core.Path.{_≡_, refl, ap, _∙_}
 use Prim.Native.Nat.{ℕ, _*_, _/_, _%_, _-_, _≤_}
 use native.Mathlib.Omega.{arith}

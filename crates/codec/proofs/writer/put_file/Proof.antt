@@ -1,4 +1,4 @@
--- `codec::writer::put_file` meets its contract: the payload is stored over zeros, and its blocks in the buffer.
+-- The payload is stored over zeros, and its blocks in the buffer.
 use mathlib.Core.Path.{_≡_}
 use Prim.Native.Nat.{_≤_}
 use native.Mathlib.Omega.{arith}
@@ -6,6 +6,7 @@ use lib.Dec.{lit≤}
 use lib.ListN.{length}
 use borrow.Author.Needs.{needs}
 use Rattle.machine.specs.WellFormedLaws.{well-pair}
+use Rattle.codec.specs.Format.{payloadMost, payloadRoom}
 use Rattle.codec.specs.WriterLaws.{length-small, file-end, store-file}
 use Rattle.codec.proofs.writer.put_file.Statement.{statement}
 use Rattle.codec.proofs.writer.put_file.Tie as tie
@@ -14,10 +15,10 @@ slice-aggregate-put-payload : tie.Need-slice-aggregate-put-payload
 slice-aggregate-put-payload c = search needs
 
 put-payload-requires : tie.Need-put-payload-requires
-put-payload-requires c κs = (c .before .before .before .pre .0, (c .before .before .before .pre .1 .0, lit≤ {m = 58648} tt))
+put-payload-requires c κs = (c .before .before .before .pre .0, (c .before .before .before .pre .1 .0, lit≤ {m = payloadMost} tt))
 
 -- the payload is no longer than document 01 says
-small : (c : tie.After-put-payload) → c .put-payload .result ≤ 58648
+small : (c : tie.After-put-payload) → c .put-payload .result ≤ payloadMost
 small c =
     let x = c .before .before .before .before .args in
     length-small (x .p) (x .with-table) (c .put-payload .result) (well-pair (x .p) (c .before .before .before .before .pre .0)) (c .put-payload .ensures .0)
@@ -30,7 +31,7 @@ slice-aggregate-put-blocks c = search needs
 
 put-blocks-requires : tie.Need-put-blocks-requires
 put-blocks-requires c κs =
-    let kept : length (c .before .before .before .put-payload .last .0) ≡ 58928 = c .before .before .before .put-payload .kept .0 in
+    let kept : length (c .before .before .before .put-payload .last .0) ≡ payloadRoom = c .before .before .before .put-payload .kept .0 in
     omega (arith, small (c .before .before .before), c .before .before .before .before .before .before .before .pre .1 .1)
 
 mul-result : tie.Need-mul-result
@@ -45,7 +46,7 @@ returns c =
     let p = c .before .before .before .before .before .before .put-payload in
     let b = c .before .before .put-blocks in (
       file-end (x .p) (x .with-table) (p .result) (p .ensures .0),
-      store-file (x .p) (x .with-table) (x .table .now) (p .last .0) (x .buffer .now) (b .last .0) 58928 (p .result) (small (c .before .before .before .before .before .before)) (omega arith)
+      store-file (x .p) (x .with-table) (x .table .now) (p .last .0) (x .buffer .now) (b .last .0) payloadRoom (p .result) (small (c .before .before .before .before .before .before)) (omega arith)
           (c .before .before .before .before .before .before .before .before .before .before .pre .1 .1) (p .ensures .0) (p .ensures .1) (b .ensures),
     )
 

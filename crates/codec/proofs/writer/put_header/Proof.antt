@@ -1,4 +1,4 @@
--- `codec::writer::put_header` meets its contract: the letters are stored, and then the rest.
+-- The letters are stored, and the rest behind them.
 use borrow.Author.Needs.{needs}
 use Rattle.codec.specs.WriterLaws.{store-header}
 use Rattle.codec.proofs.writer.put_header.Statement.{statement}

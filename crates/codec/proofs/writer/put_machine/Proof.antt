@@ -1,4 +1,4 @@
--- `codec::writer::put_machine` meets its contract: the four parts are stored one behind the other.
+-- The four parts are stored one behind the other.
 use mathlib.Core.Path.{_≡_}
 use native.Mathlib.Omega.{arith}
 use lib.ListN.{length}

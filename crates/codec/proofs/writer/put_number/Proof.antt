@@ -1,5 +1,4 @@
--- `codec::writer::put_number` meets its contract. The invariant: the first i bytes are stored, and `rest` is what is left of x. The measure is
--- how many bytes are left.
+-- After i turns the first i bytes are stored, and `rest` is what is left of x.
 use mathlib.Core.Path.{_≡_, refl, ap, _∙_}
 use Prim.Native.Nat.{ℕ, _-_, _/_, _^_, _≤_}
 use native.Mathlib.Omega.{arith}

@@ -1,4 +1,4 @@
--- `codec::writer::put_payload` meets its contract: the header, the two machines and the table are stored one behind the other.
+-- The header, the two machines and the table are stored one behind the other.
 use native.Mathlib.Omega.{arith}
 use borrow.Author.Needs.{needs}
 use Rattle.machine.specs.WellFormedLaws.{well-pair, pairs-small, entries-small}
