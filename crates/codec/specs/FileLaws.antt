@@ -20,7 +20,7 @@ use Rattle.machine.specs.Refusals.{Tested, valid, answer, refused, refusal, and
 use Rattle.machine.specs.RefusalsLaws.{refused-not-answer, refused-is, then-of, then-refused, then-answer, then-cases, given-of, given-at, given-refused, buffer-room, buffer-made}
 use Rattle.machine.specs.Machines.{nC, nA, setsC, setsA}
 use Rattle.machine.specs.Table.{entries, tableRoom}
-use Rattle.machine.specs.WellFormed.{beyondCounts, stuckState, contentValidity, pairValidity}
+use Rattle.machine.specs.WellFormed.{wellFormed, beyondCounts, stuckState, contentValidity, pairValidity}
 use Rattle.machine.specs.WellFormedLaws.{valid-is-well}
 use Rattle.codec.specs.Format.{letters, fileLength, fileOf}
 use Rattle.codec.specs.Reader.{inputRoom, taken, checkHolds, numberHolds, blockHolds, headerByte, noteOf, headerHolds, countsHold, firstValidity, demanded, badBlock, paddingHolds, blocksValidity, payloadOf, machineAt, pairOf, entriesOf, readValidity, readAnswer, readTable, sizeOf}
@@ -44,16 +44,16 @@ taken-is : {p q : Pair} {m n : Bool} → taken p m ≡ taken q n → (p ≡ q) �
 taken-is e = (cc, cc)
 
 -- what a reading that took a file tells
-record Was (f lent : List ℕ) (p : Pair) (note : Bool) : Type 0 where
-  room : tableRoom ≤ length lent
-  start : firstValidity f ≡ valid
-  blocks : blocksValidity f ≡ valid
-  machines : pairValidity (pairOf f) ≡ valid
-  pair-is : pairOf f ≡ p
-  note-is : noteOf f ≡ note
-  table-is : readTable f lent ≡ cond note (entriesOf f ++ drop (length (entriesOf f)) lent) lent
+pub record Was (f lent : List ℕ) (p : Pair) (note : Bool) : Type 0 where
+  pub room : tableRoom ≤ length lent
+  pub start : firstValidity f ≡ valid
+  pub blocks : blocksValidity f ≡ valid
+  pub machines : pairValidity (pairOf f) ≡ valid
+  pub pair-is : pairOf f ≡ p
+  pub note-is : noteOf f ≡ note
+  pub table-is : readTable f lent ≡ cond note (entriesOf f ++ drop (length (entriesOf f)) lent) lent
 
-was-taken : (f lent : List ℕ) (p : Pair) (note : Bool) → readAnswer f lent ≡ answer (taken p note) → Was f lent p note
+pub was-taken : (f lent : List ℕ) (p : Pair) (note : Bool) → readAnswer f lent ≡ answer (taken p note) → Was f lent p note
 unfolding readAnswer readValidity readTable
 was-taken f lent p note e =
     let t = given-at (readValidity f (length lent)) (taken (pairOf f) (noteOf f)) e in
@@ -70,6 +70,18 @@ was-taken f lent p note e =
       note-is = same .1;
       table-is = table-after f lent _ note (t .0) (same .1);
     }
+
+kept-long : (n : Bool) (E lent : List ℕ) → length lent ≤ length (cond n (E ++ drop (length E) lent) lent)
+kept-long true E lent = omega (arith, length-append E (drop (length E) lent), length-drop (length E) lent)
+kept-long false E lent = omega arith
+
+-- the table that was left has room, as the one that was lent has
+pub was-long : {f lent : List ℕ} {p : Pair} {note : Bool} → Was f lent p note → tableRoom ≤ length (readTable f lent)
+was-long {f} {lent} {p} {note} w = omega (arith, w .room, ap length (w .table-is), kept-long note (entriesOf f) lent)
+
+-- the machines that were read are well formed
+pub was-well : {f lent : List ℕ} {p : Pair} {note : Bool} → Was f lent p note → wellFormed p ≡ true
+was-well {f} {lent} {p} {note} w = valid-is-well p (ap pairValidity (sym (w .pair-is)) ∙ w .machines)
 
 entries-length : (f : List ℕ) → length (entriesOf f) ≡ entries (pairOf f)
 unfolding entriesOf
@@ -123,16 +135,12 @@ written-reads p note T buffer lent n r b room e =
     ap (take n) (t .1) ∙ take-at file (drop (length file) buffer) n (file-length p note T ∙ sym (t .2)) in
     rw cut (write-read p note T lent r (valid-is-well p (t .0)) b room)
 
-kept-long : (n : Bool) (E lent : List ℕ) → length lent ≤ length (cond n (E ++ drop (length E) lent) lent)
-kept-long true E lent = omega (arith, length-append E (drop (length E) lent), length-drop (length E) lent)
-kept-long false E lent = omega arith
-
 pub read-writes : ReadWrites
 unfolding writeAnswer writeBuffer
 read-writes f lent buffer p note b room e =
     let w = was-taken f lent p note e in
     let T = readTable f lent in
-    let long : tableRoom ≤ length T = omega (arith, w .room, ap length (w .table-is), kept-long note (entriesOf f) lent) in
+    let long = was-long w in
     let v : writeValidity p (length T) (length buffer) ≡ valid = with-room p (length T) (length buffer) long room ∙ ap pairValidity (sym (w .pair-is)) ∙ w .machines in
     let same = read-write f lent p note b e .1 in (
       given-of _ _ v ∙ ap answer (sym (file-length p note T) ∙ ap length (sym same)),

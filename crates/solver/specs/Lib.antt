@@ -12,3 +12,4 @@ pub mod FamilyRowsLaws
 pub mod StampLaws
 pub mod RankRowsLaws
 pub mod SolverLaws
+pub mod SolvedLaws
