@@ -123,7 +123,7 @@ read-write f lent p note b e =
 pub no-table : NoTable
 no-table p T U = file-cong p false T U (λ t. absurd (false≢true t))
 
--- ---- the same of the calls
+-- ---- what the calls say and write
 pub write-answers : WriteAnswers
 write-answers = writer.write-answers
 
@@ -279,7 +279,7 @@ first-block f g lent long start = (
   λ r small e. then-refused _ _ r (early-same f g (length lent) long start r small (given-refused _ _ e)),
 )
 
--- whole blocks are no refusal 2, and so is one block
+-- whole blocks are not stopped by refusal 2
 not-ragged : (f : List ℕ) → (length f ≡ 0 → ⊥) → length f % 512 ≡ 0 → ragged f ≡ false
 not-ragged f some whole = or-false (ne-eqb (length f) 0 some) (not-f (eq-eqb (length f % 512) 0 whole))
 

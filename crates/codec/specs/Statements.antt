@@ -70,11 +70,11 @@ FirstBlockTellsSize = (f : List ℕ) → (length f ≡ 0 → ⊥) → length f %
 abbrev pub TakenRepresentable : Type 0
 TakenRepresentable = (f lent : List ℕ) (p : Pair) (note : Bool) → AreBytes f → readAnswer f lent ≡ answer (taken p note) → Representable p
 
--- the file has room where any file has, and so it is none that was cut
+-- the file has room where any file has, so that its first 59,904 bytes are all of it
 abbrev pub TakenFits : Type 0
 TakenFits = (f lent : List ℕ) (p : Pair) (note : Bool) → readAnswer f lent ≡ answer (taken p note) → (length f ≤ fileRoom) × (take inputRoom f ≡ f)
 
--- ---- the same of the calls
+-- ---- what the calls say and write
 -- the writer writes well-formed machines where both lent buffers have room
 abbrev pub WriteAnswers : Type 0
 WriteAnswers = (p : Pair) (note : Bool) (T buffer : List ℕ) → wellFormed p ≡ true → tableRoom ≤ length T → fileRoom ≤ length buffer
@@ -92,7 +92,7 @@ abbrev pub ReadWrites : Type 0
 ReadWrites = (f lent buffer : List ℕ) (p : Pair) (note : Bool) → AreBytes f → fileRoom ≤ length buffer → readAnswer f lent ≡ answer (taken p note)
     → (writeAnswer p note (readTable f lent) buffer ≡ answer (length f)) × (writeBuffer p note (readTable f lent) buffer ≡ f ++ drop (length f) buffer)
 
--- the writer does not read entries past n × P: of any machines, well formed or not
+-- entries "past n × P are neither read nor changed": the writer does not read them, of any machines, well formed or not
 abbrev pub EntriesUnread : Type 0
 EntriesUnread = (p : Pair) (note : Bool) (T U buffer : List ℕ) → tableRoom ≤ length T → tableRoom ≤ length U
     → ((e : ℕ) → e < entries p → getD T e 0 ≡ getD U e 0)
