@@ -1,25 +1,30 @@
 -- Demands 2 and 3 of the tender, over the very definitions that the contracts of reader, writer, check and solver cite. Each statement is a type with
 -- its hypotheses in it, and Theorems.antt gives a proof of each: what is shown of well-formed machines and a lent table with room only has
 -- `wellFormed p ≡ true` and `tableRoom ≤ length T`. `readAnswer` and `readTable` are what the reader says and leaves in the lent table, `fileOf`
--- is what the writer writes, `checkVerdict` what the check says, `solveValidity` and `solvedTable` what the solver says and leaves in the lent table.
-use mathlib.Core.Bool.{true}
-use mathlib.Core.List.{List}
+-- is what the writer writes, `checkVerdict` what the check says, `solveValidity` and `solvedTable` what the solver says and leaves in the lent table, `restoreAnswer` and
+-- `restoreBuffer` what the file solver says and leaves in the lent buffer.
+use mathlib.Core.Bool.{Bool, true}
+use mathlib.Core.List.{List, _++_}
 use mathlib.Core.Logic.{_↔_}
 use mathlib.Core.Path.{_≡_}
 use Prim.Native.Nat.{ℕ, _≤_, _<_}
-use lib.ListN.{length, getD}
+use lib.ListN.{length, getD, take, drop}
 use Rattle.machine.specs.declared.Pair.{Pair}
 use Rattle.machine.specs.Refusals.{valid, answer}
 use Rattle.machine.specs.Machines.{nC, nA, setsA}
 use Rattle.machine.specs.WellFormed.{wellFormed}
 use Rattle.machine.specs.Lassos.{Lasso, isPlay, SameObservations}
 use Rattle.machine.specs.Table.{tableRoom, entry, covers, entries, IsTable}
+use Rattle.machine.specs.Ranks.{solverTable}
 use Rattle.machine.specs.Lines.{passesEach}
 use Rattle.machine.specs.Verdict.{carried, checkVerdict}
 use Rattle.theory.specs.Figure2.{figure2, FigureGoal}
 use Rattle.theory.specs.Statements.{IsRank, HasStarts}
 use Rattle.codec.specs.Reader.{taken, readAnswer, readTable}
-use Rattle.codec.specs.Statements.{WriteRead, ReadWrite, WrittenReads, ReadWrites}
+use Rattle.codec.specs.Writer.{fileRoom}
+use Rattle.codec.specs.Statements.{AreBytes, WriteRead, ReadWrite, WrittenReads, ReadWrites, FirstBlockTellsSize, EntriesUnread}
+use Rattle.soundness.specs.Statements.{CheckUnread, PlayerUnread}
+use Rattle.restore.specs.Restoring.{restoreAnswer, restoreBuffer}
 use Rattle.solver.specs.Solver.{solveValidity, solvedTable}
 
 -- ---- demand 2, files
@@ -31,6 +36,15 @@ FilesReadBack = WriteRead × WrittenReads
 abbrev pub FilesAreWritten : Type 0
 FilesAreWritten = ReadWrite × ReadWrites
 
+-- "Ours shall know from a file's first block."
+abbrev pub FirstBlockIsEnough : Type 0
+FirstBlockIsEnough = FirstBlockTellsSize
+
+-- "those past n × P are neither read nor changed": check, player and writer do not read them. That the solver does not change them is SolvedRest
+-- below, and that the reader does not is in WriteRead.
+abbrev pub EntriesAreUnread : Type 0
+EntriesAreUnread = CheckUnread × PlayerUnread × EntriesUnread
+
 -- ---- demand 3, first part
 -- "Take any file that is read without refusal and holds a table, whoever made it, and let the check say Carried of the machines and the table so
 -- read. Then every fair lasso of the rig from a start state has a fair lasso of the score, from a start state, with the same observation at
@@ -39,6 +53,18 @@ abbrev pub FilesAreSound : Type 0
 FilesAreSound = (f T : List ℕ) (p : Pair) (n : ℕ) → readAnswer f T ≡ answer (taken p true) → checkVerdict p (readTable f T) ≡ answer (carried n)
     → (l : Lasso) → isPlay (p .concrete) l ≡ true
     → (k : Lasso) × (isPlay (p .abstraction) k ≡ true) × SameObservations (p .concrete) l (p .abstraction) k
+
+-- "a lost table must be replaceable": of every file that is read without refusal, whatever its table, the file solver writes a file that is read
+-- without refusal, as the same machines with the solver's entries
+pub record Replaced (f buffer lent : List ℕ) (p : Pair) : Type 0 where
+  pub size : ℕ
+  pub answers : restoreAnswer f buffer ≡ answer size
+  pub machines : readAnswer (take size (restoreBuffer f buffer)) lent ≡ answer (taken p true)
+  pub table : readTable (take size (restoreBuffer f buffer)) lent ≡ solverTable p ++ drop (entries p) lent
+
+abbrev pub LostTableIsReplaced : Type 0
+LostTableIsReplaced = (f first : List ℕ) (p : Pair) (note : Bool) → AreBytes f → readAnswer f first ≡ answer (taken p note)
+    → (buffer lent : List ℕ) → fileRoom ≤ length buffer → tableRoom ≤ length lent → Replaced f buffer lent p
 
 -- ---- demand 3, second part: "any two well-formed machines, from a file or not", and any lent table that has room
 module _ (p : Pair) (T : List ℕ) where

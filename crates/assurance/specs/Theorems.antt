@@ -1,40 +1,35 @@
 -- A proof of each statement of demands 2 and 3, by name.
-use mathlib.Core.Bool.{true}
+use mathlib.Core.Bool.{Bool, true}
 use mathlib.Core.List.{List, _++_}
-use mathlib.Core.Path.{_≡_, refl, sym, _∙_}
+use mathlib.Core.Path.{_≡_, refl, sym, ap, _∙_}
 use Prim.Native.Nat.{ℕ, _+_, _-_, _≤_, _<_}
 use native.Mathlib.Omega.{arith}
-use lib.ListN.{length, getD, drop, length-append, length-drop}
-use lib.Seq.{getD-append-add, getD-drop}
-use borrow.Author.Tests.{le-ltb}
+use lib.ListN.{length, getD, take, drop}
+use lib.Seq.{getD-append-add, getD-drop, take-at}
+use Rattle.mask.specs.Tables.{table}
+use Rattle.mask.specs.TablesLaws.{fill-done}
 use Rattle.machine.specs.declared.Pair.{Pair}
-use Rattle.machine.specs.declared.Refusal.{Refusal}
-use Rattle.machine.specs.declared.Validity.{Validity}
-use Rattle.machine.specs.declared.Validity.the-variants.{Valid, Refused}
+use Rattle.machine.specs.Refusals.{Result, answer, refused, bufferAfter}
 use Rattle.machine.specs.Machines.{nC, nA, setsA}
 use Rattle.machine.specs.WellFormed.{wellFormed}
-use Rattle.machine.specs.WellFormedLaws.{well-pair, well-is-valid, entries-small}
+use Rattle.machine.specs.WellFormedLaws.{well-pair}
 use Rattle.machine.specs.Ranks.{rank, solverTable}
-use Rattle.machine.specs.Table.{entry, entries, tableRoom}
+use Rattle.machine.specs.Table.{tableRoom, entry, entries}
 use Rattle.machine.specs.LinesLaws.{covers-at, covers-of}
-use Rattle.machine.specs.Verdict.{orElse, carried, refused, linesVerdict, checkVerdict}
-use Rattle.machine.specs.VerdictLaws.{answered}
-use Rattle.machine.specs.RefusalsLaws.{then-of, buffer-valid}
-use Rattle.machine.specs.EntriesLaws.{entry-same, covers-same, each-same, verdict-same, front-same}
-use Rattle.theory.specs.RankLaws.{table-entries}
+use Rattle.machine.specs.Verdict.{carried, linesVerdict, checkVerdict}
+use Rattle.machine.specs.VerdictLaws.{check-lines, check-said}
+use Rattle.machine.specs.EntriesLaws.{entry-same, covers-same, each-same, verdict-same}
+use Rattle.theory.specs.RankLaws.{table-entries, table-is}
 use Rattle.theory.specs.RankTheorems.{rank-is-goal, rank-is-figure2, rank-is-least, table-holds-ranks, solver-table-passes, solver-table-covers, carried-exactly}
-use Rattle.soundness.specs.Theorems.{carried-is-sound}
-use Rattle.codec.specs.FileLaws.{write-read, read-write, written-reads, read-writes}
-use Rattle.solver.specs.Solver.{solveValidity, solvedUnless, solvedTable}
-use Rattle.assurance.specs.Statements.{FilesReadBack, FilesAreWritten, FilesAreSound, SolverTakesMachines, SolvedPasses, SolvedCovers, SolvedIsCarried}
-use Rattle.assurance.specs.Statements.{SolvedIsFigure2, SolvedGoals, SolvedRanks, SolvedRest}
-
-buffer-valid : (least len : ℕ) → least ≤ len → bufferValidity least len ≡ Valid
-unfolding bufferValidity
-buffer-valid least len h = rw (le-ltb len least h)
-
-not-refused : (r : Refusal) (n : ℕ) → refused r ≡ carried n → ⊥
-not-refused r n e = let z : _≡_ {A = ℕ} 0 1 = cc in omega arith
+use Rattle.soundness.specs.Theorems.{carried-is-sound, check-unread, player-unread}
+use Rattle.codec.specs.Format.{fileOf}
+use Rattle.codec.specs.FileLaws.{write-read, read-write, written-reads, read-writes, first-block-tells-size, entries-unread, taken-representable, Was, was-taken, was-well}
+use Rattle.solver.specs.Solver.{solveValidity, solvedTable}
+use Rattle.solver.specs.SolvedLaws.{solve-takes, solved-same, solved-room}
+use Rattle.restore.specs.Restoring.{restored, restoreBuffer}
+use Rattle.restore.specs.RestoringLaws.{restore-valid, restore-made}
+use Rattle.assurance.specs.Statements.{FilesReadBack, FilesAreWritten, FirstBlockIsEnough, EntriesAreUnread, FilesAreSound, LostTableIsReplaced}
+use Rattle.assurance.specs.Statements.{SolverTakesMachines, SolvedPasses, SolvedCovers, SolvedIsCarried, SolvedIsFigure2, SolvedGoals, SolvedRanks, SolvedRest}
 
 pub files-read-back : FilesReadBack
 files-read-back = (write-read, written-reads)
@@ -42,40 +37,54 @@ files-read-back = (write-read, written-reads)
 pub files-are-written : FilesAreWritten
 files-are-written = (read-write, read-writes)
 
+pub first-block-is-enough : FirstBlockIsEnough
+first-block-is-enough = first-block-tells-size
+
+pub entries-are-unread : EntriesAreUnread
+entries-are-unread = (check-unread, player-unread, entries-unread)
+
 pub files-are-sound : FilesAreSound
-unfolding checkVerdict
-files-are-sound f T p n taken said = carried-is-sound p _ n (answered _ _ (carried n) (λ r. not-refused r n) said .1)
+files-are-sound f T p n taken said = carried-is-sound p _ n (check-said p _ (carried n) said)
+
+-- the new file is that of the same machines with the solver's table, and what is written reads back
+pub lost-table-is-replaced : LostTableIsReplaced
+unfolding restored
+lost-table-is-replaced f first p note bytes e buffer lent room long =
+    let w = was-taken f first p note e in
+    let made = restore-made f buffer (restore-valid f buffer room w) in
+    let size = length (restored f) in
+    let back = write-read p true (solverTable p) lent (taken-representable f first p note bytes e) (was-well w) (table-is p (well-pair p (was-well w)) .1) long in
+    let cut : take size (restoreBuffer f buffer) ≡ fileOf p true (solverTable p) =
+    ap (take size) (made .1) ∙ take-at (restored f) (drop size buffer) size refl ∙ file w in
+    let own : solverTable p ≡ table (entries p) (λ e. getD (solverTable p) e 0) =
+    fill-done 0 (entries p) (solverTable p) _ (table-entries p) (λ k h. refl) in
+    record {
+      size = size;
+      answers = made .0;
+      machines = rw cut (back .0);
+      table = rw cut (back .1) ∙ ap (λ (l : List ℕ). l ++ drop (entries p) lent) (sym own);
+    }
+  where
+    file : Was f first p note → restored f ≡ fileOf p true (solverTable p)
+    file w = ap (λ (q : Pair). fileOf q true (solverTable q)) (w .pair-is)
 
 pub solver-takes-machines : (p : Pair) (T : List ℕ) → SolverTakesMachines p T
-unfolding solveValidity
-solver-takes-machines p T well room = then-of _ _ (buffer-valid tableRoom (length T) room) ∙ well-is-valid p well
+solver-takes-machines p T well room = solve-takes p T well room
 
 -- ---- what the solver leaves in a table with room, of well-formed machines
 module _ (p : Pair) (T : List ℕ) (well : wellFormed p ≡ true) (room : tableRoom ≤ length T) where
-  -- the solver's own entries, and then what was there
-  solved-is : solvedTable p T ≡ solverTable p ++ drop (length (solverTable p)) T
-  unfolding solvedTable solvedUnless
-  solved-is = rw (solver-takes-machines p T well room)
-
-  same : (e : ℕ) → e < entries p → getD (solvedTable p T) e 0 ≡ getD (solverTable p) e 0
-  same e l = rw solved-is (front-same p (solverTable p) _ (omega (arith, table-entries p)) e l)
-
-  solved-room : tableRoom ≤ length (solvedTable p T)
-  solved-room = rw (solved-is, length-append, length-drop, table-entries p) (omega (arith, entries-small p (well-pair p well)))
-
   said-same : checkVerdict p (solvedTable p T) ≡ linesVerdict p (solverTable p)
-  unfolding checkVerdict orElse
-  said-same = rw (buffer-valid tableRoom (length (solvedTable p T)) solved-room) (verdict-same p _ _ same (well-pair p well .abstraction .sets-low))
+  said-same = check-lines p _ (solved-room p T well room) ∙ verdict-same p _ _ (solved-same p T well room) (well-pair p well .abstraction .sets-low)
 
   entry-rank : (j c a : ℕ) → j < setsA p → c < nC p → a < nA p → entry p (solvedTable p T) j c a ≡ rank p j c a
-  entry-rank j c a hj hc ha = entry-same p _ _ same j c a hj hc ha ∙ table-holds-ranks p j c a hj hc ha
+  entry-rank j c a hj hc ha = entry-same p _ _ (solved-same p T well room) j c a hj hc ha ∙ table-holds-ranks p j c a hj hc ha
 
 module _ (p : Pair) (T : List ℕ) where
   pub solved-passes : SolvedPasses p T
-  solved-passes well room = each-same p _ _ (same p T well room) ∙ solver-table-passes p well
+  solved-passes well room = each-same p _ _ (solved-same p T well room) ∙ solver-table-passes p well
 
   pub solved-covers : SolvedCovers p T
-  solved-covers well room R t j c a hj hc ha u = covers-same p _ _ (same p T well room) j c a hj hc ha ∙ solver-table-covers p well R t j c a hj hc ha u
+  solved-covers well room R t j c a hj hc ha u = covers-same p _ _ (solved-same p T well room) j c a hj hc ha ∙ solver-table-covers p well R t j c a hj hc ha u
 
   pub solved-is-carried : SolvedIsCarried p T
   solved-is-carried well room = rw (said-same p T well room) (carried-exactly p well)
@@ -93,11 +102,11 @@ module _ (p : Pair) (T : List ℕ) where
   solved-ranks well room j c a hj hc ha t g = rw (entry-rank p T well room j c a hj hc ha) (rank-is-least p j c a hj hc ha t g)
 
   pub solved-rest : SolvedRest p T
-  unfolding solvedTable solvedUnless
+  unfolding solvedTable bufferAfter
   solved-rest e h = rest (solveValidity p (length T))
     where
-      rest : (v : Validity) → getD (solvedUnless v (solverTable p) T) e 0 ≡ getD T e 0
-      rest (Refused r) = refl
-      rest Valid =
+      rest : {A : Type 0} (v : Result A) → getD (bufferAfter v (solverTable p) T) e 0 ≡ getD T e 0
+      rest (refused r) = refl
+      rest (answer a) =
           let k : length (solverTable p) + (e - entries p) ≡ e = omega (arith, table-entries p) in
           rw k at (getD-append-add (solverTable p) (drop (length (solverTable p)) T) (e - entries p) 0 ∙ getD-drop (length (solverTable p)) T (e - entries p) 0)

@@ -9,7 +9,7 @@ use Rattle.mask.specs.Tables.{table}
 use Rattle.machine.specs.declared.Machine.{Machine}
 use Rattle.machine.specs.declared.Pair.{Pair}
 use Rattle.machine.specs.declared.Refusal.{Refusal}
-use Rattle.machine.specs.Table.{entries, tableRoom}
+use Rattle.machine.specs.Table.{entries, tableRoom, AreEntries, SameEntries}
 use Rattle.machine.specs.WellFormed.{wellFormed}
 use Rattle.machine.specs.Machines.{nC, nA, setsC, setsA}
 use Rattle.machine.specs.Refusals.{answer, refused}
@@ -31,12 +31,9 @@ pub record Representable (p : Pair) : Type 0 where
   pub concrete : RepresentableMachine (p .concrete)
   pub abstraction : RepresentableMachine (p .abstraction)
 
--- and of a list of bytes, and of a table
+-- and of a list of bytes
 abbrev pub AreBytes : List ℕ → Type 0
 AreBytes f = (i : ℕ) → getD f i 0 < 256
-
-abbrev pub AreEntries : List ℕ → Type 0
-AreEntries T = (e : ℕ) → getD T e 0 < 65536
 
 -- ---- what the definitions say of a file
 -- what is written reads back: the machines, the note, and the table's entries, with the lent table's other entries as they were
@@ -95,5 +92,5 @@ ReadWrites = (f lent buffer : List ℕ) (p : Pair) (note : Bool) → AreBytes f 
 -- entries "past n × P are neither read nor changed": the writer does not read them, of any machines, well formed or not
 abbrev pub EntriesUnread : Type 0
 EntriesUnread = (p : Pair) (note : Bool) (T U buffer : List ℕ) → tableRoom ≤ length T → tableRoom ≤ length U
-    → ((e : ℕ) → e < entries p → getD T e 0 ≡ getD U e 0)
+    → SameEntries p T U
     → (writeAnswer p note T buffer ≡ writeAnswer p note U buffer) × (writeBuffer p note T buffer ≡ writeBuffer p note U buffer)

@@ -18,12 +18,12 @@ use Rattle.machine.specs.declared.Pair.{Pair}
 use Rattle.machine.specs.Refusals.{valid, answer, andThen}
 use Rattle.machine.specs.RefusalsLaws.{given-of, buffer-valid}
 use Rattle.machine.specs.Machines.{nC, nA, setsC, setsA}
-use Rattle.machine.specs.Table.{entries, tableRoom}
+use Rattle.machine.specs.Table.{entries, tableRoom, AreEntries}
 use Rattle.machine.specs.WellFormed.{pairValidity}
 use Rattle.machine.specs.WellFormedLaws.{WellPair, well-pair, well-is-valid, counts-of}
 use Rattle.codec.specs.Format.{numbers, numberAt, letters, header, tableBytes, payload, payloadLength, blocksFor, checkAt, blockFront, blocked, fileOf}
 use Rattle.codec.specs.Reader.{checkHolds, numberHolds, blockHolds, payloadOf, headerByte, noteOf, headerHolds, countsHold, firstValidity, payloadDemanded, demanded, badBlock, paddingHolds, blocksValidity, pairOf, entriesOf, readValidity, taken, readAnswer, readTable}
-use Rattle.codec.specs.Statements.{Representable, AreEntries, WriteRead}
+use Rattle.codec.specs.Statements.{Representable, WriteRead}
 use Rattle.codec.specs.NumberLaws.{number-is}
 use Rattle.codec.specs.FormatLaws.{header-length, payload-length, payload-small, blocks-small, blocked-length, file-length, check-cong, check-lt, front-at, front-number, block-check, blocked-at, blocks-hold, blocked-payload}
 use Rattle.codec.specs.ReaderLaws.{table-after}

@@ -16,7 +16,7 @@ use Rattle.machine.specs.declared.Pair.{Pair}
 use Rattle.machine.specs.Machines.{inFairSet, matched, next, nC, nA, setsC, setsA}
 use Rattle.machine.specs.StepLaws.{steps-cong, next-lt}
 use Rattle.machine.specs.Ranks.{setOf}
-use Rattle.machine.specs.Table.{entryIndex, entry, covers, entries, coveredCount}
+use Rattle.machine.specs.Table.{entryIndex, entry, covers, entries, coveredCount, SameEntries}
 use Rattle.machine.specs.Lines.{nonBlank, lower, atMost, goalLine, rankLine, passes, passesEach, linesValidity}
 use Rattle.machine.specs.LinesLaws.{lines-valid, lines-fail}
 use Rattle.machine.specs.Verdict.{startCovered, lackingStart, startVerdict, linesVerdict}
@@ -25,7 +25,7 @@ pub index-entries : (p : Pair) (j c a : ℕ) → j < setsA p → c < nC p → a 
 unfolding entryIndex
 index-entries p j c a hj hc ha = let l = digits-lt (digits-lt hj hc) ha in rw (mul-assoc (setsA p) (nC p) (nA p)) at l
 
-module _ (p : Pair) (T R : List ℕ) (same : (e : ℕ) → e < entries p → getD T e 0 ≡ getD R e 0) where
+module _ (p : Pair) (T R : List ℕ) (same : SameEntries p T R) where
   pub entry-same : (j c a : ℕ) → j < setsA p → c < nC p → a < nA p → entry p T j c a ≡ entry p R j c a
   unfolding entry
   entry-same j c a hj hc ha = same _ (index-entries p j c a hj hc ha)
@@ -92,5 +92,5 @@ module _ (p : Pair) (T R : List ℕ) (same : (e : ℕ) → e < entries p → get
   verdict-same pos = rw (lines-same, lacking-same pos, count-same)
 
 -- a table with anything after it has the same n × P entries
-pub front-same : (p : Pair) (T U : List ℕ) → entries p ≤ length T → (e : ℕ) → e < entries p → getD (T ++ U) e 0 ≡ getD T e 0
+pub front-same : (p : Pair) (T U : List ℕ) → entries p ≤ length T → SameEntries p (T ++ U) T
 front-same p T U h e l = List·getD-append T U 0 e (omega arith)

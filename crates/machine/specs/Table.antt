@@ -48,3 +48,7 @@ AreEntries T = (e : ℕ) → getD T e 0 < 65536
 -- "A table of two machines is any n × P entries, whoever made them."
 abbrev pub IsTable : Pair → List ℕ → Type 0
 IsTable p T = (length T ≡ entries p) × AreEntries T
+
+-- two tables have the same n × P entries, whatever stands after them
+abbrev pub SameEntries : Pair → List ℕ → List ℕ → Type 0
+SameEntries p T U = (e : ℕ) → e < entries p → getD T e 0 ≡ getD U e 0

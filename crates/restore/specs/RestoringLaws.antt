@@ -4,26 +4,24 @@ use mathlib.Core.List.{List, _++_}
 use mathlib.Core.Path.{_≡_, sym, ap, _∙_}
 use Prim.Native.Nat.{ℕ, _≤_, _<_}
 use native.Mathlib.Omega.{arith}
-use lib.ListN.{length, drop, replicate, length-replicate}
+use lib.ListN.{length, getD, drop, replicate, length-replicate}
 use Rattle.machine.specs.declared.Pair.{Pair}
 use Rattle.machine.specs.declared.Refusal.{Refusal}
-use Rattle.machine.specs.Refusals.{answer, refused, valid, refusal, bufferAfter, short-buffer}
-use Rattle.machine.specs.RefusalsLaws.{then-of, then-refused, then-answer, given-of, given-at, given-refused, buffer-valid, buffer-short, buffer-room, buffer-made, buffer-kept, answer-is}
-use Rattle.machine.specs.WellFormed.{wellFormed}
+use Rattle.machine.specs.Refusals.{answer, refused, valid, refusal, bufferValidity, short-buffer}
+use Rattle.machine.specs.RefusalsLaws.{then-of, then-refused, then-answer, given-of, given-at, given-refused, buffer-valid, buffer-short, buffer-room, buffer-made, buffer-kept}
 use Rattle.machine.specs.WellFormedLaws.{well-is-valid}
 use Rattle.machine.specs.Ranks.{solverTable}
 use Rattle.machine.specs.Table.{tableRoom}
 use Rattle.codec.specs.declared.Reading.the-variants as reading
 use Rattle.codec.specs.declared.Show.{Show}
-use Rattle.codec.specs.declared.Size.{Size}
-use Rattle.codec.specs.declared.Size.the-variants as size
 use Rattle.codec.specs.Format.{fileOf}
 use Rattle.codec.specs.FormatLaws.{file-length, file-cong}
-use Rattle.codec.specs.Reader.{taken, pairOf, readValidity, readAnswer, readTable}
+use Rattle.codec.specs.Reader.{noteOf, pairOf, readValidity, readAnswer, readTable}
 use Rattle.codec.specs.Writer.{fileRoom, writeAnswer, writeBuffer}
 use Rattle.codec.specs.WriterLaws.{with-room, answer-small}
-use Rattle.codec.specs.Answers.{readBeside, readOf, sizedOf}
-use Rattle.codec.specs.FileLaws.{was-taken, was-long, was-well, write-answers}
+use Rattle.codec.specs.Answers.{readOf}
+use Rattle.codec.specs.AnswersLaws.{read-taken, read-refused}
+use Rattle.codec.specs.FileLaws.{Was, was-taken, was-long, was-well, write-answers}
 use Rattle.solver.specs.Solver.{solvedTable}
 use Rattle.solver.specs.SolvedLaws.{solved-same, solved-room}
 use Rattle.restore.specs.Restoring.{restored, restoreValidity, restoreAnswer, restoreBuffer}
@@ -38,10 +36,10 @@ module _ (f buffer : List ℕ) where
   unfolding restoreValidity
   restore-short h = stopped _ (then-refused _ _ _ (buffer-short fileRoom (length buffer) h))
 
-  made : restoreValidity f (length buffer) ≡ valid
+  pub restore-made : restoreValidity f (length buffer) ≡ valid
       → (restoreAnswer f buffer ≡ answer (length (restored f))) × (restoreBuffer f buffer ≡ restored f ++ drop (length (restored f)) buffer)
   unfolding restoreAnswer restoreBuffer
-  made e = (given-of _ _ e, buffer-made _ _ buffer e)
+  restore-made e = (given-of _ _ e, buffer-made _ _ buffer e)
 
   module _ (room : fileRoom ≤ length buffer) where
     -- the reader is lent a table of exactly the room that it asks for
@@ -49,37 +47,47 @@ module _ (f buffer : List ℕ) where
     unfolding restoreValidity
     read-tests = then-of _ _ (buffer-valid fileRoom (length buffer) room) ∙ ap (readValidity f) (sym (length-replicate {A = ℕ} tableRoom 0))
 
+    -- whatever was lent to a reader that took the file, nothing is refused
+    pub restore-valid : {lent : List ℕ} {p : Pair} {note : Bool} → Was f lent p note → restoreValidity f (length buffer) ≡ valid
+    unfolding restoreValidity readValidity
+    restore-valid w =
+        then-of _ _ (buffer-valid fileRoom (length buffer) room) ∙ then-of _ _ (buffer-valid tableRoom tableRoom (omega arith)) ∙ then-of _ _ (w .start)
+        ∙ then-of _ _ (w .blocks) ∙ w .machines
+
     -- ---- by what was read
     module _ (s : Show) (T : List ℕ) (read : readOf s ≡ readAnswer f (replicate tableRoom 0)) (left : T ≡ readTable f (replicate tableRoom 0)) where
       pub restore-refused : (r : Refusal) → s .reading ≡ reading.Refused r → (restoreAnswer f buffer ≡ refused r) × (restoreBuffer f buffer ≡ buffer)
-      unfolding readOf readBeside readAnswer
-      restore-refused r e = stopped r (read-tests ∙ given-refused _ _ (sym read ∙ ap (readBeside (s .pair)) e))
+      unfolding readAnswer
+      restore-refused r e = stopped r (read-tests ∙ given-refused _ _ (read-refused s read e))
 
       -- the writer, given the solver's table, writes what was promised
       pub restore-taken : (U : List ℕ) (note : Bool) → s .reading ≡ reading.Taken note → U ≡ solvedTable (s .pair) T
           → (restoreAnswer f buffer ≡ writeAnswer (s .pair) true U buffer) × (restoreBuffer f buffer ≡ writeBuffer (s .pair) true U buffer)
-      unfolding readOf readBeside readAnswer restored writeBuffer
+      unfolding readAnswer restored writeBuffer
       restore-taken U note e solved =
           let p = s .pair in
-          let said : readAnswer f (replicate tableRoom 0) ≡ answer (taken p note) = sym read ∙ ap (readBeside p) e in
+          let said = read-taken s read e in
           let was = was-taken f (replicate tableRoom 0) p note said in
           let well = was-well was in
           let long : tableRoom ≤ length T = rw left (was-long was) in
           let room-U : tableRoom ≤ length U = rw solved (solved-room p T well long) in
           let file : restored f ≡ fileOf p true U =
           ap (λ (q : Pair). fileOf q true (solverTable q)) (was .pair-is)
-          ∙ file-cong p true (solverTable p) U (λ t k h. sym (ap (λ (l : List ℕ). lib.ListN.getD l k 0) solved ∙ solved-same p T well long k h)) in
-          let both = made (read-tests ∙ given-at _ _ said .0) in (
+          ∙ file-cong p true (solverTable p) U (λ t k h. sym (ap (λ (l : List ℕ). getD l k 0) solved ∙ solved-same p T well long k h)) in
+          let both = restore-made (read-tests ∙ given-at _ _ said .0) in (
             both .0 ∙ ap answer (ap length file ∙ file-length p true U) ∙ sym (write-answers p true U buffer well room-U room),
             both .1 ∙ ap (λ (l : List ℕ). l ++ drop (length l) buffer) file
                 ∙ sym (buffer-made _ _ buffer (with-room p (length U) (length buffer) room-U room ∙ well-is-valid p well)),
           )
 
--- ---- what the call's answer tells
-pub sized-bytes : {z : Size} {n : ℕ} → z ≡ size.Bytes n → sizedOf z ≡ answer n
-unfolding sizedOf
-sized-bytes e = ap sizedOf e
-
-pub sized-refused : {z : Size} {r : Refusal} → z ≡ size.Refused r → sizedOf z ≡ refused r
-unfolding sizedOf
-sized-refused e = ap sizedOf e
+-- ---- the new file fits the room that the call asks for
+pub restore-small : (f buffer : List ℕ) {n : ℕ} → restoreAnswer f buffer ≡ answer n → n ≤ fileRoom
+unfolding restoreAnswer restoreValidity readAnswer restored
+restore-small f buffer e =
+    let t = given-at (restoreValidity f (length buffer)) (length (restored f)) e in
+    let a = then-answer (bufferValidity fileRoom (length buffer)) (readValidity f tableRoom) (t .0) in
+    let p = pairOf f in
+    let lent : List ℕ = replicate tableRoom 0 in
+    let was = was-taken f lent p (noteOf f) (given-of _ _ (ap (readValidity f) (length-replicate {A = ℕ} tableRoom 0) ∙ a .1)) in
+    let written = write-answers p true (readTable f lent) buffer (was-well was) (was-long was) (buffer-room fileRoom (length buffer) (a .0)) in
+    omega (arith, t .1, file-length p true (solverTable p), answer-small p true (readTable f lent) buffer written)

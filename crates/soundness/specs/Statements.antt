@@ -10,7 +10,7 @@ use Rattle.machine.specs.Refusals.{answer, valid}
 use Rattle.machine.specs.Machines.{nC, starts}
 use Rattle.machine.specs.WellFormed.{wellFormed}
 use Rattle.machine.specs.Lassos.{Lasso, isPlay, SameObservations}
-use Rattle.machine.specs.Table.{tableRoom, entries}
+use Rattle.machine.specs.Table.{tableRoom, SameEntries}
 use Rattle.machine.specs.Lines.{passesEach}
 use Rattle.machine.specs.Verdict.{carried, startCovered, linesVerdict, checkVerdict}
 use Rattle.machine.specs.Player.{samePlace, lastRound, earlierRound, stemLength, loopLength, run, runRoom, playValidity, playerAnswer, playerBuffer}
@@ -45,10 +45,6 @@ pub record IsRun (p : Pair) (T : List ℕ) (l : Lasso) : Type 0 where
 
 abbrev pub PlayerIsRight : Type 0
 PlayerIsRight = (p : Pair) (T : List ℕ) (l : Lasso) → playValidity p T l ≡ valid → IsRun p T l
-
--- two tables have the same n × P entries
-abbrev pub SameEntries : Pair → List ℕ → List ℕ → Type 0
-SameEntries p T U = (e : ℕ) → e < entries p → getD T e 0 ≡ getD U e 0
 
 -- "those past n × P are neither read": tables with room and the same n × P entries get the same answer of the check
 abbrev pub CheckUnread : Type 0

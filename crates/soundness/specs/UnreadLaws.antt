@@ -18,13 +18,12 @@ use Rattle.machine.specs.WellFormedLaws.{WellPair, well-valid}
 use Rattle.machine.specs.Lassos.{Lasso, moment}
 use Rattle.machine.specs.Step.{partner, stateOf}
 use Rattle.machine.specs.PartnerLaws.{partner-same}
-use Rattle.machine.specs.Table.{tableRoom, entry}
+use Rattle.machine.specs.Table.{tableRoom, entry, SameEntries}
 use Rattle.machine.specs.EntriesLaws.{entry-same, covers-same, lines-same, verdict-same}
 use Rattle.machine.specs.Lines.{nonBlank}
 use Rattle.machine.specs.Verdict.{linesVerdict, checkVerdict}
 use Rattle.machine.specs.VerdictLaws.{check-lines}
 use Rattle.machine.specs.Player.{Place, startPartner, startValidity, sectionAfter, follow, stepTo, placeAt, samePlace, lastRound, earlierRound, stemLength, loopLength, run, played, playValidity, allValidity, playerAnswer, playerBuffer}
-use Rattle.soundness.specs.Statements.{SameEntries}
 use Rattle.soundness.specs.PlayLaws.{play-at}
 use Rattle.soundness.specs.AnswerLaws.{Covered}
 use Rattle.soundness.specs.SoundLaws.{covered-at}

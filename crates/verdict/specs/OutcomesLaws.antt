@@ -20,30 +20,23 @@ use Rattle.machine.specs.VerdictLaws.{check-said, lines-said}
 use Rattle.codec.specs.declared.Reading.the-variants as reading
 use Rattle.codec.specs.declared.Show.{Show}
 use Rattle.codec.specs.Reader.{Taken, taken, readAnswer, readTable}
-use Rattle.codec.specs.Answers.{readBeside, readOf}
+use Rattle.codec.specs.Answers.{readOf}
+use Rattle.codec.specs.AnswersLaws.{read-taken, read-refused}
 use Rattle.verdict.specs.Outcomes.{Outcome, says, noTable, outcomeAfter, fileOutcome}
 
 -- what was read of the file f, by the show s and the table T that were left
 module _ (f : List ℕ) (s : Show) (T : List ℕ) (read : readOf s ≡ readAnswer f (replicate tableRoom 0)) (left : T ≡ readTable f (replicate tableRoom 0)) where
-  was-refused : (r : Refusal) → s .reading ≡ reading.Refused r → readAnswer f (replicate tableRoom 0) ≡ refused r
-  unfolding readOf readBeside
-  was-refused r e = sym read ∙ ap (readBeside (s .pair)) e
-
-  was-taken : (note : Bool) → s .reading ≡ reading.Taken note → readAnswer f (replicate tableRoom 0) ≡ answer (taken (s .pair) note)
-  unfolding readOf readBeside
-  was-taken note e = sym read ∙ ap (readBeside (s .pair)) e
-
   pub file-refused : (r : Refusal) → s .reading ≡ reading.Refused r → fileOutcome f ≡ refused r
   unfolding fileOutcome
-  file-refused r e = pass-refused _ _ (was-refused r e)
+  file-refused r e = pass-refused _ _ (read-refused s read e)
 
   pub file-bare : s .reading ≡ reading.Taken false → fileOutcome f ≡ answer noTable
   unfolding fileOutcome outcomeAfter
-  file-bare e = pass-of _ _ (was-taken false e)
+  file-bare e = pass-of _ _ (read-taken s read e)
 
   pub file-taken : s .reading ≡ reading.Taken true → fileOutcome f ≡ passOn (checkVerdict (s .pair) T) (λ v. answer (says v))
   unfolding fileOutcome outcomeAfter
-  file-taken e = pass-of _ _ (was-taken true e) ∙ ap (λ (t : List ℕ). passOn (checkVerdict (s .pair) t) (λ v. answer (says v))) (sym left)
+  file-taken e = pass-of _ _ (read-taken s read e) ∙ ap (λ (t : List ℕ). passOn (checkVerdict (s .pair) t) (λ v. answer (says v))) (sym left)
 
 -- ---- NotCarried names a state, so its number fits
 check-low : (p : Pair) (T : List ℕ) (c n : ℕ) → checkVerdict p T ≡ answer (notCarried c n) → c < 64

@@ -1,8 +1,10 @@
+-- The file's length, or the refusal's four numbers one after the other: what the two cases of the definitions say.
 use mathlib.Core.Path.{sym, ap, _∙_}
+use Prim.Native.Nat.{ℕ}
 use denote.Ref.{now}
-use Rattle.codec.specs.Reader.{Sized}
-use Rattle.restore.specs.Solving.{lengthOf, spotAfter}
-use Rattle.restore.specs.SolvingLaws.{size-bytes, size-refused}
+use Rattle.machine.specs.Refusals.{Result}
+use Rattle.codec.specs.AnswersLaws.{sized-bytes, sized-refused}
+use Rattle.restore.specs.Restoring.{lengthOf, spotAfter}
 use borrow.Author.Needs.{needs}
 use Rattle.restore.proofs.solve_file.Statement.{statement}
 use Rattle.restore.proofs.solve_file.Tie as tie
@@ -38,8 +40,8 @@ returns : tie.Need-returns
 unfolding lengthOf spotAfter
 returns c =
     let made = c .before .before .before .before .before .solve-bytes .ensures in
-    let told = size-bytes _ _ (sym (made .0) ∙ c .before .n .given .1) in
-    (sym (ap lengthOf told), (made .1, sym (ap (λ (z : Sized). spotAfter z (now (c .before .before .before .before .before .before .before .before .before .args .spot))) told)))
+    let told = sized-bytes (made .0) (c .before .n .given .1) in
+    (sym (ap lengthOf told), (made .1, sym (ap (λ (z : Result ℕ). spotAfter z (now (c .before .before .before .before .before .before .before .before .before .args .spot))) told)))
 
 same-length-2 : tie.Need-same-length-2
 same-length-2 c = search needs
@@ -48,8 +50,8 @@ returns-2 : tie.Need-returns-2
 unfolding lengthOf spotAfter
 returns-2 c =
     let made = c .before .before .before .before .before .before .solve-bytes .ensures in
-    let told = size-refused _ _ (sym (made .0) ∙ c .before .before .r .given .1) in
-    (sym (ap lengthOf told), (made .1, sym (ap (λ (z : Sized). spotAfter z (now (c .before .before .before .before .before .before .before .before .before .before .args .spot))) told)))
+    let told = sized-refused (made .0) (c .before .before .r .given .1) in
+    (sym (ap lengthOf told), (made .1, sym (ap (λ (z : Result ℕ). spotAfter z (now (c .before .before .before .before .before .before .before .before .before .before .args .spot))) told)))
 
 pub solve-file-spec : {M : Type 1} → statement M
 solve-file-spec =

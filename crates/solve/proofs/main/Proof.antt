@@ -1,9 +1,11 @@
+-- The call fills the buffer and gives a length within it; what is written is that front, or the line of the refusal.
 use mathlib.Core.Path.{_≡_, sym, _∙_}
 use Prim.Native.Nat.{ℕ, _≤_}
 use native.Mathlib.Omega.{arith}
 use lib.ListN.{length, length-replicate}
 use lib.Seq.{length-take-le}
-use Rattle.restore.specs.SolvingLaws.{size-bytes, solved-small}
+use Rattle.codec.specs.AnswersLaws.{sized-bytes}
+use Rattle.restore.specs.RestoringLaws.{restore-small}
 use borrow.Author.Needs.{needs}
 use Rattle.solve.proofs.main.Statement.{statement}
 use Rattle.solve.proofs.main.Tie as tie
@@ -33,7 +35,7 @@ enum-known-size c = search needs
 fits : (c : tie.After-known-told) → c .before .size .given .0 .0 ≤ length (c .before .before .before .before .solve-bytes .last .1 .0)
 fits c =
     let made = c .before .before .before .before .solve-bytes in
-    let small = solved-small _ _ _ (size-bytes _ _ (sym (made .ensures .0) ∙ c .before .size .given .1)) in
+    let small = restore-small _ _ (sized-bytes (made .ensures .0) (c .before .size .given .1)) in
     omega (arith, small, made .kept .1 .0 ∙ length-replicate {A = ℕ} 59392 0)
 
 array-share-prefix-out : tie.Need-array-share-prefix-out
