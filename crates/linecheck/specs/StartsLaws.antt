@@ -46,9 +46,9 @@ module _ (p : Pair) (T : List ℕ) where
   -- what a single step finds in the row of section 1 beside c
   pub start-found : WellPair p → ((i : ℕ) → getD T i 0 ≤ blank) → (c from to : ℕ) → from ≡ entryIndex (nC p) (nA p) 0 c 0 → to ≡ from + nA p → to ≤ length T
       → (key : ℕ → ℕ)
-      → found (partner (p .abstraction .start) (inRow (p .abstraction .start) (take (to - from) (drop from T)) 65534) key) ≡ startCovered p T c
+      → found (partner (p .abstraction .start) (inRow (p .abstraction .start) (take (to - from) (drop from T)) (blank - 1)) key) ≡ startCovered p T c
   unfolding startCovered
   start-found w small c from to start end fits key =
       let s = p .abstraction .start in
-      row-found p T 0 c from to start end fits (w .abstraction .states-high) s s 65534 key
+      row-found p T 0 c from to start end fits (w .abstraction .states-high) s s (blank - 1) key
       ∙ someIn-cong (nA p) s _ _ (λ a l e. and-true-l _ e ∙ sym (covers-bound p T 0 c a (entry-small p T small 0 c a)))

@@ -9,14 +9,13 @@ use lib.ListN.{length, getD, List·getD-eq-default}
 use lib.Dec.{eqb, ltb}
 use borrow.Author.Tests.{eqb-true, eqb-false, eq-eqb, ne-eqb, lt-ltb, le-ltb, le-leb, lt-leb, not-true, not-false}
 use Rattle.mask.specs.Logic.{not, and}
-use Rattle.mask.specs.LogicLaws.{cond-cases, or-l, or-r, or-false, or-false-l, not-i, not-f, not-is, and-true-l, and-false-l}
+use Rattle.mask.specs.LogicLaws.{cond-cases, or-l, or-r, or-false-l, not-i, not-f, not-is, and-true-l, and-false-l}
 use Rattle.mask.specs.Bits.{hasBit}
 use Rattle.mask.specs.BitsLaws.{has-none}
 use Rattle.mask.specs.Bounded.{first}
 use Rattle.mask.specs.BoundedLaws.{some-of, some-none, first-is, first-none}
 use Rattle.machine.specs.declared.Machine.{Machine}
-use Rattle.machine.specs.declared.Validity.the-variants.{Valid, Refused}
-use Rattle.machine.specs.Refusals.{refusal, bad-lasso-length, bad-lasso-step, unfair-lasso}
+use Rattle.machine.specs.Refusals.{valid, refused, refusal, bad-lasso-length, bad-lasso-step, unfair-lasso}
 use Rattle.machine.specs.Machines.{successors, moves, starts, fairSet, inFairSet}
 use Rattle.machine.specs.Lassos.{Lasso, lassoLength, moment}
 use Rattle.machine.specs.Player.{badLength, badStep, missedSet, lassoValidity}
@@ -47,9 +46,9 @@ module _ (l : Lasso) where
   unfolding badLength
   over-long h = or-r _ (lt-ltb _ _ h)
 
-  pub fit-length : (length (l .loop) ≡ 0 → ⊥) → lassoLength l ≤ 64 → badLength l ≡ false
+  pub whole-length : (length (l .loop) ≡ 0 → ⊥) → ltb 64 (lassoLength l) ≡ badLength l
   unfolding badLength
-  fit-length d h = or-false (ne-eqb _ _ d) (le-ltb _ _ h)
+  whole-length d = sym (or-false-l _ (ne-eqb _ _ d))
 
 -- ---- 14
 module _ (m : Machine) (l : Lasso) (i : ℕ) where
@@ -121,13 +120,13 @@ none-not members cycle i h t = not-f (some-of (length cycle) _ i h t)
 
 -- ---- 13 to 15 together, each after all that is tested before it
 module _ (m : Machine) (l : Lasso) where
-  pub refused-length : badLength l ≡ true → lassoValidity m l ≡ Refused (refusal bad-lasso-length 0 0 0)
+  pub refused-length : badLength l ≡ true → lassoValidity m l ≡ refused (refusal bad-lasso-length 0 0 0)
   unfolding lassoValidity
   refused-length e = rw e
 
   module _ (fit : badLength l ≡ false) where
     pub refused-step : (i : ℕ) → i < lassoLength l → badStep m l i ≡ true → ((k : ℕ) → k < i → badStep m l k ≡ false)
-        → lassoValidity m l ≡ Refused (refusal bad-lasso-step i 0 0)
+        → lassoValidity m l ≡ refused (refusal bad-lasso-step i 0 0)
     unfolding lassoValidity
     refused-step i h e b = rw (fit, first-is (lassoLength l) (badStep m l) i h e b, lt-ltb i (lassoLength l) h)
 
@@ -136,10 +135,10 @@ module _ (m : Machine) (l : Lasso) where
       steps-done = le-ltb (first (lassoLength l) (badStep m l)) (lassoLength l) (omega (arith, first-none (lassoLength l) (badStep m l) stepped))
 
       pub refused-set : (k : ℕ) → k < m .sets → missedSet m l k ≡ true → ((i : ℕ) → i < k → missedSet m l i ≡ false)
-          → lassoValidity m l ≡ Refused (refusal unfair-lasso (suc k) 0 0)
+          → lassoValidity m l ≡ refused (refusal unfair-lasso (suc k) 0 0)
       unfolding lassoValidity
       refused-set k h e b = rw (fit, steps-done, first-is (m .sets) (missedSet m l) k h e b, lt-ltb k (m .sets) h)
 
-      pub not-refused : ((k : ℕ) → k < m .sets → missedSet m l k ≡ false) → lassoValidity m l ≡ Valid
+      pub not-refused : ((k : ℕ) → k < m .sets → missedSet m l k ≡ false) → lassoValidity m l ≡ valid
       unfolding lassoValidity
       not-refused b = rw (fit, steps-done, first-none (m .sets) (missedSet m l) b, le-ltb (m .sets) (m .sets) (omega arith))

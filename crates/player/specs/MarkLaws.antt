@@ -4,6 +4,7 @@ use mathlib.Core.List.{List}
 use mathlib.Core.Logic.{by-cases}
 use mathlib.Core.Path.{_≡_, sym, ap, ap₂, _∙_}
 use Prim.Native.Nat.{ℕ, suc, _+_, _-_, _*_, _/_, _%_, _≤_, _<_}
+use native.Mathlib.Nat.{mod-eq-of-lt}
 use native.Mathlib.Decide.{decLt, ℕ-discrete}
 use native.Mathlib.Omega.{arith}
 use lib.Arith.{digits-lt, digits-div, digits-mod}
@@ -18,30 +19,40 @@ use Rattle.machine.specs.Lassos.{Lasso}
 use Rattle.machine.specs.Player.{placeAt, loopStart, samePlace, lastRound, earlierRound}
 use Rattle.soundness.specs.Statements.{IsRun}
 use Rattle.soundness.specs.PlayerLaws.{Playable, player-run}
-use Rattle.player.specs.Places.{placeNumber, Marks}
+use Rattle.player.specs.Places.{numberOf, placeNumber, Marks}
 use Rattle.player.specs.PlaceLaws.{on-track}
+
+-- ---- the number of a state and a section
+pub number-low : (a j : ℕ) → numberOf a j < 448
+unfolding numberOf
+number-low a j = digits-lt {m = 64} {c = 7} (omega arith) (omega arith)
+
+-- below 64 and 7 it is theirs alone
+number-one : (a j b i : ℕ) → a < 64 → j < 7 → b < 64 → i < 7 → numberOf a j ≡ numberOf b i → (a ≡ b) × (j ≡ i)
+unfolding numberOf
+number-one a j b i ha hj hb hi e =
+    let f : a * 7 + j ≡ b * 7 + i = rw (mod-eq-of-lt ha, mod-eq-of-lt hj, mod-eq-of-lt hb, mod-eq-of-lt hi) at e in
+    (sym (digits-div a hj) ∙ ap (λ n. n / 7) f ∙ digits-div b hi, sym (digits-mod a hj) ∙ ap (λ n. n % 7) f ∙ digits-mod b hi)
 
 module _ {p : Pair} {T : List ℕ} {l : Lasso} (k : Playable p T l) where
   -- ---- numbers of places
-  pub number-lt : (x : ℕ) → placeNumber p T l x < 448
+  number-lt : (x : ℕ) → placeNumber p T l x < 448
   unfolding placeNumber
-  number-lt x =
-      let c = on-track k (loopStart p T l x) in
-      digits-lt {m = 64} {c = 7} (omega (arith, c .bound, k .well .abstraction .states-high)) (omega (arith, c .section-bound, k .well .abstraction .sets-high))
+  number-lt x = let at = placeAt p T l (loopStart p T l x) in number-low (at .state) (at .section)
 
   number-same : (x y : ℕ) → placeNumber p T l x ≡ placeNumber p T l y → samePlace p T l x y ≡ true
   unfolding placeNumber samePlace
   number-same x y e =
-      let u = placeAt p T l (loopStart p T l x) in
-      let v = placeAt p T l (loopStart p T l y) in
-      let low : u .section < 7 = omega (arith, on-track k (loopStart p T l x) .section-bound, k .well .abstraction .sets-high) in
-      let low′ : v .section < 7 = omega (arith, on-track k (loopStart p T l y) .section-bound, k .well .abstraction .sets-high) in
-      and-i (eq-eqb _ _ (sym (digits-div (u .state) low) ∙ ap (λ n. n / 7) e ∙ digits-div (v .state) low′))
-      (eq-eqb _ _ (sym (digits-mod (u .state) low) ∙ ap (λ n. n % 7) e ∙ digits-mod (v .state) low′))
+      let u = on-track k (loopStart p T l x) in
+      let v = on-track k (loopStart p T l y) in
+      let w = k .well .abstraction in
+      let same = number-one _ _ _ _ (omega (arith, u .bound, w .states-high)) (omega (arith, u .section-bound, w .sets-high))
+      (omega (arith, v .bound, w .states-high)) (omega (arith, v .section-bound, w .sets-high)) e in
+      and-i (eq-eqb _ _ (same .0)) (eq-eqb _ _ (same .1))
 
   same-number : (x y : ℕ) → samePlace p T l x y ≡ true → placeNumber p T l x ≡ placeNumber p T l y
   unfolding placeNumber samePlace
-  same-number x y t = ap₂ (λ (a j : ℕ). a * 7 + j) (eqb-true _ _ (and-l _ _ t)) (eqb-true _ _ (and-r _ _ t))
+  same-number x y t = ap₂ numberOf (eqb-true _ _ (and-l _ _ t)) (eqb-true _ _ (and-r _ _ t))
 
   -- ---- the rule's end
   is-run : IsRun p T l

@@ -2,13 +2,14 @@
 use mathlib.Core.Bool.{cond}
 use mathlib.Core.List.{List, _++_}
 use mathlib.Core.Path.{_≡_}
-use Prim.Native.Nat.{ℕ, suc, _+_, _-_, _*_, _≤_, _<_}
+use Prim.Native.Nat.{ℕ, suc, _+_, _-_, _*_, _%_, _≤_, _<_}
 use lib.Dec.{eqb, ltb}
 use lib.ListN.{length, getD, drop}
 use Rattle.mask.specs.Tables.{table}
 use Rattle.machine.specs.declared.Pair.{Pair}
 use Rattle.machine.specs.Observed.{matchedMasks}
 use Rattle.machine.specs.Lassos.{Lasso, lassoLength}
+use Rattle.machine.specs.Table.{tableRoom}
 use Rattle.machine.specs.Player.{placeAt, loopStart, lastRound, run}
 use Rattle.machine.specs.WellFormedLaws.{WellPair}
 use Rattle.player.specs.declared.Place.{Place}
@@ -17,7 +18,7 @@ use Rattle.player.specs.declared.Place.{Place}
 pub record Tabled (p : Pair) (M T : List ℕ) : Type 0 where
   pub well : WellPair p
   pub masks : M ≡ matchedMasks p
-  pub long : 28672 ≤ length T
+  pub long : tableRoom ≤ length T
 
 -- the moment of a place, of a lasso whose loop has q states: its position, after its rounds
 abbrev pub momentOf : ℕ → Place → ℕ
@@ -33,6 +34,10 @@ onward start whole at =
 -- how many loop starts lie before a place
 unfoldable pub startsBefore : ℕ → Place → ℕ
 startsBefore start at = cond (ltb start (at .position)) (suc (at .round)) (at .round)
+
+-- the number, below 448, of a state a and a section j, for numbers of any size
+unfoldable pub numberOf : ℕ → ℕ → ℕ
+numberOf a j = a % 64 * 7 + j % 7
 
 -- a place of a lasso
 pub record Placed (l : Lasso) (at : Place) : Type 0 where
@@ -54,7 +59,7 @@ module _ (p : Pair) (T : List ℕ) (l : Lasso) where
 
   -- the number of a and j at the loop start after x rounds: where it is marked
   unfoldable pub placeNumber : ℕ → ℕ
-  placeNumber x = let at = placeAt p T l (loopStart p T l x) in at .state * 7 + at .section
+  placeNumber x = let at = placeAt p T l (loopStart p T l x) in numberOf (at .state) (at .section)
 
   -- the marks of the first n loop starts: x + 1 where a and j of the one after x rounds are marked, and no other mark
   pub record Marks (n : ℕ) (marks : List ℕ) : Type 0 where

@@ -8,15 +8,13 @@ use lib.ListN.{length, getD, set, length-set}
 use Rattle.machine.specs.declared.Pair.{Pair}
 use Rattle.machine.specs.Lassos.{Lasso, moment}
 use Rattle.machine.specs.Step.{stateOf}
-use Rattle.machine.specs.Player.{startPartner, placeAt, loopStart, lastRound, earlierRound}
+use Rattle.machine.specs.Player.{startPartner, placeAt, loopStart, lastRound, earlierRound, runRoom}
 use Rattle.soundness.specs.PlayerLaws.{Playable, player-run}
 use Rattle.player.specs.declared.Place.{Place}
-use Rattle.player.specs.declared.Played.the-variants.{Run}
-use Rattle.player.specs.Answers.{runOf}
-use Rattle.player.specs.Places.{momentOf, startsBefore, placeNumber, Stepped, Marks, written, writtenTo, Playing, NotEnded}
+use Rattle.player.specs.Places.{momentOf, startsBefore, numberOf, placeNumber, Stepped, Marks, written, writtenTo, Playing, NotEnded}
 use Rattle.player.specs.PlaceLaws.{onward-moment, before-none, before-start, before-round, before-le, start-passed, none-passed, start-on}
-use Rattle.player.specs.MarkLaws.{number-lt, no-marks, mark-low, mark-met, mark-none, mark-more}
-use Rattle.player.specs.RunLaws.{written-none, written-more, written-whole, stem-is, loop-is, rounds-low, room-left}
+use Rattle.player.specs.MarkLaws.{number-low, no-marks, mark-low, mark-met, mark-none, mark-more}
+use Rattle.player.specs.RunLaws.{written-none, written-more, written-whole, rounds-low, room-left}
 
 module _ {p : Pair} {T : List ℕ} {l : Lasso} (k : Playable p T l) where
   pub at-start : (buffer marks : List ℕ) (a : ℕ) → a ≡ stateOf (startPartner p T (moment l 0)) → length marks ≡ 448
@@ -37,7 +35,7 @@ module _ {p : Pair} {T : List ℕ} {l : Lasso} (k : Playable p T l) where
     pub round-low : at .round ≤ 448
     round-low = omega (arith, soon, h .early, before-le (h .on .placed))
 
-    pub now-low : t < 28736
+    pub now-low : t < runRoom + 64
     now-low = omega (arith, h .now, h .on .placed .within, k .good .short, rounds-low k (at .round) round-low)
 
     pub marks-low : (i : ℕ) → i < 448 → getD marks i 0 ≤ 448
@@ -57,42 +55,40 @@ module _ {p : Pair} {T : List ℕ} {l : Lasso} (k : Playable p T l) where
       now-start : momentOf (length (l .loop)) at ≡ loopStart p T l (at .round)
       now-start = ap (λ (n : ℕ). n + at .round * length (l .loop)) e
 
-      number-is : at .a * 7 + at .j ≡ placeNumber p T l (at .round)
-      unfolding placeNumber
-      number-is = ap₂ (λ (a j : ℕ). a * 7 + j) (h .on .state ∙ ap (λ (t : ℕ). placeAt p T l t .state) now-start)
-          (h .on .section ∙ ap (λ (t : ℕ). placeAt p T l t .section) now-start)
+      -- the run is whole where this is the later of the two
+      pub run-written : lastRound p T l ≡ at .round → run ≡ written p T l buffer
+      run-written last = h .bytes ∙ ap (λ (t : ℕ). writtenTo p T l t buffer) (h .now ∙ now-start) ∙ written-whole p T l (at .round) buffer last
 
-      pub number-low : at .a * 7 + at .j < 448
-      number-low = omega (arith, number-is, number-lt k (at .round))
+      -- the mark at the number of a and j
+      module _ (number : ℕ) (numbered : number ≡ numberOf (at .a) (at .j)) where
+        number-is : number ≡ placeNumber p T l (at .round)
+        unfolding placeNumber
+        number-is = numbered ∙ ap₂ numberOf (h .on .state ∙ ap (λ (t : ℕ). placeAt p T l t .state) now-start)
+            (h .on .section ∙ ap (λ (t : ℕ). placeAt p T l t .section) now-start)
 
-      -- a mark: the run is whole
-      module _ (seen : 0 < getD marks (at .a * 7 + at .j) 0) where
-        met : (lastRound p T l ≡ at .round) × (earlierRound p T l ≡ getD marks (at .a * 7 + at .j) 0 - 1)
-        met = rw number-is (mark-met k round-marks early-round (rw number-is at seen))
+        -- a mark: the rule's end
+        module _ (seen : getD marks number 0 ≡ 0 → ⊥) where
+          some-mark : 0 < getD marks number 0
+          some-mark = omega arith
 
-        pub seen-le : getD marks (at .a * 7 + at .j) 0 ≤ at .round
-        seen-le = round-marks .no-other (at .a * 7 + at .j) number-low seen .0
+          pub met : (lastRound p T l ≡ at .round) × (earlierRound p T l ≡ getD marks number 0 - 1)
+          met = rw number-is (mark-met k round-marks early-round (rw number-is at some-mark))
 
-        pub run-said : let x = getD marks (at .a * 7 + at .j) 0 - 1 in
-            Run (length (l .stem) + x * length (l .loop)) ((at .round - x) * length (l .loop)) ≡ runOf p T l
-        unfolding runOf
-        run-said = ap₂ Run (stem-is p T l _ (met .1)) (loop-is p T l _ (at .round) (met .1) (met .0))
+          pub earlier-low : getD marks number 0 - 1 < at .round
+          earlier-low = omega (arith, some-mark, round-marks .no-other number (omega (arith, numbered, number-low (at .a) (at .j))) some-mark .0)
 
-        pub run-written : run ≡ written p T l buffer
-        run-written = h .bytes ∙ ap (λ (t : ℕ). writtenTo p T l t buffer) (h .now ∙ now-start) ∙ written-whole p T l (at .round) buffer (met .0)
-
-      -- no mark: the run goes on
-      pub marked-on : getD marks (at .a * 7 + at .j) 0 ≡ 0 → NotEnded p T l (set marks (at .a * 7 + at .j) (at .round + 1)) at
-      marked-on z =
-          let none : getD marks (placeNumber p T l (at .round)) 0 ≡ 0 = rw number-is at z in
-          let further = mark-none k round-marks early-round none in
-          let passed : (to : Place) → Stepped p T l at to → startsBefore (length (l .stem)) to ≡ suc (at .round) =
-          λ to s. start-passed s (k .good .some-loop) e in
-          record {
-            round = further;
-            early = λ to s. omega (arith, passed to s);
-            marked = λ to s. rw (passed to s, number-is, add-one) (mark-more k round-marks none);
-          }
+        -- no mark: the run goes on
+        pub marked-on : getD marks number 0 ≡ 0 → NotEnded p T l (set marks number (at .round + 1)) at
+        marked-on z =
+            let none : getD marks (placeNumber p T l (at .round)) 0 ≡ 0 = rw number-is at z in
+            let further = mark-none k round-marks early-round none in
+            let passed : (to : Place) → Stepped p T l at to → startsBefore (length (l .stem)) to ≡ suc (at .round) =
+            λ to s. start-passed s (k .good .some-loop) e in
+            record {
+              round = further;
+              early = λ to s. omega (arith, passed to s);
+              marked = λ to s. rw (passed to s, number-is, add-one) (mark-more k round-marks none);
+            }
 
     -- ---- at any other place
     pub unmarked-on : (at .position ≡ length (l .stem) → ⊥) → NotEnded p T l marks at
@@ -107,10 +103,10 @@ module _ {p : Pair} {T : List ℕ} {l : Lasso} (k : Playable p T l) where
 
     -- ---- one byte, and one step on
     module _ {marks′ : List ℕ} (n : NotEnded p T l marks′ at) where
-      pub room : t < 28672
+      pub room : t < runRoom
       room = omega (arith, h .now, room-left k (h .on .placed) (n .round))
 
-      pub plays-on : 28672 ≤ length buffer → (to : Place) → Stepped p T l at to → Playing p T l buffer (set run t (at .a)) marks′ to (t + 1)
+      pub plays-on : runRoom ≤ length buffer → (to : Place) → Stepped p T l at to → Playing p T l buffer (set run t (at .a)) marks′ to (t + 1)
       plays-on b to s = record {
         on = s .on;
         now = omega (arith, h .now, ap₂ (λ (x y : ℕ). x + y * length (l .loop)) (s .position) (s .round), onward-moment (h .on .placed));

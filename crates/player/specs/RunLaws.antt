@@ -10,9 +10,11 @@ use Rattle.mask.specs.TablesLaws.{table-length}
 use Rattle.machine.specs.declared.Pair.{Pair}
 use Rattle.machine.specs.WellFormedLaws.{mul-bound}
 use Rattle.machine.specs.Lassos.{Lasso}
-use Rattle.machine.specs.Player.{placeAt, loopStart, lastRound, earlierRound, stemLength, loopLength, run}
+use Rattle.machine.specs.Player.{placeAt, loopStart, lastRound, earlierRound, stemLength, loopLength, run, runRoom}
 use Rattle.soundness.specs.PlayerLaws.{Playable, player-run}
 use Rattle.player.specs.declared.Place.{Place}
+use Rattle.player.specs.declared.Played.the-variants.{Run}
+use Rattle.player.specs.Answers.{runOf}
 use Rattle.player.specs.Places.{momentOf, Placed, writtenTo, written}
 
 table-snoc : (n : ℕ) (f : ℕ → ℕ) → table (suc n) f ≡ table n f ++ f n ∷ []
@@ -36,20 +38,16 @@ module _ (p : Pair) (T : List ℕ) (l : Lasso) where
   unfolding writtenTo written run
   written-whole n buffer e = rw (e, table-length)
 
-  pub stem-is : (x : ℕ) → earlierRound p T l ≡ x → length (l .stem) + x * length (l .loop) ≡ stemLength p T l
-  unfolding stemLength
-  stem-is x e = rw e
-
-  pub loop-is : (x y : ℕ) → earlierRound p T l ≡ x → lastRound p T l ≡ y → (y - x) * length (l .loop) ≡ loopLength p T l
-  unfolding loopLength
-  loop-is x y e f = rw (e, f)
+  pub run-said : (x y : ℕ) → lastRound p T l ≡ y → earlierRound p T l ≡ x → Run (length (l .stem) + x * length (l .loop)) ((y - x) * length (l .loop)) ≡ runOf p T l
+  unfolding runOf stemLength loopLength
+  run-said x y last earlier = rw (last, earlier)
 
 -- before the last round there is room
 module _ {p : Pair} {T : List ℕ} {l : Lasso} (k : Playable p T l) where
-  pub rounds-low : (x : ℕ) → x ≤ 448 → x * length (l .loop) ≤ 28672
+  pub rounds-low : (x : ℕ) → x ≤ 448 → x * length (l .loop) ≤ runRoom
   rounds-low x h = mul-bound x (length (l .loop)) 448 64 h (omega (arith, k .good .short))
 
-  pub room-left : {at : Place} → Placed l at → at .round < lastRound p T l → momentOf (length (l .loop)) at < 28672
+  pub room-left : {at : Place} → Placed l at → at .round < lastRound p T l → momentOf (length (l .loop)) at < runRoom
   room-left {at} h b =
       let r : at .round ≤ 447 = omega (arith, player-run p T l k .soon) in
       omega (arith, h .within, k .good .short, mul-bound (at .round) (length (l .loop)) 447 64 r (omega (arith, k .good .short)))

@@ -6,8 +6,9 @@ use Prim.Native.Nat.{ℕ, _+_, _≤_}
 use lib.ListN.{length, take, drop}
 use Rattle.machine.specs.declared.Pair.{Pair}
 use Rattle.machine.specs.declared.Refusal.{Refusal}
+use Rattle.machine.specs.Refusals.{answer, refused}
 use Rattle.machine.specs.Lassos.{Lasso, isPlay, SameObservations}
-use Rattle.machine.specs.Player.{played, refused, playerAnswer, playerBuffer}
+use Rattle.machine.specs.Player.{runRoom, played, playerAnswer, playerBuffer}
 
 -- the lasso in a buffer: its first s bytes are the stem, and the q after them the loop
 abbrev pub lassoIn : ℕ → ℕ → List ℕ → Lasso
@@ -22,12 +23,12 @@ pub record RunGiven (p : Pair) (T : List ℕ) (l : Lasso) (buffer : List ℕ) (s
   -- with the same observation at every moment
   pub agrees : SameObservations (p .concrete) l (p .abstraction) (lassoIn s q (playerBuffer p T l buffer))
   -- it fits, and the bytes past it are unchanged
-  pub fits : s + q ≤ 28672
+  pub fits : s + q ≤ runRoom
   pub long : length (playerBuffer p T l buffer) ≡ length buffer
   pub past : drop (s + q) (playerBuffer p T l buffer) ≡ drop (s + q) buffer
 
 abbrev pub GivenRunIsRight : Type 0
-GivenRunIsRight = (p : Pair) (T : List ℕ) (l : Lasso) (buffer : List ℕ) (s q : ℕ) → playerAnswer p T l buffer ≡ played s q → RunGiven p T l buffer s q
+GivenRunIsRight = (p : Pair) (T : List ℕ) (l : Lasso) (buffer : List ℕ) (s q : ℕ) → playerAnswer p T l buffer ≡ answer (played s q) → RunGiven p T l buffer s q
 
 -- a refusal changes no buffer
 abbrev pub RefusalKeepsBuffer : Type 0

@@ -1,36 +1,22 @@
 -- The statements' proofs.
 use mathlib.Core.List.{List, _++_}
-use mathlib.Core.Path.{_≡_, refl, ap, _∙_}
+use mathlib.Core.Path.{_≡_, ap, _∙_}
 use Prim.Native.Nat.{ℕ, _+_, _≤_}
 use native.Mathlib.Omega.{arith}
 use lib.ListN.{length, take, drop, length-append, length-drop}
 use lib.Seq.{take-append-le, drop-append-le, take-at, drop-at}
 use Rattle.machine.specs.declared.Pair.{Pair}
-use Rattle.machine.specs.declared.Refusal.{Refusal}
-use Rattle.machine.specs.declared.Validity.{Validity}
-use Rattle.machine.specs.declared.Validity.the-variants.{Valid, Refused}
+use Rattle.machine.specs.Refusals.{valid}
+use Rattle.machine.specs.RefusalsLaws.{then-answer, given-at, given-refused, buffer-room, buffer-made, buffer-kept}
 use Rattle.machine.specs.Lassos.{Lasso}
-use Rattle.machine.specs.Player.{played, refused, playedUnless, keptUnless, allValidity, playerAnswer, playerBuffer, playValidity, run, stemLength, loopLength}
-use Rattle.machine.specs.RefusalsLaws.{then-answer}
+use Rattle.machine.specs.Player.{runRoom, allValidity, playerAnswer, playerBuffer, playValidity, run, stemLength, loopLength}
 use Rattle.soundness.specs.Statements.{IsRun}
 use Rattle.soundness.specs.PlayerLaws.{playable, good-play, player-run}
 use Rattle.player.specs.Statements.{lassoIn, RunGiven, GivenRunIsRight, RefusalKeepsBuffer}
-use Rattle.player.specs.AnswerLaws.{buffer-long}
-
--- ---- what an answer tells of the tests
-unless-played : (v : Validity) (x y s q : ℕ) → playedUnless v (played x y) ≡ played s q → (v ≡ Valid) × (x ≡ s) × (y ≡ q)
-unfolding playedUnless
-unless-played Valid x y s q e = (refl, cc, cc)
-unless-played (Refused r) x y s q e = let z : _≡_ {A = ℕ} 0 1 = cc in absurd (omega arith)
-
-kept-unless : (v : Validity) (x y : ℕ) (r : Refusal) (buffer out : List ℕ) → playedUnless v (played x y) ≡ refused r → keptUnless v buffer out ≡ buffer
-unfolding playedUnless keptUnless
-kept-unless Valid x y r buffer out e = let z : _≡_ {A = ℕ} 0 1 = cc in absurd (omega arith)
-kept-unless (Refused s) x y r buffer out e = refl
 
 pub refusal-keeps-buffer : RefusalKeepsBuffer
 unfolding playerAnswer playerBuffer
-refusal-keeps-buffer p T l buffer r e = kept-unless (allValidity p T l buffer) (stemLength p T l) (loopLength p T l) r buffer (run p T l) e
+refusal-keeps-buffer p T l buffer r e = buffer-kept _ _ _ (given-refused _ _ e)
 
 -- ---- the run in the buffer
 -- of a list with something after it, its front and its rest
@@ -41,16 +27,16 @@ cut-back : (s q : ℕ) (out rest : List ℕ) → length out ≡ s + q → take q
 cut-back s q out rest e =
     rw (drop-append-le s out rest (omega arith)) (take-at (drop s out) rest q (length-drop s out ∙ omega arith))
 
-module _ (p : Pair) (T : List ℕ) (l : Lasso) (buffer : List ℕ) (valid : allValidity p T l buffer ≡ Valid) where
+module _ (p : Pair) (T : List ℕ) (l : Lasso) (buffer : List ℕ) (tested : allValidity p T l buffer ≡ valid) where
   buffer-is : playerBuffer p T l buffer ≡ run p T l ++ drop (length (run p T l)) buffer
-  unfolding playerBuffer keptUnless
-  buffer-is = rw valid
+  unfolding playerBuffer
+  buffer-is = buffer-made _ _ _ tested
 
-  tests : (28672 ≤ length buffer) × (playValidity p T l ≡ Valid)
+  tests : (runRoom ≤ length buffer) × (playValidity p T l ≡ valid)
   unfolding allValidity
   tests =
-      let b = then-answer _ _ (then-answer _ _ valid .1) in
-      (buffer-long (length buffer) (b .0), b .1)
+      let b = then-answer _ _ (then-answer _ _ tested .1) in
+      (buffer-room runRoom (length buffer) (b .0), b .1)
 
   run-is : IsRun p T l
   run-is = player-run p T l (playable p T l (tests .1))
@@ -78,5 +64,7 @@ module _ (p : Pair) (T : List ℕ) (l : Lasso) (buffer : List ℕ) (valid : allV
 pub given-run-is-right : GivenRunIsRight
 unfolding playerAnswer
 given-run-is-right p T l buffer s q e =
-    let u = unless-played (allValidity p T l buffer) (stemLength p T l) (loopLength p T l) s q e in
-    rw (u .1, u .2) at (given p T l buffer (u .0))
+    let u = given-at _ _ e in
+    let stem : stemLength p T l ≡ s = cc in
+    let loop : loopLength p T l ≡ q = cc in
+    rw (stem, loop) at (given p T l buffer (u .0))

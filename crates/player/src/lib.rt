@@ -7,22 +7,25 @@ ghost use lib.Dec.{eqb};
 ghost use lib.ListN.{length};
 ghost use Rattle.mask.specs.Bits.{hasBit};
 ghost use Rattle.machine.specs.Machines.{moves, next, nC, nA, setsA};
-ghost use Rattle.machine.specs.Refusals.{refusal};
+ghost use Rattle.machine.specs.Refusals.{testedOf};
 ghost use Rattle.machine.specs.Lassos.{moment};
 ghost use Rattle.machine.specs.Step.{partner, stateOf};
 ghost use Rattle.machine.specs.Table.{entry};
 ghost use Rattle.machine.specs.Lines.{nonBlank};
-ghost use Rattle.machine.specs.Player.{badStep, lassoValidity, startPartner, playerAnswer, playerBuffer};
+ghost use Rattle.machine.specs.Player.{badLength, badStep, lassoValidity, startPartner, runRoom, playerAnswer, playerBuffer};
 ghost use Rattle.soundness.specs.PlayerLaws.{Playable};
 ghost use Rattle.player.specs.Answers.{playedOf, runOf};
 ghost use Rattle.player.specs.Given.{given, noneIn};
-ghost use Rattle.player.specs.Places.{Tabled, OnPlay, Stepped, onward, written};
-use linecheck::Answer;
+ghost use Rattle.player.specs.Places.{Tabled, OnPlay, Stepped, onward, numberOf, written};
+use linecheck::Checked;
 use machine::Machine;
 use machine::Pair;
 use machine::Partner;
 use machine::Refusal;
 use machine::Validity;
+
+// The least length of the buffer that is lent for the run, in bytes: 448 rounds of at most 64 states.
+pub const RUN_ROOM: usize = 28672;
 
 // What the player says: the run's stem length and loop length, or where it was stopped.
 pub enum Played {
@@ -75,14 +78,11 @@ impl Place {
 
     // The section in which the next partner is looked for, of n, where e is the entry of the pair: after a goal, the next.
     fn section_after(self, n: usize, e: u16) -> usize
-        requires { ⌜ self .j < n ⌝ }
         ensures { λ r. ⌜ r ≡ cond (eqb e 0) (next n (self .j)) (self .j) ⌝ }
     {
         let j = self.j;
-        if e != 0 {
-            return j;
-        }
-        machine::next_section(n, j)
+        let next = machine::next_section(n, j);
+        if e == 0 { next } else { j }
     }
 
     // The place at the next moment, by the rule.
@@ -141,19 +141,14 @@ fn best_partner(
     let na = abstraction.states;
     let from = machine::entry_index(concrete.states, na, j, d, 0);
     let to = from + na;
-    machine::partner_within(moves, matched[d], &table[from..to], 65534)
+    machine::partner_within(moves, matched[d], &table[from..to], machine::BLANK - 1)
 }
 
-// A refusal whose spot is one number.
-fn stopped(number: u32, spot: usize) -> Refusal
-    ensures { λ r. ⌜ r ≡ refusal number spot 0 0 ⌝ }
+// The number, below 448, of a state a and a section j. It takes a modulo 64 and j modulo 7, so that any have an answer; states and sections are less.
+fn number_of(a: usize, j: usize) -> usize
+    ensures { λ r. ⌜ r ≡ numberOf a j ⌝ }
 {
-    Refusal {
-        number: number,
-        first: spot,
-        second: 0,
-        third: 0,
-    }
+    a % 64 * 7 + j % 7
 }
 
 // The state at a position of the lasso.
@@ -198,11 +193,11 @@ fn bad_step(m: Machine, stem: &[u8], cycle: &[u8], i: usize) -> bool
             return true;
         }
     }
-    let last = stem.len() + cycle.len() - 1;
-    if i < last {
+    let closes = moves_to(m, s, state_at(stem, cycle, stem.len()));
+    if i + 1 < stem.len() + cycle.len() {
         return false;
     }
-    !moves_to(m, s, state_at(stem, cycle, stem.len()))
+    !closes
 }
 
 // Whether no state of the loop is in the mask of a set.
@@ -217,34 +212,40 @@ fn misses(members: u64, cycle: &[u8]) -> bool
     true
 }
 
+// Whether refusal 13 holds.
+fn bad_length(stem: &[u8], cycle: &[u8]) -> bool
+    ensures { λ r. ⌜ r ≡ badLength (given (now (stem .entry)) (now (cycle .entry))) ⌝ }
+{
+    if cycle.len() == 0 {
+        return true;
+    }
+    if 64 < stem.len() {
+        return true;
+    }
+    if 64 < cycle.len() {
+        return true;
+    }
+    64 < stem.len() + cycle.len()
+}
+
 // Refusals 13 to 15.
 fn lasso_validity(m: Machine, stem: &[u8], cycle: &[u8]) -> Validity
     requires { ⌜ m .sets ≤ 8 ⌝ }
-    ensures { λ r. ⌜ r ≡ lassoValidity m (given (now (stem .entry)) (now (cycle .entry))) ⌝ }
+    ensures { λ r. ⌜ testedOf r ≡ lassoValidity m (given (now (stem .entry)) (now (cycle .entry))) ⌝ }
 {
-    let unfit = Validity::Refused(stopped(machine::BAD_LASSO_LENGTH, 0));
-    if cycle.len() == 0 {
-        return unfit;
-    }
-    if 64 < stem.len() {
-        return unfit;
-    }
-    if 64 < cycle.len() {
-        return unfit;
+    if bad_length(stem, cycle) {
+        return Validity::Refused(machine::refuse(machine::BAD_LASSO_LENGTH, 0, 0, 0));
     }
     let whole = stem.len() + cycle.len();
-    if 64 < whole {
-        return unfit;
-    }
     for i in 0..whole {
         if bad_step(m, stem, cycle, i) {
-            return Validity::Refused(stopped(machine::BAD_LASSO_STEP, i));
+            return Validity::Refused(machine::refuse(machine::BAD_LASSO_STEP, i, 0, 0));
         }
     }
     let fairness = m.fairness;
     for k in 0..m.sets {
         if misses(fairness[k], cycle) {
-            return Validity::Refused(stopped(machine::UNFAIR_LASSO, k + 1));
+            return Validity::Refused(machine::refuse(machine::UNFAIR_LASSO, k + 1, 0, 0));
         }
     }
     Validity::Valid
@@ -263,7 +264,7 @@ fn write_run(
     requires { ⌜ Tabled p (now matched) (now table) ⌝ }
     requires { ⌜ Playable p (now table) (given (now stem) (now cycle)) ⌝ }
     requires { ⌜ first ≡ stateOf (startPartner p (now table) (moment (given (now stem) (now cycle)) 0)) ⌝ }
-    requires { ⌜ 28672 ≤ length (now run) ⌝ }
+    requires { ⌜ runRoom ≤ length (now run) ⌝ }
     ensures answer { λ r. ⌜ r ≡ runOf p (now (table .entry)) (given (now (stem .entry)) (now (cycle .entry))) ⌝ }
     ensures buffer { λ r. ⌜ now (run .exit) ≡ written p (now (table .entry)) (given (now (stem .entry)) (now (cycle .entry))) (now (run .entry)) ⌝ }
 {
@@ -277,13 +278,16 @@ fn write_run(
         let next = place.step(p, matched, table, stem, cycle);
         let after = t + 1;
         if place.position == start {
-            let number = place.a * 7 + place.j;
+            let round = place.round;
+            let number = number_of(place.a, place.j);
             let seen = marks[number] as usize;
             if seen != 0 {
                 let earlier = seen - 1;
-                return Played::Run(start + earlier * turn, (place.round - earlier) * turn);
+                let stem_length = start + earlier * turn;
+                let loop_length = (round - earlier) * turn;
+                return Played::Run(stem_length, loop_length);
             }
-            marks[number] = (place.round + 1) as u16;
+            marks[number] = (round + 1) as u16;
         }
         run[t] = place.a as u8;
         t = after;
@@ -297,11 +301,11 @@ pub fn play(p: Pair, table: &[u16], stem: &[u8], cycle: &[u8], run: &mut [u8]) -
     ensures answer { λ r. ⌜ playedOf r ≡ playerAnswer p (now (table .entry)) (given (now (stem .entry)) (now (cycle .entry))) (now (run .entry)) ⌝ }
     ensures buffer { λ _. ⌜ now (run .exit) ≡ playerBuffer p (now (table .entry)) (given (now (stem .entry)) (now (cycle .entry))) (now (run .entry)) ⌝ }
 {
-    if run.len() < 28672 {
-        return Played::Refused(stopped(machine::SHORT_BUFFER, 0));
+    if run.len() < RUN_ROOM {
+        return Played::Refused(machine::refuse(machine::SHORT_BUFFER, 0, 0, 0));
     }
     let checked = linecheck::check_table(p, table);
-    if let Answer::Refused(r) = checked {
+    if let Checked::Refused(r) = checked {
         return Played::Refused(r);
     }
     let tested = lasso_validity(p.concrete, stem, cycle);
@@ -313,7 +317,7 @@ pub fn play(p: Pair, table: &[u16], stem: &[u8], cycle: &[u8], run: &mut [u8]) -
     let c = state_at(stem, cycle, 0);
     let first = best_partner(p, &matched, table, abstraction.start, 0, c);
     let Partner::State(a) = first else {
-        return Played::Refused(stopped(machine::NO_START_PARTNER, 0));
+        return Played::Refused(machine::refuse(machine::NO_START_PARTNER, 0, 0, 0));
     };
     write_run(p, &matched, table, stem, cycle, a, run)
 }

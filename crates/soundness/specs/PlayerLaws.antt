@@ -31,7 +31,7 @@ use Rattle.soundness.specs.SoundLaws.{rounds-between, place-eq, returns,
 
 -- ---- a lasso that is not refused is a play of at most 64 states
 module _ (m : Machine) (l : Lasso) where
-  good-length : badLength l ≡ false → (0 < length (l .loop)) × (lassoLength l ≤ 64)
+  pub good-length : badLength l ≡ false → (0 < length (l .loop)) × (lassoLength l ≤ 64)
   unfolding badLength
   good-length t =
       let q = or-none _ _ t in

@@ -1,12 +1,10 @@
 -- Entries past n × P are not looked at: for each pair, lasso and buffer, check and player say the same of two tables with the same n × P entries.
 use mathlib.Core.Bool.{true}
 use mathlib.Core.List.{List}
-use mathlib.Core.Logic.{⊎-elim}
 use mathlib.Core.Path.{_≡_, refl, sym, ap, _∙_}
 use Prim.Native.Nat.{ℕ, zero, suc, _+_, _*_, _≤_, _<_}
 use lib.ListN.{length}
 use Rattle.mask.specs.Logic.{and}
-use Rattle.mask.specs.LogicLaws.{dec, and-l, and-false-l}
 use Rattle.mask.specs.Bits.{hasBit}
 use Rattle.mask.specs.BoundedLaws.{first-cong, some-cong}
 use Rattle.mask.specs.TablesLaws.{table-cong}
@@ -17,7 +15,6 @@ use Rattle.machine.specs.Machines.{matched, moves, starts, successors, nC, nA, 
 use Rattle.machine.specs.WellFormedLaws.{WellPair, well-valid}
 use Rattle.machine.specs.Lassos.{Lasso, moment}
 use Rattle.machine.specs.Step.{partner, stateOf}
-use Rattle.machine.specs.PartnerLaws.{partner-same}
 use Rattle.machine.specs.Table.{tableRoom, entry, SameEntries}
 use Rattle.machine.specs.EntriesLaws.{entry-same, covers-same, lines-same, verdict-same}
 use Rattle.machine.specs.Lines.{nonBlank}
@@ -25,7 +22,7 @@ use Rattle.machine.specs.Verdict.{linesVerdict, checkVerdict}
 use Rattle.machine.specs.VerdictLaws.{check-lines}
 use Rattle.machine.specs.Player.{Place, startPartner, startValidity, sectionAfter, follow, stepTo, placeAt, samePlace, lastRound, earlierRound, stemLength, loopLength, run, played, playValidity, allValidity, playerAnswer, playerBuffer}
 use Rattle.soundness.specs.PlayLaws.{play-at}
-use Rattle.soundness.specs.AnswerLaws.{Covered}
+use Rattle.soundness.specs.AnswerLaws.{partner-below, Covered}
 use Rattle.soundness.specs.SoundLaws.{covered-at}
 use Rattle.soundness.specs.PlayerLaws.{GoodLasso, good-lasso, good-play, Playable, playable}
 
@@ -60,11 +57,8 @@ module _ (p : Pair) (T U : List ℕ) (same : SameEntries p T U) where
   partner-unread : (moves j d : ℕ) → j < setsA p → d < nC p → ((i : ℕ) → i < 64 → hasBit moves i ≡ true → i < nA p)
       → partner moves (nonBlank p T j d) (entry p T j d) ≡ partner moves (nonBlank p U j d) (entry p U j d)
   unfolding nonBlank
-  partner-unread moves j d hj hd moved = partner-same moves moves _ _ _ _
-      (λ i h. ⊎-elim
-      (λ m. ap (λ b. and (hasBit moves i) (and (matched p d i) b)) (covers-same p T U same j d i hj hd (moved i h m)))
-      (λ m. and-false-l _ m ∙ sym (and-false-l _ m)) (dec (hasBit moves i)))
-      (λ i h t. entry-same p T U same j d i hj hd (moved i h (and-l _ _ t)))
+  partner-unread moves j d hj hd moved = partner-below moves (nA p) _ _ _ _ moved
+      (λ i h. ap (and (matched p d i)) (covers-same p T U same j d i hj hd h)) (λ i h. entry-same p T U same j d i hj hd h)
 
   module _ (w : WellPair p) where
     start-unread : (c : ℕ) → c < nC p → startPartner p T c ≡ startPartner p U c

@@ -1,3 +1,4 @@
+-- The tests are made in the order of the definition; position i is entered rightly where neither of the first two holds.
 use mathlib.Core.Logic.{⊎-elim}
 use native.Mathlib.Omega.{arith}
 use borrow.Author.Needs.{needs}
@@ -33,20 +34,11 @@ returns-3 c =
     bad-entry _ _ _ _ (c .before .before .before .before .before .before .state-at .ensures) (c .before .before .before .if2 .left)
     _ (c .before .before .state-at2 .ensures) _ (c .before .moves-to .ensures) (c .if4 .taken)
 
-add-last : tie.Need-add-last
-add-last c = search needs
-
-sub-last : tie.Need-sub-last
-sub-last c = search needs
-
 entered : (c : tie.Joined2) → let x = c .before .before .before .before .before .before .args in Entered (x .m) (given (x .stem .now) (x .cycle .now)) (x .i)
 entered c = ⊎-elim
     (λ w. good-start _ _ _ _ (c .before .before .before .state-at .ensures) (w .0 .taken) _ (w .1 .ensures) (w .2 .left))
     (λ w. good-entry _ _ _ _ (c .before .before .before .state-at .ensures) (w .0 .left) _ (w .1 .ensures) _ (w .2 .ensures) (w .3 .left))
     (c .if2 .came)
-
-returns-4 : tie.Need-returns-4
-returns-4 c = good-before _ _ _ _ (c .before .before .before .before .state-at .ensures) (c .before .before .if1 .left) (entered (c .before)) (omega arith)
 
 state-at-requires-3 : tie.Need-state-at-requires-3
 state-at-requires-3 c κs = search needs
@@ -54,10 +46,22 @@ state-at-requires-3 c κs = search needs
 moves-to-requires-2 : tie.Need-moves-to-requires-2
 moves-to-requires-2 c κs = search needs
 
+add-if5 : tie.Need-add-if5
+add-if5 c = search needs
+
+add-if5-2 : tie.Need-add-if5-2
+add-if5-2 c = search needs
+
+returns-4 : tie.Need-returns-4
+returns-4 c =
+    let d = c .before .before .before in
+    good-before _ _ _ _ (d .before .before .before .state-at .ensures) (d .before .if1 .left) (entered d) (omega arith)
+
 returns-5 : tie.Need-returns-5
 returns-5 c =
-    closing _ _ _ _ (c .before .before .before .before .before .before .state-at .ensures) (c .before .before .before .before .if1 .left) (entered (c .before .before .before)) (omega arith)
-    _ (c .before .state-at3 .ensures) _ (c .moves-to2 .ensures)
+    let d = c .before .before .before in
+    closing _ _ _ _ (d .before .before .before .state-at .ensures) (d .before .if1 .left) (entered d) (omega arith)
+    _ (c .before .before .state-at3 .ensures) _ (c .before .moves-to2 .ensures)
 
 pub bad-step-spec : {M : Type 1} → statement M
 bad-step-spec =
@@ -71,9 +75,9 @@ bad-step-spec =
     state-at-requires-2
     moves-to-requires
     returns-3
-    add-last
-    sub-last
-    returns-4
     state-at-requires-3
     moves-to-requires-2
+    add-if5
+    add-if5-2
+    returns-4
     returns-5)

@@ -1,17 +1,18 @@
-use mathlib.Core.Bool.{true, false}
+-- At the loops' heads no earlier position is wrong and no earlier set is missed; each return is the first refusal of the definition's order.
+use mathlib.Core.Bool.{false}
 use mathlib.Core.Path.{_≡_, sym, ap, _∙_}
 use Prim.Native.Nat.{ℕ, _-_, _≤_, _<_}
 use native.Mathlib.Numerals.{add-one}
 use native.Mathlib.Omega.{arith}
-use lib.ListN.{getD}
+use lib.ListN.{length, getD}
 use borrow.Author.Count.{below-none, below-more}
 use borrow.Author.Needs.{needs}
-use Rattle.machine.specs.declared.Validity.the-variants.{Refused}
-use Rattle.machine.specs.Refusals.{refusal, unfair-lasso}
+use Rattle.machine.specs.Refusals.{refused, testedOf, refusal, unfair-lasso}
 use Rattle.machine.specs.Lassos.{Lasso, lassoLength}
-use Rattle.machine.specs.Player.{badLength, badStep, lassoValidity}
+use Rattle.machine.specs.Player.{badLength, badStep}
+use Rattle.soundness.specs.PlayerLaws.{good-length}
 use Rattle.player.specs.Given.{given, noneIn}
-use Rattle.player.specs.LassoLaws.{empty-loop, over-long, fit-length, missed-is, refused-length, refused-step, refused-set, not-refused}
+use Rattle.player.specs.LassoLaws.{missed-is, refused-length, refused-step, refused-set, not-refused}
 use Rattle.player.proofs.lasso_validity.Statement.{statement}
 use Rattle.player.proofs.lasso_validity.Tie as tie
 
@@ -28,56 +29,50 @@ abbrev μ-loop2 : tie.MeasureT-loop2
 μ-loop2 stem cycle whole fairness k₀ k-end k = k-end - k
 
 -- what is given
-abbrev top : tie.After-stopped Inv-loop μ-loop Inv-loop2 μ-loop2 → tie.Start Inv-loop μ-loop Inv-loop2 μ-loop2
+abbrev top : tie.After-bad-length Inv-loop μ-loop Inv-loop2 μ-loop2 → tie.Start Inv-loop μ-loop Inv-loop2 μ-loop2
 top c = c .before .before .before
 
-abbrev lasso : tie.After-stopped Inv-loop μ-loop Inv-loop2 μ-loop2 → Lasso
+abbrev lasso : tie.After-bad-length Inv-loop μ-loop Inv-loop2 μ-loop2 → Lasso
 lasso c = given (top c .args .stem .now) (top c .args .cycle .now)
 
--- 13 is refused
-unfit : (c : tie.After-stopped Inv-loop μ-loop Inv-loop2 μ-loop2) → badLength (lasso c) ≡ true → Refused (c .stopped .result) ≡ lassoValidity (top c .args .m) (lasso c)
-unfit c e = ap Refused (c .stopped .ensures) ∙ sym (refused-length (top c .args .m) (lasso c) e)
+bad-length-requires : tie.Need-bad-length-requires Inv-loop μ-loop Inv-loop2 μ-loop2
+bad-length-requires c κs = search needs
 
-stopped-requires : tie.Need-stopped-requires Inv-loop μ-loop Inv-loop2 μ-loop2
-stopped-requires c κs = search needs
+refuse-requires : tie.Need-refuse-requires Inv-loop μ-loop Inv-loop2 μ-loop2
+refuse-requires c κs = search needs
 
 returns : tie.Need-returns Inv-loop μ-loop Inv-loop2 μ-loop2
-returns c = unfit (c .before) (empty-loop (lasso (c .before)) (c .if1 .taken))
-
-returns-2 : tie.Need-returns-2 Inv-loop μ-loop Inv-loop2 μ-loop2
-returns-2 c = unfit (c .before .before) (over-long (lasso (c .before .before)) (omega arith))
-
-returns-3 : tie.Need-returns-3 Inv-loop μ-loop Inv-loop2 μ-loop2
-returns-3 c = unfit (c .before .before .before) (over-long (lasso (c .before .before .before)) (omega arith))
-
-add-whole : tie.Need-add-whole Inv-loop μ-loop Inv-loop2 μ-loop2
-add-whole c = search needs
-
-returns-4 : tie.Need-returns-4 Inv-loop μ-loop Inv-loop2 μ-loop2
-returns-4 c = unfit (c .before .before .before .before) (over-long (lasso (c .before .before .before .before)) (c .if4 .taken))
+unfolding testedOf
+returns c =
+    let b = c .before .before in
+    ap refused (c .refuse .ensures) ∙ sym (refused-length (top b .args .m) (lasso b) (sym (b .bad-length .ensures) ∙ c .before .if1 .taken))
 
 -- 13 is not refused
-abbrev begun : tie.Else4 Inv-loop μ-loop Inv-loop2 μ-loop2 → tie.After-stopped Inv-loop μ-loop Inv-loop2 μ-loop2
-begun c = c .before .before .before .before
+fit : (c : tie.Else1 Inv-loop μ-loop Inv-loop2 μ-loop2) → badLength (lasso (c .before)) ≡ false
+fit c = sym (c .before .bad-length .ensures) ∙ c .if1 .left
 
-fit : (c : tie.Else4 Inv-loop μ-loop Inv-loop2 μ-loop2) → badLength (lasso (begun c)) ≡ false
-fit c = fit-length (lasso (begun c)) (c .before .before .before .if1 .left) (c .if4 .left)
+sized : (c : tie.Else1 Inv-loop μ-loop Inv-loop2 μ-loop2) → (0 < length (lasso (c .before) .loop)) × (lassoLength (lasso (c .before)) ≤ 64)
+sized c = good-length (top (c .before) .args .m) (lasso (c .before)) (fit c)
+
+add-whole : tie.Need-add-whole Inv-loop μ-loop Inv-loop2 μ-loop2
+add-whole c = omega (arith, sized c)
 
 loop-holds : tie.Need-loop-holds Inv-loop μ-loop Inv-loop2 μ-loop2
 loop-holds c = (search needs, below-none _)
 
 bad-step-requires : tie.Need-bad-step-requires Inv-loop μ-loop Inv-loop2 μ-loop2
-bad-step-requires c κs = search needs
+bad-step-requires c κs = let q = sized (c .before .before) in (q .0, (q .1, c .loop-test .taken))
 
-stopped-requires-2 : tie.Need-stopped-requires-2 Inv-loop μ-loop Inv-loop2 μ-loop2
-stopped-requires-2 c κs = search needs
+refuse-requires-2 : tie.Need-refuse-requires-2 Inv-loop μ-loop Inv-loop2 μ-loop2
+refuse-requires-2 c κs = search needs
 
-returns-5 : tie.Need-returns-5 Inv-loop μ-loop Inv-loop2 μ-loop2
-returns-5 c =
+returns-2 : tie.Need-returns-2 Inv-loop μ-loop Inv-loop2 μ-loop2
+unfolding testedOf
+returns-2 c =
     let d = c .before .before .before .before .before in
     let l = c .before .before .before .before .loop in
-    ap Refused (c .stopped2 .ensures) ∙ sym (refused-step (top (begun d) .args .m) (lasso (begun d)) (fit d) (l .i) (omega arith)
-    (sym (c .before .before .bad-step .ensures) ∙ c .before .if5 .taken) (l .inv .1))
+    ap refused (c .refuse2 .ensures) ∙ sym (refused-step (top (d .before) .args .m) (lasso (d .before)) (fit d) (l .i) (omega arith)
+    (sym (c .before .before .bad-step .ensures) ∙ c .before .if2 .taken) (l .inv .1))
 
 add-i : tie.Need-add-i Inv-loop μ-loop Inv-loop2 μ-loop2
 add-i c = search needs
@@ -86,21 +81,21 @@ loop-less : tie.Need-loop-less Inv-loop μ-loop Inv-loop2 μ-loop2
 loop-less c = search needs
 
 loop-again : tie.Need-loop-again Inv-loop μ-loop Inv-loop2 μ-loop2
-loop-again c = (search needs, below-more _ _ (c .before .before .before .loop .inv .1) (sym (c .before .bad-step .ensures) ∙ c .if5 .left))
+loop-again c = (search needs, below-more _ _ (c .before .before .before .loop .inv .1) (sym (c .before .bad-step .ensures) ∙ c .if2 .left))
 
 loop2-holds : tie.Need-loop2-holds Inv-loop μ-loop Inv-loop2 μ-loop2
 loop2-holds c = (search needs, below-none _)
 
 -- 14 is not refused
-abbrev passed : tie.At-loop2 Inv-loop μ-loop Inv-loop2 μ-loop2 → tie.Else4 Inv-loop μ-loop Inv-loop2 μ-loop2
+abbrev passed : tie.At-loop2 Inv-loop μ-loop Inv-loop2 μ-loop2 → tie.Else1 Inv-loop μ-loop Inv-loop2 μ-loop2
 passed c = c .before .before .before .before
 
-stepped : (c : tie.At-loop2 Inv-loop μ-loop Inv-loop2 μ-loop2) → let d = begun (passed c) in
+stepped : (c : tie.At-loop2 Inv-loop μ-loop Inv-loop2 μ-loop2) → let d = passed c .before in
     (i : ℕ) → i < lassoLength (lasso d) → badStep (top d .args .m) (lasso d) i ≡ false
 stepped c i h = c .before .before .before .loop .inv .1 i (omega arith)
 
 few : (c : tie.In-loop2 Inv-loop μ-loop Inv-loop2 μ-loop2) → c .before .loop2 .k < 8
-few c = omega (arith, top (begun (passed (c .before))) .pre)
+few c = omega (arith, top (passed (c .before) .before) .pre)
 
 mul-misses : tie.Need-mul-misses Inv-loop μ-loop Inv-loop2 μ-loop2
 mul-misses c = omega (arith, few c)
@@ -111,21 +106,22 @@ array-read-misses c = few c
 misses-requires : tie.Need-misses-requires Inv-loop μ-loop Inv-loop2 μ-loop2
 misses-requires c κs = search needs
 
-add-stopped : tie.Need-add-stopped Inv-loop μ-loop Inv-loop2 μ-loop2
-add-stopped c = omega (arith, few (c .before .before))
+add-refuse : tie.Need-add-refuse Inv-loop μ-loop Inv-loop2 μ-loop2
+add-refuse c = omega (arith, few (c .before .before))
 
-stopped-requires-3 : tie.Need-stopped-requires-3 Inv-loop μ-loop Inv-loop2 μ-loop2
-stopped-requires-3 c κs = search needs
+refuse-requires-3 : tie.Need-refuse-requires-3 Inv-loop μ-loop Inv-loop2 μ-loop2
+refuse-requires-3 c κs = search needs
 
-returns-6 : tie.Need-returns-6 Inv-loop μ-loop Inv-loop2 μ-loop2
-returns-6 c =
+returns-3 : tie.Need-returns-3 Inv-loop μ-loop Inv-loop2 μ-loop2
+unfolding testedOf
+returns-3 c =
     let d = c .before .before .before .before in
-    let b = begun (passed d) in
+    let b = passed d .before in
     let m = top b .args .m in
     let l = lasso b in
-    ap Refused (c .stopped3 .ensures ∙ ap (λ (k : ℕ). refusal unfair-lasso k 0 0) (add-one (d .loop2 .k)))
+    ap refused (c .refuse3 .ensures ∙ ap (λ (k : ℕ). refusal unfair-lasso k 0 0) (add-one (d .loop2 .k)))
     ∙ sym (refused-set m l (fit (passed d)) (stepped d) (d .loop2 .k) (omega arith)
-    (missed-is m l (d .loop2 .k) ∙ sym (c .before .before .misses .ensures) ∙ c .before .if6 .taken)
+    (missed-is m l (d .loop2 .k) ∙ sym (c .before .before .misses .ensures) ∙ c .before .if3 .taken)
     (λ i h. missed-is m l i ∙ d .loop2 .inv .1 i h))
 
 add-k : tie.Need-add-k Inv-loop μ-loop Inv-loop2 μ-loop2
@@ -135,12 +131,13 @@ loop2-less : tie.Need-loop2-less Inv-loop μ-loop Inv-loop2 μ-loop2
 loop2-less c = search needs
 
 loop2-again : tie.Need-loop2-again Inv-loop μ-loop Inv-loop2 μ-loop2
-loop2-again c = (search needs, below-more _ _ (c .before .before .before .loop2 .inv .1) (sym (c .before .misses .ensures) ∙ c .if6 .left))
+loop2-again c = (search needs, below-more _ _ (c .before .before .before .loop2 .inv .1) (sym (c .before .misses .ensures) ∙ c .if3 .left))
 
-returns-7 : tie.Need-returns-7 Inv-loop μ-loop Inv-loop2 μ-loop2
-returns-7 c =
+returns-4 : tie.Need-returns-4 Inv-loop μ-loop Inv-loop2 μ-loop2
+unfolding testedOf
+returns-4 c =
     let d = c .before in
-    let b = begun (passed d) in
+    let b = passed d .before in
     let m = top b .args .m in
     let l = lasso b in
     sym (not-refused m l (fit (passed d)) (stepped d) (λ k h. missed-is m l k ∙ d .loop2 .inv .1 k (omega arith)))
@@ -153,16 +150,14 @@ lasso-validity-spec =
     μ-loop
     Inv-loop2
     μ-loop2
-    stopped-requires
+    bad-length-requires
+    refuse-requires
     returns
-    returns-2
-    returns-3
     add-whole
-    returns-4
     loop-holds
     bad-step-requires
-    stopped-requires-2
-    returns-5
+    refuse-requires-2
+    returns-2
     add-i
     loop-less
     loop-again
@@ -170,10 +165,10 @@ lasso-validity-spec =
     mul-misses
     array-read-misses
     misses-requires
-    add-stopped
-    stopped-requires-3
-    returns-6
+    add-refuse
+    refuse-requires-3
+    returns-3
     add-k
     loop2-less
     loop2-again
-    returns-7)
+    returns-4)

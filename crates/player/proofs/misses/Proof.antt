@@ -1,3 +1,4 @@
+-- At the loop's head no earlier state of the loop is in the mask.
 use mathlib.Core.Bool.{false}
 use mathlib.Core.Path.{_≡_, sym, _∙_}
 use Prim.Native.Nat.{ℕ, _-_, _≤_, _<_}

@@ -1,3 +1,4 @@
+-- A machine has 64 successor masks, so that a state past them has no successor.
 use mathlib.Core.Path.{_≡_, sym}
 use native.Mathlib.Omega.{arith}
 use lib.ListN.{length}

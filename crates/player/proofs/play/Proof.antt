@@ -1,25 +1,26 @@
+-- The tests are made in document 01's order, and each return is the first that refuses; where none does, the run is the rule's.
 use mathlib.Core.List.{[], _∷_}
-use mathlib.Core.Path.{_≡_, sym, ap, _∙_}
+use mathlib.Core.Path.{_≡_, refl, sym, ap, _∙_}
 use Prim.Native.Nat.{ℕ}
 use native.Mathlib.Omega.{arith}
 use borrow.Author.Needs.{needs}
 use denote.Enum.Declared.{tagOf}
 use types.Run.{OneOf, miss}
 use Rattle.machine.specs.declared.Partner.the-variants.{State}
-use Rattle.machine.specs.declared.Refusal.{Refusal}
-use Rattle.machine.specs.declared.Validity.the-variants.{Valid, Refused as Stopped}
+use Rattle.machine.specs.Refusals.{valid, answer, refused}
+use Rattle.machine.specs.RefusalsLaws.{tested-valid, tested-refused}
 use Rattle.machine.specs.Machines.{starts}
 use Rattle.machine.specs.WellFormedLaws.{WellPair, well-valid}
 use Rattle.machine.specs.Lassos.{Lasso, moment}
 use Rattle.machine.specs.Step.{partner, stateOf}
 use Rattle.machine.specs.Table.{entry}
 use Rattle.machine.specs.Lines.{nonBlank}
-use Rattle.machine.specs.Verdict.{refused as check-refused}
+use Rattle.machine.specs.Verdict.{Verdict, carried, notCarried}
 use Rattle.machine.specs.Player.{lassoValidity, startPartner}
-use Rattle.linecheck.specs.declared.Answer.{Answer}
-use Rattle.linecheck.specs.declared.Answer.the-variants.{Carried, NotCarried, Refused}
+use Rattle.linecheck.specs.declared.Checked.{Checked}
+use Rattle.linecheck.specs.declared.Checked.the-variants.{Carried, NotCarried, Refused}
 use Rattle.linecheck.specs.Answers.{verdictOf}
-use Rattle.linecheck.proofs.Answer as answer
+use Rattle.linecheck.proofs.Checked as said
 use Rattle.soundness.specs.PlayerLaws.{GoodLasso, good-lasso, Playable, playable}
 use Rattle.player.specs.Answers.{playedOf}
 use Rattle.player.specs.Given.{given}
@@ -34,16 +35,16 @@ top c = c .before .before .before .before .before
 abbrev lasso : tie.Else1 → Lasso
 lasso c = given (top c .args .stem .now) (top c .args .cycle .now)
 
-stopped-requires : tie.Need-stopped-requires
-stopped-requires c κs = search needs
+refuse-requires : tie.Need-refuse-requires
+refuse-requires c κs = search needs
 
 returns : tie.Need-returns
 returns c =
     let s = c .before .before .before .before .before .before in
     let x = s .args in
     let l = given (x .stem .now) (x .cycle .now) in
-    stopped-by (x .p) (x .table .now) l (x .run .now) (c .stopped .result)
-    (short-run (x .p) (x .table .now) l (x .run .now) (c .before .if1 .taken) ∙ ap Stopped (sym (c .stopped .ensures)))
+    stopped-by (x .p) (x .table .now) l (x .run .now) (c .refuse .result)
+    (short-run (x .p) (x .table .now) l (x .run .now) (c .before .if1 .taken) ∙ ap refused (sym (c .refuse .ensures)))
 
 check-table-requires : tie.Need-check-table-requires
 check-table-requires c κs = search needs
@@ -62,17 +63,17 @@ returns-2 c =
     (sym (c .before .before .before .check-table .ensures) ∙ ap verdictOf (c .before .checked .given .1)))
 
 -- the check has refused nothing
-never : (a : Answer) (r : Refusal) → OneOf (0 ∷ 1 ∷ []) (tagOf answer.the-type a) → verdictOf a ≡ check-refused r → ⊥
+taken : (a : Checked) → OneOf (0 ∷ 1 ∷ []) (tagOf said.the-type a) → (v : Verdict) × (verdictOf a ≡ answer v)
 unfolding verdictOf
-never (Carried n) r k e = let z : _≡_ {A = ℕ} 0 1 = cc in omega arith
-never (NotCarried c n) r k e = let z : _≡_ {A = ℕ} 0 1 = cc in omega arith
-never (Refused s) r k e = miss (0 ∷ 1 ∷ []) 2 tt k
+taken (Carried n) k = (carried n, refl)
+taken (NotCarried c n) k = (notCarried c n, refl)
+taken (Refused s) k = absurd (miss (0 ∷ 1 ∷ []) 2 tt k)
 
 passes : (c : tie.At-match-keys2) → let d = c .before .before in Passes (top d .args .p) (top d .args .table .now)
 passes c =
     let d = c .before .before in
     check-passes (top d .args .p) (top d .args .table .now)
-    (λ r e. never (c .before .check-table .result) r (c .match .keys2) (c .before .check-table .ensures ∙ e))
+    (sym (c .before .check-table .ensures) ∙ taken (c .before .check-table .result) (c .match .keys2) .1)
 
 well : (c : tie.At-match-keys2) → WellPair (top (c .before .before) .args .p)
 well c = well-valid (top (c .before .before) .args .p) (passes c .pair)
@@ -91,7 +92,7 @@ returns-3 c =
     let r = c .before .tested .given .0 .0 in
     stopped-by (x .p) (x .table .now) (lasso d) (x .run .now) r
     (lasso-stops (x .p) (x .table .now) (lasso d) (x .run .now) (d .if1 .left) (passes m) r
-    (sym (c .before .before .before .lasso-validity .ensures) ∙ c .before .tested .given .1))
+    (tested-refused (c .before .before .before .lasso-validity .ensures) (c .before .tested .given .1)))
 
 enum-told : tie.Need-enum-told
 enum-told c = search needs
@@ -100,8 +101,8 @@ enum-told c = search needs
 abbrev checked : tie.After-enum-told → tie.At-match-keys2
 checked c = c .before .before .before
 
-tested : (c : tie.After-enum-told) → let d = checked c .before .before in lassoValidity (top d .args .p .concrete) (lasso d) ≡ Valid
-tested c = sym (c .before .before .lasso-validity .ensures) ∙ c .enum-told .given .1
+tested : (c : tie.After-enum-told) → let d = checked c .before .before in lassoValidity (top d .args .p .concrete) (lasso d) ≡ valid
+tested c = tested-valid (c .before .before .lasso-validity .ensures) (c .enum-told .given .1)
 
 good : (c : tie.After-enum-told) → let d = checked c .before .before in GoodLasso (top d .args .p .concrete) (lasso d)
 good c = let d = checked c .before .before in good-lasso (top d .args .p .concrete) (lasso d) (tested c)
@@ -143,8 +144,8 @@ enum-known-first c = search needs
 enum-told-2 : tie.Need-enum-told-2
 enum-told-2 c = search needs
 
-stopped-requires-2 : tie.Need-stopped-requires-2
-stopped-requires-2 c κs = search needs
+refuse-requires-2 : tie.Need-refuse-requires-2
+refuse-requires-2 c κs = search needs
 
 returns-4 : tie.Need-returns-4
 returns-4 c =
@@ -152,9 +153,9 @@ returns-4 c =
     let m = checked (begun b) in
     let d = m .before .before in
     let x = top d .args in
-    stopped-by (x .p) (x .table .now) (lasso d) (x .run .now) (c .stopped2 .result)
+    stopped-by (x .p) (x .table .now) (lasso d) (x .run .now) (c .refuse2 .result)
     (start-stops (x .p) (x .table .now) (lasso d) (x .run .now) (d .if1 .left) (passes m) (tested (begun b)) (sym (first-is b) ∙ c .before .enum-told2 .given .1)
-    ∙ ap Stopped (sym (c .stopped2 .ensures)))
+    ∙ ap refused (sym (c .refuse2 .ensures)))
 
 -- nothing is refused
 named : (c : tie.After-best-partner) (a : ℕ) → c .best-partner .result ≡ State a → let d = checked (begun c) .before .before in
@@ -200,7 +201,7 @@ pub play-spec : {M : Type 1} → statement M
 play-spec =
     tie.close
     (tie.spec
-    stopped-requires
+    refuse-requires
     returns
     check-table-requires
     enum-known-checked
@@ -214,7 +215,7 @@ play-spec =
     best-partner-requires
     enum-known-first
     enum-told-2
-    stopped-requires-2
+    refuse-requires-2
     returns-4
     write-run-requires
     same-length

@@ -1,3 +1,4 @@
+-- Before the stem's end the moment is a stem state, and from there on a state of the loop's first round.
 use mathlib.Core.Path.{sym}
 use Prim.Native.Nat.{_-_}
 use native.Mathlib.Omega.{arith}

@@ -1,3 +1,4 @@
+-- The two arms are the definition's; positions and rounds are few, so that no sum overflows.
 use mathlib.Core.Path.{sym}
 use native.Mathlib.Numerals.{add-one}
 use native.Mathlib.Omega.{arith}

@@ -1,3 +1,4 @@
+-- Section and state are the rule's beside the states at this position and the next, and the places ahead are the lasso's.
 use mathlib.Core.Bool.{cond}
 use mathlib.Core.Path.{_≡_, sym, ap, subst, _∙_}
 use Prim.Native.Nat.{ℕ, _<_}
@@ -8,12 +9,12 @@ use borrow.Author.Needs.{needs}
 use Rattle.machine.specs.Machines.{nC, nA, setsA, moves, successors, next}
 use Rattle.machine.specs.Lassos.{Lasso, moment}
 use Rattle.machine.specs.Step.{partner, stateOf}
-use Rattle.machine.specs.Table.{entryIndex, entry}
+use Rattle.machine.specs.Table.{tableRoom, entryIndex, entry}
 use Rattle.machine.specs.Lines.{nonBlank}
 use Rattle.player.specs.declared.Place.{Place}
 use Rattle.player.specs.Given.{given}
 use Rattle.player.specs.Places.{onward, Placed}
-use Rattle.player.specs.RowLaws.{index-lt}
+use Rattle.player.specs.RowLaws.{index-is, index-lt}
 use Rattle.player.specs.PlaceLaws.{onward-placed, beside-lt, state-lt, section-lt, after-lt, steps-on}
 use Rattle.player.proofs.Place.step.Statement.{statement}
 use Rattle.player.proofs.Place.step.Tie as tie
@@ -36,24 +37,32 @@ state-at-requires c κs = search needs
 b-lt : (c : tie.After-state-at) → c .state-at .result < nC (top (c .before) .args .p)
 b-lt c = let r = top (c .before) .pre in omega (arith, c .state-at .ensures, beside-lt (r .1 .0) (r .1 .1 .0 .placed))
 
--- the entry lies within the table
-entry-lt : (c : tie.After-state-at) → let x = top (c .before) .args in
-    entryIndex (nC (x .p)) (nA (x .p)) (x .self .j) (c .state-at .result) (x .self .a) < 28672
-entry-lt c =
-    let d = c .before in
+-- the entry's place
+place-of : (c : tie.After-entry-index) → let b = c .before in let x = top (b .before) .args in
+    c .entry-index .result ≡ entryIndex (nC (x .p)) (nA (x .p)) (x .self .j) (b .state-at .result) (x .self .a)
+place-of c =
+    let b = c .before in
+    let d = b .before in
     let x = top d .args in
-    index-lt (x .p) (top d .pre .0 .well) (x .self .j) (c .state-at .result) (j-lt d) (b-lt c) (x .self .a) (a-lt d)
+    let w = top d .pre .0 .well in
+    index-is (x .p) w _ (x .self .j) (b .state-at .result) (j-lt d) (b-lt b) (x .self .a) (c .entry-index .ensures) (omega (arith, a-lt d, w .abstraction .states-high))
+
+-- lies within the table
+place-lt : (c : tie.After-entry-index) → c .entry-index .result < tableRoom
+place-lt c =
+    let b = c .before in
+    let d = b .before in
+    let x = top d .args in
+    index-lt (x .p) (top d .pre .0 .well) _ (x .self .j) (b .state-at .result) (j-lt d) (b-lt b) (x .self .a) (place-of c) (a-lt d)
 
 entry-index-requires : tie.Need-entry-index-requires
-entry-index-requires c κs =
-    let w = top (c .before) .pre .0 .well in
-    omega (arith, j-lt (c .before), b-lt c, a-lt (c .before), w .abstraction .sets-high, w .concrete .states-high, w .abstraction .states-high)
+entry-index-requires c κs = search needs
 
 mul-e : tie.Need-mul-e
-mul-e c = omega (arith, c .entry-index .ensures, entry-lt (c .before))
+mul-e c = omega (arith, place-lt c)
 
 shared-slice-read-e : tie.Need-shared-slice-read-e
-shared-slice-read-e c = omega (arith, c .before .entry-index .ensures, entry-lt (c .before .before), top (c .before .before .before) .pre .0 .long)
+shared-slice-read-e c = omega (arith, place-lt (c .before), top (c .before .before .before) .pre .0 .long)
 
 add-onward : tie.Need-add-onward
 add-onward c = search needs
@@ -62,7 +71,7 @@ onward-requires : tie.Need-onward-requires
 onward-requires c κs = search needs
 
 section-after-requires : tie.Need-section-after-requires
-section-after-requires c κs = j-lt (c .before .before .before .before)
+section-after-requires c κs = search needs
 
 -- the place ahead
 abbrev begun : tie.After-section-after → tie.After-successors
@@ -112,7 +121,7 @@ unfolding entry
 ruled-section c =
     let x = top (begun c) .args in
     let j = x .self .j in
-    let i = c .before .before .before .entry-index .ensures
+    let i = place-of (c .before .before .before)
     ∙ ap (λ (b : ℕ). entryIndex (nC (x .p)) (nA (x .p)) j b (x .self .a)) (c .before .before .before .before .state-at .ensures) in
     c .section-after .ensures ∙ ap (λ (i : ℕ). cond (eqb (getD (x .table .now) i 0) 0) (next (setsA (x .p)) j) j) i
 
