@@ -2,14 +2,11 @@
 use mathlib.Core.Bool.{Bool, cond}
 use mathlib.Core.List.{List}
 use Prim.Native.Nat.{ℕ, zero, suc, _+_, _*_, _/_, _%_}
-use lib.ListN.{length, getD, set}
+use lib.ListN.{length, getD, set, replicate}
 use lib.Dec.{ltb}
-use Rattle.mask.specs.Tables.{table}
 use Rattle.machine.specs.declared.Pair.{Pair}
-use Rattle.machine.specs.declared.Validity.{Validity}
-use Rattle.machine.specs.declared.Validity.the-variants.{Valid, Refused}
 use Rattle.machine.specs.Machines.{nA, setsC, pairs}
-use Rattle.machine.specs.Refusals.{andThen, bufferValidity}
+use Rattle.machine.specs.Refusals.{andThen, bufferValidity, bufferAfter}
 use Rattle.machine.specs.WellFormed.{pairValidity}
 use Rattle.machine.specs.Table.{blank, entries, tableRoom}
 use Rattle.machine.specs.Lines.{passes, passesEach}
@@ -17,10 +14,6 @@ use Rattle.machine.specs.Lines.{passes, passesEach}
 -- the entry after r: one more, and blank after the greatest rank
 unfoldable pub raised : ℕ → ℕ → ℕ
 raised most r = cond (ltb r most) (r + 1) blank
-
--- the first n entries 0
-unfoldable pub zeroed : ℕ → List ℕ → List ℕ
-zeroed n T = table (length T) (λ e. cond (ltb e n) 0 (getD T e 0))
 
 module _ (p : Pair) where
   -- entry number e passes its line
@@ -41,13 +34,10 @@ module _ (p : Pair) where
   lifted zero T = T
   lifted (suc n) T = let later = lifted n (swept (entries p) T) in cond (passesEach p T) T later
 
--- the answer where nothing is refused, and else T
-unfoldable pub unlessRefused : Validity → List ℕ → List ℕ → List ℕ
-unlessRefused Valid T S = S
-unlessRefused (Refused r) T S = T
+  -- n × P entries lifted from 0
+  unfoldable pub liftedEntries : List ℕ
+  liftedEntries = lifted (entries p * (setsC p * pairs p + 2)) (replicate (entries p) 0)
 
--- the lifted table, laid over the front of T
+-- the final content of a lent table; one that is short and one of machines that are not well formed are kept
 unfoldable pub liftedTable : Pair → List ℕ → List ℕ
-liftedTable p T =
-    unlessRefused (andThen (bufferValidity tableRoom (length T)) (pairValidity p)) T
-    (lifted p (entries p * (setsC p * pairs p + 2)) (zeroed (entries p) T))
+liftedTable p T = bufferAfter (andThen (bufferValidity tableRoom (length T)) (pairValidity p)) (liftedEntries p) T

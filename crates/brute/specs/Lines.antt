@@ -6,6 +6,7 @@ use Prim.Native.Nat.{ℕ}
 use lib.Dec.{eqb, leb, ltb}
 use Rattle.mask.specs.Logic.{not, and, or}
 use Rattle.machine.specs.declared.Pair.{Pair}
+use Rattle.machine.specs.Refusals.{Result, answer, refused}
 use Rattle.machine.specs.Machines.{matched, setsC}
 use Rattle.machine.specs.Ranks.{levelOf}
 use Rattle.machine.specs.Table.{blank, entry}
@@ -24,7 +25,8 @@ hit (AtMost r) m e = leb e r
 unfoldable pub inTarget : Pair → List ℕ → Target → ℕ → ℕ → ℕ → Bool
 inTarget p T t j c a = and (matched p c a) (hit t (setsC p) (entry p T j c a))
 
-unfoldable pub verdictOf : Verdict → Told.Verdict
-verdictOf (Carried n) = Told.carried n
-verdictOf (NotCarried c n) = Told.notCarried c n
-verdictOf (Refused r) = Told.refused r
+-- what document 01 says for each case of the answer
+unfoldable pub verdictOf : Verdict → Result Told.Verdict
+verdictOf (Carried n) = answer (Told.carried n)
+verdictOf (NotCarried c n) = answer (Told.notCarried c n)
+verdictOf (Refused r) = refused r

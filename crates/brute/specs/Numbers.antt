@@ -18,8 +18,8 @@ digitOf top x (suc i) = digitOf top (x / (top + 1)) i
 
 -- machine number x of a shape: digit 0 is its start mask, digit 1 has the states of observation 1, then come the successor masks, one for
 -- each state, then the sets
-unfoldable pub machineOf : Shape → ℕ → Machine
-machineOf shape x = record {
+unfoldable pub numberedMachine : Shape → ℕ → Machine
+numberedMachine shape x = record {
   states = shape .states;
   sets = shape .sets;
   start = digitOf (shape .top) x 0;
@@ -29,16 +29,16 @@ machineOf shape x = record {
 }
 
 -- the pair of concrete machine number x and abstract machine number y
-unfoldable pub pairOf : Shape → Shape → ℕ → ℕ → Pair
-pairOf concrete abstraction x y = record { concrete = machineOf concrete x; abstraction = machineOf abstraction y }
+unfoldable pub numberedPair : Shape → Shape → ℕ → ℕ → Pair
+numberedPair concrete abstraction x y = record { concrete = numberedMachine concrete x; abstraction = numberedMachine abstraction y }
 
 -- the entry that a digit stands for: blank for 0, and else one less
 unfoldable pub entryOf : ℕ → ℕ
 entryOf d = cond (eqb d 0) blank (d - 1)
 
 -- table number x, of n entries, laid over the front of T
-unfoldable pub numbered : ℕ → ℕ → ℕ → List ℕ → List ℕ
-numbered top x n T = table (length T) (λ e. cond (ltb e n) (entryOf (digitOf top x e)) (getD T e 0))
+unfoldable pub numberedTable : ℕ → ℕ → ℕ → List ℕ → List ℕ
+numberedTable top x n T = table (length T) (λ e. cond (ltb e n) (entryOf (digitOf top x e)) (getD T e 0))
 
 -- the first n digits of x
 unfoldable pub statesOf : ℕ → ℕ → ℕ → List ℕ

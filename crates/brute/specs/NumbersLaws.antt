@@ -6,11 +6,9 @@ use Prim.Native.Nat.{_%_, _+_, _/_, _≤_, min, suc, zero, ℕ}
 use native.Mathlib.Nat.{mod-lt}
 use native.Mathlib.Omega.{arith}
 use lib.Dec.{ltb}
-use lib.Seq.{sets}
 use Rattle.mask.specs.Bits.{hasBit}
 use Rattle.mask.specs.Tables.{table}
-use Rattle.machine.specs.Machines.{successors}
-use Rattle.brute.specs.Numbers.{digitOf, machineOf}
+use Rattle.brute.specs.Numbers.{digitOf, numberedMachine}
 use Rattle.brute.specs.declared.numbers.Shape.{Shape}
 
 pub digit-le : (top x i : ℕ) → digitOf top x i ≤ top
@@ -42,6 +40,6 @@ pub machine-is : (shape : Shape) (x n start : ℕ) (observations successors fair
       successors = successors;
       fairness = fairness;
     }
-    ≡ machineOf shape x
-unfolding machineOf
+    ≡ numberedMachine shape x
+unfolding numberedMachine
 machine-is shape x n start observations successors fairness en es eo em ef = rw (es, eo, em, ef, en)

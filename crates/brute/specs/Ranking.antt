@@ -16,7 +16,7 @@ use Rattle.machine.specs.Table.{blank}
 use Rattle.machine.specs.Lines.{goalLine}
 use Rattle.brute.specs.declared.lines.Target.the-variants.{NonBlank, AtMost}
 use Rattle.brute.specs.Lines.{inTarget}
-use Rattle.brute.specs.Numbers.{numbered}
+use Rattle.brute.specs.Numbers.{numberedTable}
 
 -- rank r for the pairs of set number x that have none yet
 unfoldable pub marked : ℕ → ℕ → List ℕ → List ℕ
@@ -29,7 +29,7 @@ unranked = replicate 64 blank
 module _ (p : Pair) where
   -- the set whose number is x, as a table: 0 for its pairs, and else blank
   unfoldable pub asTable : ℕ → List ℕ
-  asTable x = numbered 1 x (pairs p) unranked
+  asTable x = numberedTable 1 x (pairs p) unranked
 
   module _ (T : List ℕ) (j : ℕ) where
     -- "a goal, or steps into level l − 1, or has c outside rig set k and steps into X": level l − 1 has the entries of R that are at

@@ -16,15 +16,15 @@ use Rattle.mask.specs.LogicLaws.{and-false-l, and-false-r, and-i, and-true-l, c
 use Rattle.mask.specs.TablesLaws.{fill-done}
 use Rattle.machine.specs.Lines.{goalLine}
 use Rattle.machine.specs.Machines.{inFairSet, matched, nA, pairs, setsA, setsC}
+use Rattle.machine.specs.Refusals.{refused}
 use Rattle.machine.specs.Step.{steps}
 use Rattle.machine.specs.Table.{blank}
 use Rattle.machine.specs.WellFormed.{isValid, pairValidity, wellFormed}
 use Rattle.machine.specs.declared.Pair.{Pair}
 use Rattle.machine.specs.declared.Refusal.{Refusal}
-use Rattle.machine.specs.declared.Validity.the-variants.{Refused}
 use Rattle.brute.specs.FillLaws.{Overlaying, overlaying-step}
 use Rattle.brute.specs.Lines.{inTarget}
-use Rattle.brute.specs.Numbers.{numbered}
+use Rattle.brute.specs.Numbers.{numberedTable}
 use Rattle.brute.specs.Ranking.{asTable, closed, keeps, largest, marked, rankOf, ranked, sectionRanked, tableRanked, unranked}
 use Rattle.brute.specs.declared.lines.Target.the-variants.{AtMost, NonBlank}
 
@@ -90,7 +90,7 @@ module _ (p : Pair) (T : List ℕ) (j : ℕ) where
     kept-at S e = keeps p T j R (i / setsC p * setsC p) (i % setsC p) S (e / nA p) (e % nA p)
 
     -- S is set number x as a table
-    module _ (x : ℕ) {S : List ℕ} (s : S ≡ numbered 1 x (pairs p) unranked) where
+    module _ (x : ℕ) {S : List ℕ} (s : S ≡ numberedTable 1 x (pairs p) unranked) where
       pub closed-not : (e : ℕ) → e < pairs p → hasBit x e ≡ true → kept-at S e ≡ false → closed p T j R i x ≡ false
       unfolding closed asTable
       closed-not e h t k = refute _ (λ u. clash (rw (← s) k) (everyIn-at (pairs p) x _ u e h t))
@@ -150,7 +150,7 @@ module _ (p : Pair) (T S : List ℕ) (j : ℕ) {R : List ℕ} (r : R ≡ ranked 
 
 -- ---- the ranks of a table
 module _ (p : Pair) (T S : List ℕ) where
-  pub table-ill : (r : Refusal) → pairValidity p ≡ Refused r → tableRanked p T S ≡ false
+  pub table-ill : (r : Refusal) → pairValidity p ≡ refused r → tableRanked p T S ≡ false
   unfolding tableRanked wellFormed isValid
   table-ill r e = and-false-l _ (rw e)
 

@@ -16,22 +16,21 @@ use Rattle.mask.specs.LogicLaws.{and-false-l, and-false-r, and-i, and-l, and-r,
 use Rattle.machine.specs.Lassos.{Lasso, fromStart, isFair, isLasso, isPlay, lassoLength, moment}
 use Rattle.machine.specs.Machines.{moves, starts}
 use Rattle.machine.specs.Player.{badLength, badStep, lassoValidity, missedSet}
-use Rattle.machine.specs.Refusals.{bad-lasso-length, bad-lasso-step, refusal, unfair-lasso}
+use Rattle.machine.specs.Refusals.{bad-lasso-length, bad-lasso-step, refusal, refused, unfair-lasso, valid}
 use Rattle.machine.specs.declared.Machine.{Machine}
-use Rattle.machine.specs.declared.Validity.the-variants.{Refused, Valid}
-use Rattle.brute.specs.Runs.{lassoOf}
+use Rattle.brute.specs.Runs.{given}
 
 -- ---- moments
 module _ (stem cycle : List ℕ) where
-  pub moment-stem : (t : ℕ) → t < length stem → moment (lassoOf stem cycle) t ≡ getD stem t 0
+  pub moment-stem : (t : ℕ) → t < length stem → moment (given stem cycle) t ≡ getD stem t 0
   unfolding moment
   moment-stem t h = rw (lt-ltb t (length stem) h)
 
-  pub moment-loop : (t : ℕ) → length stem ≤ t → moment (lassoOf stem cycle) t ≡ getD cycle ((t - length stem) % length cycle) 0
+  pub moment-loop : (t : ℕ) → length stem ≤ t → moment (given stem cycle) t ≡ getD cycle ((t - length stem) % length cycle) 0
   unfolding moment
   moment-loop t h = rw (le-ltb t (length stem) h)
 
-  pub moment-none : (t : ℕ) → length stem ≤ t → length cycle ≡ 0 → moment (lassoOf stem cycle) t ≡ 0
+  pub moment-none : (t : ℕ) → length stem ≤ t → length cycle ≡ 0 → moment (given stem cycle) t ≡ 0
   moment-none t h e = moment-loop t h ∙ List·getD-eq-default cycle 0 (omega arith)
 
 -- ---- a lasso, step by step
@@ -90,34 +89,34 @@ module _ (m : Machine) (l : Lasso) where
 
 -- ---- a play, part by part; the stem makes no difference to fairness
 module _ (m : Machine) (stem cycle : List ℕ) where
-  pub fair-loop : isFair m (lassoOf [] cycle) ≡ isFair m (lassoOf stem cycle)
+  pub fair-loop : isFair m (given [] cycle) ≡ isFair m (given stem cycle)
   unfolding isFair
   fair-loop = refl
 
-  pub missed-loop : first (m .sets) (missedSet m (lassoOf [] cycle)) ≡ first (m .sets) (missedSet m (lassoOf stem cycle))
+  pub missed-loop : first (m .sets) (missedSet m (given [] cycle)) ≡ first (m .sets) (missedSet m (given stem cycle))
   unfolding missedSet
   missed-loop = refl
 
-  pub play-stuck : isLasso m (lassoOf stem cycle) ≡ false → isPlay m (lassoOf stem cycle) ≡ false
+  pub play-stuck : isLasso m (given stem cycle) ≡ false → isPlay m (given stem cycle) ≡ false
   unfolding isPlay
   play-stuck t = and-false-l _ t
 
-  module _ (t : isLasso m (lassoOf stem cycle) ≡ true) where
-    pub play-unfair : isFair m (lassoOf stem cycle) ≡ false → isPlay m (lassoOf stem cycle) ≡ false
+  module _ (t : isLasso m (given stem cycle) ≡ true) where
+    pub play-unfair : isFair m (given stem cycle) ≡ false → isPlay m (given stem cycle) ≡ false
     unfolding isPlay
     play-unfair u = and-false-r _ (and-false-l _ u)
 
-    pub play-start : isFair m (lassoOf stem cycle) ≡ true → isPlay m (lassoOf stem cycle) ≡ starts m (moment (lassoOf stem cycle) 0)
+    pub play-start : isFair m (given stem cycle) ≡ true → isPlay m (given stem cycle) ≡ starts m (moment (given stem cycle) 0)
     unfolding isPlay fromStart
     play-start u = and-true-l _ t ∙ and-true-l _ u
 
 -- ---- 13 to 15, part by part
 module _ (m : Machine) (l : Lasso) where
-  pub fits-empty : length (l .loop) ≡ 0 → lassoValidity m l ≡ Refused (refusal bad-lasso-length 0 0 0)
+  pub fits-empty : length (l .loop) ≡ 0 → lassoValidity m l ≡ refused (refusal bad-lasso-length 0 0 0)
   unfolding lassoValidity badLength
   fits-empty e = rw (or-l _ (eq-eqb _ 0 e))
 
-  pub fits-long : 64 < lassoLength l → lassoValidity m l ≡ Refused (refusal bad-lasso-length 0 0 0)
+  pub fits-long : 64 < lassoLength l → lassoValidity m l ≡ refused (refusal bad-lasso-length 0 0 0)
   unfolding lassoValidity badLength
   fits-long h = rw (or-r _ (lt-ltb 64 _ h))
 
@@ -127,15 +126,15 @@ module _ (m : Machine) (l : Lasso) where
     length-right = or-false (ne-eqb _ 0 e) (le-ltb 64 _ h)
 
     module _ (i : ℕ) (ei : i ≡ first (lassoLength l) (badStep m l)) where
-      pub fits-step : i < lassoLength l → lassoValidity m l ≡ Refused (refusal bad-lasso-step i 0 0)
+      pub fits-step : i < lassoLength l → lassoValidity m l ≡ refused (refusal bad-lasso-step i 0 0)
       unfolding lassoValidity
       fits-step k = rw (length-right, ← ei, lt-ltb _ _ k)
 
       module _ (hi : lassoLength l ≤ i) (k : ℕ) (ek : k ≡ first (m .sets) (missedSet m l)) where
-        pub fits-set : k < m .sets → lassoValidity m l ≡ Refused (refusal unfair-lasso (k + 1) 0 0)
+        pub fits-set : k < m .sets → lassoValidity m l ≡ refused (refusal unfair-lasso (k + 1) 0 0)
         unfolding lassoValidity
         fits-set q = rw (length-right, ← ei, ← ek, le-ltb _ _ hi, lt-ltb _ _ q, add-one)
 
-        pub fits-all : m .sets ≤ k → lassoValidity m l ≡ Valid
+        pub fits-all : m .sets ≤ k → lassoValidity m l ≡ valid
         unfolding lassoValidity
         fits-all q = rw (length-right, ← ei, ← ek, le-ltb _ _ hi, le-ltb _ _ q)

@@ -8,7 +8,7 @@ use native.Mathlib.Decide.{decLt}
 use native.Mathlib.Nat.{le-of-lt}
 use native.Mathlib.Numerals.{add-one}
 use native.Mathlib.Omega.{arith}
-use lib.Dec.{T, eqb}
+use lib.Dec.{eqb}
 use lib.ListN.{getD, length}
 use borrow.Author.Tests.{eq-eqb, le-ltb, lt-ltb, ltb-false, ne-eqb}
 use Rattle.mask.specs.Bounded.{first, some}
@@ -19,8 +19,9 @@ use Rattle.machine.specs.Lines.{linesValidity, nonBlank}
 use Rattle.machine.specs.LinesLaws.{covers-at}
 use Rattle.machine.specs.Machines.{moves, nA, nC, setsA, successors}
 use Rattle.machine.specs.PartnerLaws.{least-miss, least-step, limitOf, partner-view}
-use Rattle.machine.specs.Player.{Place, badLength, earlierRound, follow, lassoValidity, lastRound, loopLength, loopStart, placeAt, playValidity, playedUnless, samePlace, sectionAfter, startPartner, startValidity, stemLength, stepTo}
-use Rattle.machine.specs.Refusals.{andThen, no-start-partner, refusal}
+use Rattle.machine.specs.Player.{Place, badLength, earlierRound, follow, lassoValidity, lastRound, loopLength, loopStart, placeAt, playValidity, played, samePlace, sectionAfter, startPartner, startValidity, stemLength, stepTo}
+use Rattle.machine.specs.Refusals.{answer, no-start-partner, refusal, refused, valid}
+use Rattle.machine.specs.RefusalsLaws.{given-of, then-of, then-refused, valid-next}
 use Rattle.machine.specs.Step.{better, found, least, partner, stateOf}
 use Rattle.machine.specs.StepLaws.{next-lt}
 use Rattle.machine.specs.Table.{blank, covers, entry, entryIndex}
@@ -30,28 +31,25 @@ use Rattle.machine.specs.declared.Pair.{Pair}
 use Rattle.machine.specs.declared.Partner.{Partner}
 use Rattle.machine.specs.declared.Partner.the-variants.{Nobody, State}
 use Rattle.machine.specs.declared.Refusal.{Refusal}
-use Rattle.machine.specs.declared.Validity.the-variants.{Refused, Valid}
 use Rattle.brute.specs.Runs.{playedPlain}
-use Rattle.machine.specs.Player.{played, refused}
-use Rattle.machine.specs.RefusalsLaws.{valid-next}
 
 -- the best of the states below n that pass q, and what a later one has to stay below
 pub record Scanned (q : ℕ → Bool) (key : ℕ → ℕ) (n : ℕ) (best : Partner) (limit : ℕ) : Type 0 where
   pub best-is : least n q key ≡ best
-  pub limit-is : limit ≡ limitOf key 65534 best
+  pub limit-is : limit ≡ limitOf key (blank - 1) best
   pub limit-le : limit ≤ blank
 
 module _ (q : ℕ → Bool) (key : ℕ → ℕ) where
-  pub scan-start : Scanned q key 0 Nobody 65535
+  pub scan-start : Scanned q key 0 Nobody blank
   unfolding least limitOf
   scan-start = record { best-is = refl; limit-is = refl; limit-le = omega arith }
 
-  better-below : (n : ℕ) (best : Partner) → key n < limitOf key 65534 best → better key n best ≡ true
+  better-below : (n : ℕ) (best : Partner) → key n < limitOf key (blank - 1) best → better key n best ≡ true
   unfolding better limitOf
   better-below n (State b) h = lt-ltb _ _ h
   better-below n Nobody h = refl
 
-  better-above : (n : ℕ) (best : Partner) → key n < blank → limitOf key 65534 best ≤ key n → better key n best ≡ false
+  better-above : (n : ℕ) (best : Partner) → key n < blank → limitOf key (blank - 1) best ≤ key n → better key n best ≡ false
   unfolding better limitOf
   better-above n (State b) s h = le-ltb _ _ h
   better-above n Nobody s h = absurd (omega arith)
@@ -78,12 +76,12 @@ module _ (q : ℕ → Bool) (key : ℕ → ℕ) where
         (λ t. scan-miss t) (dec (q n))
 
 -- what is not blank is below it
-module _ (p : Pair) (T : List ℕ) (small : (i : ℕ) → getD T i 0 < 65536) where
+module _ (p : Pair) (T : List ℕ) (small : (i : ℕ) → getD T i 0 ≤ blank) where
   pub entry-below : (j c a : ℕ) → covers p T j c a ≡ true → entry p T j c a < blank
   unfolding entry
   entry-below j c a t = let h = covers-at p T j c a t in let s = small (entryIndex (nC p) (nA p) j c a) in below _ s h
     where
-      below : (e : ℕ) → e < 65536 → (e ≡ blank → ⊥) → e < blank
+      below : (e : ℕ) → e ≤ blank → (e ≡ blank → ⊥) → e < blank
       below e s h = by-cases (decLt e blank) (λ l. l) (λ l. absurd (h (omega arith)))
 
 -- ---- places stay within the abstract machine's 64 states and its sections
@@ -150,31 +148,39 @@ module _ (p : Pair) (T : List ℕ) (l : Lasso) where
   last-none b = first-none 449 _ b
 
 -- ---- the answer, case by case
-pub valid-length : (m : Machine) (l : Lasso) → lassoValidity m l ≡ Valid → lassoLength l ≤ 64
+pub valid-length : (m : Machine) (l : Lasso) → lassoValidity m l ≡ valid → lassoLength l ≤ 64
 unfolding lassoValidity badLength
 valid-length m l e = ltb-false 64 _ (or-none _ _ (valid-next _ _ _ e .0) .1)
 
 module _ (p : Pair) (T : List ℕ) (l : Lasso) where
-  pub played-ill : (r : Refusal) → pairValidity p ≡ Refused r → playedPlain p T l ≡ refused r
-  unfolding playedPlain playValidity andThen playedUnless
-  played-ill r e = rw e
+  played-refused : (r : Refusal) → playValidity p T l ≡ refused r → playedPlain p T l ≡ refused r
+  unfolding playedPlain
+  played-refused r e = then-refused _ _ r e
 
-  module _ (v : pairValidity p ≡ Valid) where
-    pub played-fail : (r : Refusal) → linesValidity p T ≡ Refused r → playedPlain p T l ≡ refused r
-    unfolding playedPlain playValidity andThen playedUnless
-    played-fail r e = rw (v, e)
+  pub played-ill : (r : Refusal) → pairValidity p ≡ refused r → playedPlain p T l ≡ refused r
+  unfolding playValidity
+  played-ill r e = played-refused r (then-refused _ _ r e)
 
-    module _ (t : linesValidity p T ≡ Valid) where
-      pub played-unfit : (r : Refusal) → lassoValidity (p .concrete) l ≡ Refused r → playedPlain p T l ≡ refused r
-      unfolding playedPlain playValidity andThen playedUnless
-      played-unfit r e = rw (v, t, e)
+  module _ (v : pairValidity p ≡ valid) where
+    pub played-fail : (r : Refusal) → linesValidity p T ≡ refused r → playedPlain p T l ≡ refused r
+    unfolding playValidity
+    played-fail r e = played-refused r (then-of _ _ v ∙ then-refused _ _ r e)
 
-      module _ (f : lassoValidity (p .concrete) l ≡ Valid) where
+    module _ (t : linesValidity p T ≡ valid) where
+      pub played-unfit : (r : Refusal) → lassoValidity (p .concrete) l ≡ refused r → playedPlain p T l ≡ refused r
+      unfolding playValidity
+      played-unfit r e = played-refused r (then-of _ _ v ∙ then-of _ _ t ∙ then-refused _ _ r e)
+
+      module _ (f : lassoValidity (p .concrete) l ≡ valid) where
+        started : playValidity p T l ≡ startValidity p T l
+        unfolding playValidity
+        started = then-of _ _ v ∙ then-of _ _ t ∙ then-of _ _ f
+
         pub played-alone : startPartner p T (moment l 0) ≡ Nobody → playedPlain p T l ≡ refused (refusal no-start-partner 0 0 0)
-        unfolding playedPlain playValidity startValidity andThen playedUnless found
-        played-alone e = rw (v, t, f, e)
+        unfolding startValidity found
+        played-alone e = played-refused _ (started ∙ rw e)
 
         pub played-run : (a x y : ℕ) → startPartner p T (moment l 0) ≡ State a → y ≡ lastRound p T l → x ≡ first y (λ x. samePlace p T l x y)
-            → playedPlain p T l ≡ played (loopStart p T l x) ((y - x) * length (l .loop))
-        unfolding playedPlain playValidity startValidity andThen playedUnless found stemLength loopLength earlierRound
-        played-run a x y e ey ex = rw (v, t, f, e, ← ey, ← ex)
+            → playedPlain p T l ≡ answer (played (loopStart p T l x) ((y - x) * length (l .loop)))
+        unfolding playedPlain startValidity found stemLength loopLength earlierRound
+        played-run a x y e ey ex = given-of _ _ (started ∙ rw e) ∙ rw (← ey, ← ex)

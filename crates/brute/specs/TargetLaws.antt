@@ -6,27 +6,23 @@ use Prim.Native.Nat.{_*_, _+_, _-_, _/_, _<_, _≤_, ℕ}
 use native.Mathlib.Nat.{add-mod-right, div-eq-of-lt, div-eq-sub-div, mod-eq-of-lt}
 use native.Mathlib.Numerals.{add-one}
 use native.Mathlib.Omega.{arith}
-use lib.Dec.{T}
-use lib.ListN.{length}
 use borrow.Author.Tests.{eq-eqb, le-leb, le-ltb, lt-leb, lt-ltb, ne-eqb}
 use Rattle.mask.specs.Bits.{hasBit}
 use Rattle.mask.specs.Bounded.{every, first, someIn}
 use Rattle.mask.specs.BoundedLaws.{every-not, every-of, everyIn-at, everyIn-of, first-before, first-has, someIn-at, someIn-of}
 use Rattle.mask.specs.Logic.{not}
-use Rattle.mask.specs.LogicLaws.{and-false-l, and-true-l, clash, not-e, not-f, not-false, or-false-l, or-l, refute}
+use Rattle.mask.specs.LogicLaws.{and-false-l, and-true-l, clash, not-e, not-f, not-false, refute}
 use Rattle.machine.specs.Lines.{atMost, goalLine, linesValidity, lower, nonBlank, passes, rankLine}
 use Rattle.machine.specs.Machines.{inFairSet, matched, moves, nA, nC, next, pairs, setsA, setsC, starts, successors}
 use Rattle.machine.specs.Ranks.{levelOf, setOf}
-use Rattle.machine.specs.Refusals.{andThen, failing-entry, refusal, short-buffer, bufferValidity}
+use Rattle.machine.specs.LinesLaws.{outside-bound, passes-covered}
+use Rattle.machine.specs.Refusals.{failing-entry, refusal, refused, valid}
+use Rattle.machine.specs.RowLaws.{section-room}
 use Rattle.machine.specs.Step.{steps}
-use Rattle.machine.specs.Table.{blank, covers, entry, tableRoom}
-use Rattle.machine.specs.Verdict.{checkVerdict, linesVerdict, orElse, refused, startCovered, startVerdict}
-use Rattle.machine.specs.WellFormed.{pairValidity}
-use Rattle.machine.specs.WellFormedLaws.{WellPair}
-use Rattle.machine.specs.WellFormedLaws.{mul-bound}
+use Rattle.machine.specs.Table.{blank, covers, entry}
+use Rattle.machine.specs.Verdict.{startCovered}
+use Rattle.machine.specs.WellFormedLaws.{WellPair, mul-bound}
 use Rattle.machine.specs.declared.Pair.{Pair}
-use Rattle.machine.specs.declared.Refusal.{Refusal}
-use Rattle.machine.specs.declared.Validity.the-variants.{Refused, Valid}
 use Rattle.brute.specs.Lines.{hit, inTarget}
 use Rattle.brute.specs.declared.lines.Target.{Target}
 use Rattle.brute.specs.declared.lines.Target.the-variants.{AtMost, Lower, NonBlank}
@@ -57,8 +53,8 @@ set-one m r h k = mod-eq-of-lt (omega arith)
 -- ---- the place of an entry
 pub place-small : (p : Pair) → WellPair p → (j c : ℕ) → j < 7 → c < 256 → (j * nC p ≤ 384) × ((j * nC p + c) * nA p ≤ 40896)
 place-small p w j c hj hc =
-    let s : j * nC p ≤ 6 * 64 = mul-bound j (nC p) 6 64 (omega arith) (w .concrete .states-high) in
-    (omega arith, mul-bound (j * nC p + c) (nA p) 639 64 (omega arith) (w .abstraction .states-high))
+    let s = section-room (nC p) (nA p) j c hj (w .concrete .states-high) (w .abstraction .states-high) in
+    (s, mul-bound (j * nC p + c) (nA p) 639 64 (omega (arith, s)) (w .abstraction .states-high))
 
 -- ---- what a line steps into
 module _ (p : Pair) (T : List ℕ) where
@@ -141,62 +137,29 @@ module _ (p : Pair) (T : List ℕ) (j c a : ℕ) where
     rank-inside t = rw t (sym (target-lower p T j (levelOf (setsC p) r) c a))
 
     pub rank-outside : inFairSet (p .concrete) (setOf (setsC p) r) c ≡ false → rankLine p T j r c a ≡ steps p (inTarget p T (AtMost r) j) c a
-    unfolding rankLine
-    rank-outside t = rw t (sym (target-atMost p T j r c a))
-
-  pub pass-blank : entry p T j c a ≡ blank → passes p T j c a ≡ true
-  unfolding passes
-  pass-blank e = or-l _ (eq-eqb _ _ e)
+    rank-outside t = outside-bound p T j r c a t ∙ sym (target-atMost p T j r c a)
 
   module _ (h : entry p T j c a ≡ blank → ⊥) where
     pub pass-unmatched : matched p c a ≡ false → passes p T j c a ≡ false
-    unfolding passes
-    pass-unmatched t = or-false-l _ (ne-eqb _ _ h) ∙ and-false-l _ t
+    pass-unmatched t = passes-covered p T j c a h ∙ and-false-l _ t
 
     module _ (t : matched p c a ≡ true) where
       pub pass-above : setsC p * pairs p < entry p T j c a → passes p T j c a ≡ false
-      unfolding passes
-      pass-above l = or-false-l _ (ne-eqb _ _ h) ∙ and-true-l _ t ∙ and-false-l _ (lt-leb _ _ l)
+      pass-above l = passes-covered p T j c a h ∙ and-true-l _ t ∙ and-false-l _ (lt-leb _ _ l)
 
       pub pass-goal : entry p T j c a ≡ 0 → passes p T j c a ≡ goalLine p T j c a
-      unfolding passes
-      pass-goal e = or-false-l _ (ne-eqb _ _ h) ∙ and-true-l _ t ∙ and-true-l _ (le-leb (entry p T j c a) (setsC p * pairs p) (omega arith)) ∙ rw (eq-eqb _ _ e)
+      pass-goal e = passes-covered p T j c a h ∙ and-true-l _ t ∙ and-true-l _ (le-leb (entry p T j c a) (setsC p * pairs p) (omega arith)) ∙ rw (eq-eqb _ _ e)
 
       pub pass-rank : entry p T j c a ≤ setsC p * pairs p → (entry p T j c a ≡ 0 → ⊥) → passes p T j c a ≡ rankLine p T j (entry p T j c a) c a
-      unfolding passes
-      pass-rank l z = or-false-l _ (ne-eqb _ _ h) ∙ and-true-l _ t ∙ and-true-l _ (le-leb _ _ l) ∙ rw (ne-eqb _ _ z)
+      pass-rank l z = passes-covered p T j c a h ∙ and-true-l _ t ∙ and-true-l _ (le-leb _ _ l) ∙ rw (ne-eqb _ _ z)
 
 -- ---- the first entry that fails, as nested searches find it
 module _ (p : Pair) (T : List ℕ) (j : ℕ) (ej : j ≡ first (setsA p) (λ j. not (every (nC p) (λ c. every (nA p) (passes p T j c))))) where
   pub lines-at : (c a : ℕ) → c ≡ first (nC p) (λ c. not (every (nA p) (passes p T j c))) → a ≡ first (nA p) (λ a. not (passes p T j c a))
-      → j < setsA p → linesValidity p T ≡ Refused (refusal failing-entry (j + 1) c a)
+      → j < setsA p → linesValidity p T ≡ refused (refusal failing-entry (j + 1) c a)
   unfolding linesValidity
   lines-at c a ec ea h = rw (← ej, ← ec, ← ea, lt-ltb j (setsA p) h, add-one)
 
-  pub lines-none : setsA p ≤ j → linesValidity p T ≡ Valid
+  pub lines-none : setsA p ≤ j → linesValidity p T ≡ valid
   unfolding linesValidity
   lines-none h = rw (← ej, le-ltb j (setsA p) h)
-
--- ---- the answer, case by case
-module _ (p : Pair) (T : List ℕ) where
-  pub verdict-short : length T < tableRoom → checkVerdict p T ≡ refused (refusal short-buffer 0 0 0)
-  unfolding checkVerdict bufferValidity orElse
-  verdict-short h = rw (lt-ltb _ _ h)
-
-  module _ (h : tableRoom ≤ length T) where
-    pub room-valid : bufferValidity tableRoom (length T) ≡ Valid
-    unfolding bufferValidity
-    room-valid = rw (le-ltb _ _ h)
-
-    pub verdict-ill : (r : Refusal) → pairValidity p ≡ Refused r → checkVerdict p T ≡ refused r
-    unfolding checkVerdict linesVerdict orElse andThen
-    verdict-ill r e = rw (room-valid, e)
-
-    module _ (v : pairValidity p ≡ Valid) where
-      pub verdict-fail : (r : Refusal) → linesValidity p T ≡ Refused r → checkVerdict p T ≡ refused r
-      unfolding checkVerdict linesVerdict orElse andThen
-      verdict-fail r e = rw (room-valid, v, e)
-
-      pub verdict-pass : linesValidity p T ≡ Valid → checkVerdict p T ≡ startVerdict p T
-      unfolding checkVerdict linesVerdict orElse andThen
-      verdict-pass e = rw (room-valid, v, e)

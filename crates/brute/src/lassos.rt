@@ -5,21 +5,20 @@ ghost use Prim.Native.Nat.{_+_};
 ghost use lib.ListN.{length, getD};
 ghost use Rattle.mask.specs.Bounded.{every, some, first};
 ghost use Rattle.machine.specs.Machines.{observation, sameObservation, inFairSet};
-ghost use Rattle.machine.specs.Refusals.{refusal};
+ghost use Rattle.machine.specs.Refusals.{testedOf};
 ghost use Rattle.machine.specs.Lassos.{moment, isLasso, isFair, isPlay};
 ghost use Rattle.machine.specs.Player.{badStep, missedSet, lassoValidity};
-ghost use Rattle.brute.specs.Runs.{lassoOf};
+ghost use Rattle.brute.specs.Runs.{given};
 use crate::machines::has_move;
 use crate::machines::has_start;
 use crate::machines::in_set;
 use crate::machines::observed;
 use machine::Machine;
-use machine::Refusal;
 use machine::Validity;
 
 // The state at moment t of the endless play.
 pub fn moment_at(stem: &[u8], cycle: &[u8], t: usize) -> u8
-    ensures { λ r. ⌜ r ≡ moment (lassoOf (now (stem .entry)) (now (cycle .entry))) t ⌝ }
+    ensures { λ r. ⌜ r ≡ moment (given (now (stem .entry)) (now (cycle .entry))) t ⌝ }
 {
     if t < stem.len() {
         return stem[t];
@@ -32,7 +31,7 @@ pub fn moment_at(stem: &[u8], cycle: &[u8], t: usize) -> u8
 
 // Whether stem and loop are a lasso.
 fn is_lasso(m: Machine, stem: &[u8], cycle: &[u8]) -> bool
-    ensures { λ r. ⌜ r ≡ isLasso m (lassoOf (now (stem .entry)) (now (cycle .entry))) ⌝ }
+    ensures { λ r. ⌜ r ≡ isLasso m (given (now (stem .entry)) (now (cycle .entry))) ⌝ }
 {
     if cycle.len() == 0 {
         return false;
@@ -63,7 +62,7 @@ fn visits(m: Machine, k: usize, cycle: &[u8]) -> bool
 
 // Whether the loop has a state of each set; the stem makes no difference.
 fn is_fair(m: Machine, cycle: &[u8]) -> bool
-    ensures { λ r. ⌜ r ≡ isFair m (lassoOf [] (now (cycle .entry))) ⌝ }
+    ensures { λ r. ⌜ r ≡ isFair m (given [] (now (cycle .entry))) ⌝ }
 {
     for k in 0..m.sets {
         if !visits(m, k, cycle) {
@@ -75,7 +74,7 @@ fn is_fair(m: Machine, cycle: &[u8]) -> bool
 
 // Whether stem and loop are a fair lasso from a start state.
 pub fn is_play(m: Machine, stem: &[u8], cycle: &[u8]) -> bool
-    ensures { λ r. ⌜ r ≡ isPlay m (lassoOf (now (stem .entry)) (now (cycle .entry))) ⌝ }
+    ensures { λ r. ⌜ r ≡ isPlay m (given (now (stem .entry)) (now (cycle .entry))) ⌝ }
 {
     if !is_lasso(m, stem, cycle) {
         return false;
@@ -96,8 +95,8 @@ pub fn same_until(
     round: &[u8],
     n: usize,
 ) -> bool
-    ensures { λ r. ⌜ r ≡ every n (λ t. sameObservation (observation m (moment (lassoOf (now (stem .entry)) (now (cycle .entry))) t))
-        (observation k (moment (lassoOf (now (run .entry)) (now (round .entry))) t))) ⌝ }
+    ensures { λ r. ⌜ r ≡ every n (λ t. sameObservation (observation m (moment (given (now (stem .entry)) (now (cycle .entry))) t))
+        (observation k (moment (given (now (run .entry)) (now (round .entry))) t))) ⌝ }
 {
     for t in 0..n {
         let s = observed(m, moment_at(stem, cycle, t) as usize);
@@ -113,7 +112,7 @@ pub fn same_until(
 
 // Whether 14 holds at position i.
 fn bad_step(m: Machine, stem: &[u8], cycle: &[u8], i: usize) -> bool
-    ensures { λ r. ⌜ r ≡ badStep m (lassoOf (now (stem .entry)) (now (cycle .entry))) i ⌝ }
+    ensures { λ r. ⌜ r ≡ badStep m (given (now (stem .entry)) (now (cycle .entry))) i ⌝ }
 {
     let s = moment_at(stem, cycle, i) as usize;
     if s >= m.states {
@@ -138,7 +137,7 @@ fn bad_step(m: Machine, stem: &[u8], cycle: &[u8], i: usize) -> bool
 
 // The lowest position at which 14 holds, the lasso's length where there is none.
 fn first_bad(m: Machine, stem: &[u8], cycle: &[u8]) -> usize
-    ensures { λ r. ⌜ r ≡ first (length (now (stem .entry)) + length (now (cycle .entry))) (badStep m (lassoOf (now (stem .entry)) (now (cycle .entry)))) ⌝ }
+    ensures { λ r. ⌜ r ≡ first (length (now (stem .entry)) + length (now (cycle .entry))) (badStep m (given (now (stem .entry)) (now (cycle .entry)))) ⌝ }
 {
     for i in 0..stem.len() + cycle.len() {
         if bad_step(m, stem, cycle, i) {
@@ -150,7 +149,7 @@ fn first_bad(m: Machine, stem: &[u8], cycle: &[u8]) -> usize
 
 // The lowest set without a state of the loop, the number of sets where there is none.
 fn first_missed(m: Machine, cycle: &[u8]) -> usize
-    ensures { λ r. ⌜ r ≡ first (m .sets) (missedSet m (lassoOf [] (now (cycle .entry)))) ⌝ }
+    ensures { λ r. ⌜ r ≡ first (m .sets) (missedSet m (given [] (now (cycle .entry)))) ⌝ }
 {
     for k in 0..m.sets {
         if !visits(m, k, cycle) {
@@ -160,35 +159,23 @@ fn first_missed(m: Machine, cycle: &[u8]) -> usize
     m.sets
 }
 
-// A refusal whose spot is one number.
-fn stopped(number: u32, spot: usize) -> Validity
-    ensures { λ r. ⌜ r ≡ Validity.Refused (refusal number spot 0 0) ⌝ }
-{
-    Validity::Refused(Refusal {
-        number: number,
-        first: spot,
-        second: 0,
-        third: 0,
-    })
-}
-
 // 13 to 15 of a lasso; the spot's set is counted from 1.
 pub fn lasso_fits(m: Machine, stem: &[u8], cycle: &[u8]) -> Validity
-    ensures { λ r. ⌜ r ≡ lassoValidity m (lassoOf (now (stem .entry)) (now (cycle .entry))) ⌝ }
+    ensures { λ r. ⌜ testedOf r ≡ lassoValidity m (given (now (stem .entry)) (now (cycle .entry))) ⌝ }
 {
     if cycle.len() == 0 {
-        return stopped(machine::BAD_LASSO_LENGTH, 0);
+        return Validity::Refused(machine::refuse(machine::BAD_LASSO_LENGTH, 0, 0, 0));
     }
     if stem.len() + cycle.len() > 64 {
-        return stopped(machine::BAD_LASSO_LENGTH, 0);
+        return Validity::Refused(machine::refuse(machine::BAD_LASSO_LENGTH, 0, 0, 0));
     }
     let i = first_bad(m, stem, cycle);
     if i < stem.len() + cycle.len() {
-        return stopped(machine::BAD_LASSO_STEP, i);
+        return Validity::Refused(machine::refuse(machine::BAD_LASSO_STEP, i, 0, 0));
     }
     let k = first_missed(m, cycle);
     if k < m.sets {
-        return stopped(machine::UNFAIR_LASSO, k + 1);
+        return Validity::Refused(machine::refuse(machine::UNFAIR_LASSO, k + 1, 0, 0));
     }
     Validity::Valid
 }

@@ -2,12 +2,13 @@
 // after the greatest rank, until each line passes. Raising keeps every passing table at or above the one that is raised, so what is left
 // non-blank in the end is all that a passing table can cover; its entries need not be the ranks.
 ghost use mathlib.Core.Bool.{true};
+ghost use mathlib.Core.List.{_++_};
 ghost use mathlib.Core.Path.{_≡_};
 ghost use Prim.Native.Nat.{_<_, _≤_};
-ghost use lib.ListN.{length};
+ghost use lib.ListN.{length, drop, replicate};
 ghost use Rattle.machine.specs.WellFormed.{wellFormed};
 ghost use Rattle.machine.specs.Table.{entries};
-ghost use Rattle.brute.specs.Lifting.{raised, liftedAt, swept, zeroed, liftedTable};
+ghost use Rattle.brute.specs.Lifting.{raised, liftedAt, swept, liftedTable};
 use crate::lines::entry_passes;
 use crate::lines::lines;
 use crate::machines::validity;
@@ -19,7 +20,11 @@ fn raise(most: usize, e: u16) -> u16
     requires { ⌜ most ≤ 32768 ⌝ }
     ensures { λ r. ⌜ r ≡ raised most e ⌝ }
 {
-    if (e as usize) < most { e + 1 } else { 65535 }
+    if (e as usize) < most {
+        e + 1
+    } else {
+        machine::BLANK
+    }
 }
 
 // Raises entry number e where it fails its line.
@@ -52,7 +57,7 @@ fn sweep(p: Pair, table: &mut [u16])
 // Puts 0 into the first n entries.
 fn put_zeros(n: usize, table: &mut [u16])
     requires { ⌜ n ≤ length (now table) ⌝ }
-    ensures { λ _. ⌜ now (table .exit) ≡ zeroed n (now (table .entry)) ⌝ }
+    ensures { λ _. ⌜ now (table .exit) ≡ replicate n 0 ++ drop n (now (table .entry)) ⌝ }
 {
     for e in 0..n {
         table[e] = 0;
@@ -65,7 +70,7 @@ pub fn lift(p: Pair, table: &mut [u16])
 {
     let concrete = p.concrete;
     let abstraction = p.abstraction;
-    if table.len() < 28672 {
+    if table.len() < machine::TABLE_ROOM {
         return;
     }
     let valid = validity(p);

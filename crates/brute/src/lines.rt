@@ -6,6 +6,7 @@ ghost use lib.ListN.{getD};
 ghost use Rattle.mask.specs.Bounded.{every, first, someIn};
 ghost use Rattle.mask.specs.Logic.{not};
 ghost use Rattle.machine.specs.Machines.{successors, nC, nA, setsA};
+ghost use Rattle.machine.specs.Refusals.{answer, testedOf};
 ghost use Rattle.machine.specs.WellFormed.{wellFormed};
 ghost use Rattle.machine.specs.Step.{steps};
 ghost use Rattle.machine.specs.Ranks.{levelOf, setOf};
@@ -82,7 +83,7 @@ fn hits(t: Target, m: usize, e: u16) -> bool
     ensures { λ r. ⌜ r ≡ hit t m e ⌝ }
 {
     match t {
-        Target::NonBlank => e != 65535,
+        Target::NonBlank => e != machine::BLANK,
         Target::Lower(l) => {
             if e == 0 {
                 return true;
@@ -170,7 +171,7 @@ pub fn entry_passes(p: Pair, table: &[u16], j: usize, c: usize, a: usize) -> boo
     let concrete = p.concrete;
     let abstraction = p.abstraction;
     let e = entry_at(p, table, j, c, a);
-    if e == 65535 {
+    if e == machine::BLANK {
         return true;
     }
     if !is_matched(p, c, a) {
@@ -232,19 +233,14 @@ fn failing_section(p: Pair, table: &[u16]) -> usize
 // 12, with the first entry that fails; the spot's section is counted from 1.
 pub fn lines(p: Pair, table: &[u16]) -> Validity
     requires { ⌜ wellFormed p ≡ true ⌝ }
-    ensures { λ r. ⌜ r ≡ linesValidity p (now (table .entry)) ⌝ }
+    ensures { λ r. ⌜ testedOf r ≡ linesValidity p (now (table .entry)) ⌝ }
 {
     let abstraction = p.abstraction;
     let j = failing_section(p, table);
     if j < abstraction.sets {
         let c = failing_row(p, table, j);
         let a = failing_state(p, table, j, c);
-        return Validity::Refused(Refusal {
-            number: machine::FAILING_ENTRY,
-            first: j + 1,
-            second: c,
-            third: a,
-        });
+        return Validity::Refused(machine::refuse(machine::FAILING_ENTRY, j + 1, c, a));
     }
     Validity::Valid
 }
@@ -258,7 +254,7 @@ fn covered(p: Pair, table: &[u16]) -> usize
     let abstraction = p.abstraction;
     let mut found: usize = 0;
     for e in 0..abstraction.sets * (concrete.states * abstraction.states) {
-        if value_at(table, e) != 65535 {
+        if value_at(table, e) != machine::BLANK {
             found += 1;
         }
     }
@@ -273,7 +269,7 @@ fn start_covered(p: Pair, table: &[u16], c: usize) -> bool
     let abstraction = p.abstraction;
     for a in 0..abstraction.states {
         if has_start(abstraction, a) {
-            if entry_at(p, table, 0, c, a) != 65535 {
+            if entry_at(p, table, 0, c, a) != machine::BLANK {
                 return true;
             }
         }
@@ -300,7 +296,7 @@ fn lacking_start(p: Pair, table: &[u16]) -> usize
 // What is said of a table that passes each line.
 fn start_verdict(p: Pair, table: &[u16]) -> Verdict
     requires { ⌜ wellFormed p ≡ true ⌝ }
-    ensures { λ r. ⌜ verdictOf r ≡ startVerdict p (now (table .entry)) ⌝ }
+    ensures { λ r. ⌜ verdictOf r ≡ answer (startVerdict p (now (table .entry))) ⌝ }
 {
     let concrete = p.concrete;
     let c = lacking_start(p, table);
@@ -315,13 +311,8 @@ fn start_verdict(p: Pair, table: &[u16]) -> Verdict
 pub fn plain_verdict(p: Pair, table: &[u16]) -> Verdict
     ensures { λ r. ⌜ verdictOf r ≡ checkVerdict p (now (table .entry)) ⌝ }
 {
-    if table.len() < 28672 {
-        return Verdict::Refused(Refusal {
-            number: machine::SHORT_BUFFER,
-            first: 0,
-            second: 0,
-            third: 0,
-        });
+    if table.len() < machine::TABLE_ROOM {
+        return Verdict::Refused(machine::refuse(machine::SHORT_BUFFER, 0, 0, 0));
     }
     let valid = validity(p);
     if let Validity::Refused(r) = valid {

@@ -2,11 +2,10 @@
 ghost use mathlib.Core.Path.{_≡_};
 ghost use Rattle.mask.specs.Bounded.{some};
 ghost use Rattle.machine.specs.Machines.{observation, successors, moves, starts, fairSet, inFairSet, matched};
-ghost use Rattle.machine.specs.Refusals.{refusal};
+ghost use Rattle.machine.specs.Refusals.{testedOf};
 ghost use Rattle.machine.specs.WellFormed.{countsOk, beyond, stateBeyond, setBeyond, beyondCounts, stuckState, contentValidity, pairValidity};
 use machine::Machine;
 use machine::Pair;
-use machine::Refusal;
 use machine::Validity;
 
 // The successor mask of state s; a machine has 64, and past these an empty one.
@@ -167,46 +166,34 @@ fn stuck(m: Machine) -> usize
     64
 }
 
-// A refusal whose spot is two numbers.
-fn refused(number: u32, first: usize, second: usize) -> Validity
-    ensures { λ r. ⌜ r ≡ Validity.Refused (refusal number first second 0) ⌝ }
-{
-    Validity::Refused(Refusal {
-        number: number,
-        first: first,
-        second: second,
-        third: 0,
-    })
-}
-
 // 9, 10 and 11 of machine number i of a pair.
 fn content(i: usize, m: Machine) -> Validity
-    ensures { λ r. ⌜ r ≡ contentValidity i m ⌝ }
+    ensures { λ r. ⌜ testedOf r ≡ contentValidity i m ⌝ }
 {
     if is_past(m) {
-        return refused(machine::BEYOND_COUNTS, i, 0);
+        return Validity::Refused(machine::refuse(machine::BEYOND_COUNTS, i, 0, 0));
     }
     if m.start == 0 {
-        return refused(machine::NO_START, i, 0);
+        return Validity::Refused(machine::refuse(machine::NO_START, i, 0, 0));
     }
     let s = stuck(m);
     if s < 64 {
-        return refused(machine::NO_SUCCESSOR, i, s);
+        return Validity::Refused(machine::refuse(machine::NO_SUCCESSOR, i, s, 0));
     }
     Validity::Valid
 }
 
 // 5, 9, 10 and 11 of a pair.
 pub fn validity(p: Pair) -> Validity
-    ensures { λ r. ⌜ r ≡ pairValidity p ⌝ }
+    ensures { λ r. ⌜ testedOf r ≡ pairValidity p ⌝ }
 {
     let c = p.concrete;
     let a = p.abstraction;
     if !has_counts(8, c) {
-        return refused(machine::BAD_COUNTS, 0, 0);
+        return Validity::Refused(machine::refuse(machine::BAD_COUNTS, 0, 0, 0));
     }
     if !has_counts(7, a) {
-        return refused(machine::BAD_COUNTS, 0, 0);
+        return Validity::Refused(machine::refuse(machine::BAD_COUNTS, 0, 0, 0));
     }
     let first = content(0, c);
     match first {

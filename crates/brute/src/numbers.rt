@@ -6,7 +6,7 @@ ghost use lib.ListN.{length};
 ghost use lib.Dec.{ltb};
 ghost use Rattle.mask.specs.Bits.{hasBit};
 ghost use Rattle.mask.specs.Tables.{table};
-ghost use Rattle.brute.specs.Numbers.{digitOf, entryOf, numbered, statesOf, machineOf, pairOf};
+ghost use Rattle.brute.specs.Numbers.{digitOf, entryOf, numberedTable, statesOf, numberedMachine, numberedPair};
 use machine::Machine;
 use machine::Pair;
 
@@ -52,8 +52,8 @@ fn put_bits(m: u64, out: &mut [u8])
 
 // Machine number x of a shape: digit 0 is its start mask, digit 1 has the states of observation 1, then come the successor masks, then
 // the sets.
-pub fn machine_of(shape: Shape, x: u64) -> Machine
-    ensures { λ r. ⌜ r ≡ machineOf shape x ⌝ }
+pub fn numbered_machine(shape: Shape, x: u64) -> Machine
+    ensures { λ r. ⌜ r ≡ numberedMachine shape x ⌝ }
 {
     let n = if shape.states < 64 { shape.states } else { 64 };
     let mut observations = [0u8; 64];
@@ -73,12 +73,12 @@ pub fn machine_of(shape: Shape, x: u64) -> Machine
 }
 
 // The pair of concrete machine number x and abstract machine number y.
-pub fn pair_of(concrete: Shape, abstraction: Shape, x: u64, y: u64) -> Pair
-    ensures { λ r. ⌜ r ≡ pairOf concrete abstraction x y ⌝ }
+pub fn numbered_pair(concrete: Shape, abstraction: Shape, x: u64, y: u64) -> Pair
+    ensures { λ r. ⌜ r ≡ numberedPair concrete abstraction x y ⌝ }
 {
     Pair {
-        concrete: machine_of(concrete, x),
-        abstraction: machine_of(abstraction, y),
+        concrete: numbered_machine(concrete, x),
+        abstraction: numbered_machine(abstraction, y),
     }
 }
 
@@ -86,12 +86,12 @@ pub fn pair_of(concrete: Shape, abstraction: Shape, x: u64, y: u64) -> Pair
 pub fn entry_of(d: u16) -> u16
     ensures { λ r. ⌜ r ≡ entryOf d ⌝ }
 {
-    if d == 0 { 65535 } else { d - 1 }
+    if d == 0 { machine::BLANK } else { d - 1 }
 }
 
 // Puts table number x, of n entries, into `table`; what is past them is kept.
 pub fn put_entries(x: u64, top: u16, n: usize, table: &mut [u16])
-    ensures { λ _. ⌜ now (table .exit) ≡ numbered top x n (now (table .entry)) ⌝ }
+    ensures { λ _. ⌜ now (table .exit) ≡ numberedTable top x n (now (table .entry)) ⌝ }
 {
     let end = if n < table.len() { n } else { table.len() };
     for e in 0..end {

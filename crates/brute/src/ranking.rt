@@ -59,7 +59,7 @@ fn is_closed(p: Pair, lifted: &[u16], j: usize, ranks: &[u16], i: usize, x: u64)
     let pairs = concrete.states * abstraction.states;
     let low = i / concrete.sets * concrete.sets;
     let k = i % concrete.sets;
-    let mut set = [65535u16; 64];
+    let mut set = [machine::BLANK; 64];
     put_entries(x, 1, pairs, &mut set);
     for e in 0..pairs {
         if mask::has(x, e) {
@@ -96,7 +96,7 @@ fn mark(x: u64, r: u16, ranks: &mut [u16])
 {
     for e in 0..ranks.len() {
         if mask::has(x, e) {
-            if ranks[e] == 65535 {
+            if ranks[e] == machine::BLANK {
                 ranks[e] = r;
             }
         }
@@ -140,7 +140,7 @@ fn section_ranked(p: Pair, lifted: &[u16], j: usize, table: &[u16]) -> bool
     let concrete = p.concrete;
     let abstraction = p.abstraction;
     let pairs = concrete.states * abstraction.states;
-    let mut ranks = [65535u16; 64];
+    let mut ranks = [machine::BLANK; 64];
     rank_pairs(p, lifted, j, &mut ranks);
     for e in 0..pairs {
         if rank_of(p, lifted, j, &ranks, e) != value_at(table, j * pairs + e) {

@@ -12,7 +12,7 @@ ghost use Rattle.machine.specs.Step.{partner, stateOf};
 ghost use Rattle.machine.specs.Table.{entry};
 ghost use Rattle.machine.specs.Lines.{nonBlank};
 ghost use Rattle.machine.specs.Player.{sectionAfter, stepTo, placeAt, samePlace, lastRound};
-ghost use Rattle.brute.specs.Runs.{lassoOf, placeOf, playedOf, playedPlain};
+ghost use Rattle.brute.specs.Runs.{given, asPlace, playedOf, playedPlain};
 use crate::lassos::lasso_fits;
 use crate::lassos::moment_at;
 use crate::lines::entry_at;
@@ -43,7 +43,7 @@ fn least_partner(p: Pair, table: &[u16], moves: u64, j: usize, d: usize) -> Part
     ensures { λ r. ⌜ r ≡ partner moves (nonBlank p (now (table .entry)) j d) (entry p (now (table .entry)) j d) ⌝ }
 {
     let mut best = Partner::Nobody;
-    let mut limit: u16 = 65535;
+    let mut limit = machine::BLANK;
     for a in 0..64 {
         if mask::has(moves, a) {
             if is_matched(p, d, a) {
@@ -71,7 +71,7 @@ fn state_of(found: Partner) -> usize
 // The section after the change: the next one where the pair's entry is 0.
 fn section_after(p: Pair, table: &[u16], c: usize, at: Spot) -> usize
     requires { ⌜ (wellFormed p ≡ true) × ((c < 256) × ((at .state ≤ 64) × (at .section < setsA p))) ⌝ }
-    ensures { λ r. ⌜ r ≡ sectionAfter p (now (table .entry)) c (placeOf at) ⌝ }
+    ensures { λ r. ⌜ r ≡ sectionAfter p (now (table .entry)) c (asPlace at) ⌝ }
 {
     let abstraction = p.abstraction;
     if entry_at(p, table, at.section, c, at.state) == 0 {
@@ -84,7 +84,7 @@ fn section_after(p: Pair, table: &[u16], c: usize, at: Spot) -> usize
 // The place at the next moment.
 fn step_to(p: Pair, table: &[u16], c: usize, at: Spot, d: usize) -> Spot
     requires { ⌜ (wellFormed p ≡ true) × ((c < 256) × ((d < 256) × ((at .state ≤ 64) × (at .section < setsA p)))) ⌝ }
-    ensures { λ r. ⌜ placeOf r ≡ stepTo p (now (table .entry)) c (placeOf at) d ⌝ }
+    ensures { λ r. ⌜ asPlace r ≡ stepTo p (now (table .entry)) c (asPlace at) d ⌝ }
 {
     let j = section_after(p, table, c, at);
     let found = least_partner(p, table, successors_of(p.abstraction, at.state), j, d);
@@ -97,7 +97,7 @@ fn step_to(p: Pair, table: &[u16], c: usize, at: Spot, d: usize) -> Spot
 // The place at moment t, by the rule from the start.
 fn place_at(p: Pair, table: &[u16], stem: &[u8], cycle: &[u8], t: usize) -> Spot
     requires { ⌜ wellFormed p ≡ true ⌝ }
-    ensures { λ r. ⌜ placeOf r ≡ placeAt p (now (table .entry)) (lassoOf (now (stem .entry)) (now (cycle .entry))) t ⌝ }
+    ensures { λ r. ⌜ asPlace r ≡ placeAt p (now (table .entry)) (given (now (stem .entry)) (now (cycle .entry))) t ⌝ }
 {
     let abstraction = p.abstraction;
     let found = least_partner(
@@ -122,7 +122,7 @@ fn place_at(p: Pair, table: &[u16], stem: &[u8], cycle: &[u8], t: usize) -> Spot
 // Whether a and j are the same at the loop starts after x and after y rounds.
 fn same_place(p: Pair, table: &[u16], stem: &[u8], cycle: &[u8], x: usize, y: usize) -> bool
     requires { ⌜ (wellFormed p ≡ true) × ((length (now stem) + length (now cycle) ≤ 64) × ((x ≤ 449) × (y ≤ 449))) ⌝ }
-    ensures { λ r. ⌜ r ≡ samePlace p (now (table .entry)) (lassoOf (now (stem .entry)) (now (cycle .entry))) x y ⌝ }
+    ensures { λ r. ⌜ r ≡ samePlace p (now (table .entry)) (given (now (stem .entry)) (now (cycle .entry))) x y ⌝ }
 {
     let u = place_at(p, table, stem, cycle, stem.len() + x * cycle.len());
     let v = place_at(p, table, stem, cycle, stem.len() + y * cycle.len());
@@ -135,7 +135,7 @@ fn same_place(p: Pair, table: &[u16], stem: &[u8], cycle: &[u8], x: usize, y: us
 // The first round with the same place as round y, y where none before it has.
 fn earlier_round(p: Pair, table: &[u16], stem: &[u8], cycle: &[u8], y: usize) -> usize
     requires { ⌜ (wellFormed p ≡ true) × ((length (now stem) + length (now cycle) ≤ 64) × (y ≤ 449)) ⌝ }
-    ensures { λ r. ⌜ r ≡ first y (λ x. samePlace p (now (table .entry)) (lassoOf (now (stem .entry)) (now (cycle .entry))) x y) ⌝ }
+    ensures { λ r. ⌜ r ≡ first y (λ x. samePlace p (now (table .entry)) (given (now (stem .entry)) (now (cycle .entry))) x y) ⌝ }
 {
     for x in 0..y {
         if same_place(p, table, stem, cycle, x, y) {
@@ -148,7 +148,7 @@ fn earlier_round(p: Pair, table: &[u16], stem: &[u8], cycle: &[u8], y: usize) ->
 // The first round whose place occurred before.
 fn last_round(p: Pair, table: &[u16], stem: &[u8], cycle: &[u8]) -> usize
     requires { ⌜ (wellFormed p ≡ true) × (length (now stem) + length (now cycle) ≤ 64) ⌝ }
-    ensures { λ r. ⌜ r ≡ lastRound p (now (table .entry)) (lassoOf (now (stem .entry)) (now (cycle .entry))) ⌝ }
+    ensures { λ r. ⌜ r ≡ lastRound p (now (table .entry)) (given (now (stem .entry)) (now (cycle .entry))) ⌝ }
 {
     for y in 0..449 {
         if earlier_round(p, table, stem, cycle, y) < y {
@@ -160,7 +160,7 @@ fn last_round(p: Pair, table: &[u16], stem: &[u8], cycle: &[u8]) -> usize
 
 // What the player says of any table and any lasso, where its buffers are long enough.
 pub fn plain_play(p: Pair, table: &[u16], stem: &[u8], cycle: &[u8]) -> Played
-    ensures { λ r. ⌜ playedOf r ≡ playedPlain p (now (table .entry)) (lassoOf (now (stem .entry)) (now (cycle .entry))) ⌝ }
+    ensures { λ r. ⌜ playedOf r ≡ playedPlain p (now (table .entry)) (given (now (stem .entry)) (now (cycle .entry))) ⌝ }
 {
     let abstraction = p.abstraction;
     let valid = validity(p);
@@ -183,12 +183,7 @@ pub fn plain_play(p: Pair, table: &[u16], stem: &[u8], cycle: &[u8]) -> Played
         moment_at(stem, cycle, 0) as usize,
     );
     if let Partner::Nobody = found {
-        return Played::Refused(Refusal {
-            number: machine::NO_START_PARTNER,
-            first: 0,
-            second: 0,
-            third: 0,
-        });
+        return Played::Refused(machine::refuse(machine::NO_START_PARTNER, 0, 0, 0));
     }
     let y = last_round(p, table, stem, cycle);
     let x = earlier_round(p, table, stem, cycle, y);
@@ -205,7 +200,7 @@ fn byte_at(run: &[u8], i: usize) -> u8
 // Whether a run of n states is that of the rule; of a pair that is not well formed there is none.
 pub fn is_run(p: Pair, table: &[u16], stem: &[u8], cycle: &[u8], run: &[u8], n: usize) -> bool
     ensures { λ r. ⌜ r ≡ and (wellFormed p) (every n (λ t. eqb (getD (now (run .entry)) t 0)
-        (placeAt p (now (table .entry)) (lassoOf (now (stem .entry)) (now (cycle .entry))) t .state))) ⌝ }
+        (placeAt p (now (table .entry)) (given (now (stem .entry)) (now (cycle .entry))) t .state))) ⌝ }
 {
     let valid = validity(p);
     if let Validity::Refused(_) = valid {

@@ -13,7 +13,7 @@ use Rattle.machine.specs.WellFormed.{wellFormed}
 use Rattle.machine.specs.Lassos.{Lasso, moment, isPlay}
 use Rattle.machine.specs.Player.{placeAt, playerAnswer, playerBuffer}
 use Rattle.brute.specs.Numbers.{statesOf}
-use Rattle.brute.specs.Runs.{lassoOf, playedPlain}
+use Rattle.brute.specs.Runs.{given, playedPlain}
 use Rattle.comparison.specs.declared.tally.Tally.{Tally}
 use Rattle.comparison.specs.Answers.{playedFour, sameFour}
 use Rattle.comparison.specs.Tallies.{total, ofLasso}
@@ -26,7 +26,7 @@ sameMoments p l k n = every n (λ t. sameObservation (observation (p .concrete) 
 -- the first s + q states of B are the rule's run, and with a stem of s a play of the abstract machine with the lasso's observations
 unfoldable pub runFits : Pair → List ℕ → Lasso → List ℕ → ℕ → ℕ → Bool
 runFits p T l B s q =
-    let k = lassoOf (take s B) (take q (drop s B)) in
+    let k = given (take s B) (take q (drop s B)) in
     and (leb (s + q) (length B))
     (and (and (wellFormed p) (every (s + q) (λ t. eqb (getD B t 0) (placeAt p T l t .state))))
     (and (isPlay (p .abstraction) k) (sameMoments p l k (s + q))))
@@ -42,8 +42,8 @@ lassoTally p T l =
     ofLasso (eqb (v .number) 0) (lassoAgrees p T l (playerBuffer p T l zeros) v (playedFour (playedPlain p T l)))
 
 -- lasso number x of a stem of s states and a loop of q: its states are the digits of x, from 0 to `top`
-unfoldable pub lassoNumbered : ℕ → ℕ → ℕ → ℕ → Lasso
-lassoNumbered top s q x = lassoOf (take s (statesOf top x 4)) (take q (drop s (statesOf top x 4)))
+unfoldable pub numberedLasso : ℕ → ℕ → ℕ → ℕ → Lasso
+numberedLasso top s q x = given (take s (statesOf top x 4)) (take q (drop s (statesOf top x 4)))
 
 -- how many numbers n digits have, n up to 2
 unfoldable pub power : ℕ → ℕ → ℕ
@@ -51,7 +51,7 @@ power base n = cond (eqb n 0) 1 (cond (eqb n 1) base (base * base))
 
 -- every lasso with a stem of s states and a loop of q
 unfoldable pub shapeTally : Pair → List ℕ → ℕ → ℕ → ℕ → Tally
-shapeTally p T top s q = total (power (top + 1) s * power (top + 1) q) (λ x. lassoTally p T (lassoNumbered top s q x))
+shapeTally p T top s q = total (power (top + 1) s * power (top + 1) q) (λ x. lassoTally p T (numberedLasso top s q x))
 
 -- every lasso with a stem of at most `longest` states, at most 2, and a loop of 0 to 2
 unfoldable pub lassosTally : Pair → List ℕ → ℕ → ℕ → Tally

@@ -15,13 +15,14 @@ use Rattle.machine.specs.WellFormed.{wellFormed}
 use Rattle.machine.specs.Machines.{observation, sameObservation}
 use Rattle.machine.specs.Lassos.{Lasso, moment, isPlay}
 use Rattle.machine.specs.Player.{Played, placeAt, playerAnswer, playerBuffer}
+use Rattle.machine.specs.Refusals.{Result}
 use Rattle.brute.specs.Numbers.{statesOf}
-use Rattle.brute.specs.Runs.{lassoOf, playedPlain}
+use Rattle.brute.specs.Runs.{given, playedPlain}
 use Rattle.comparison.specs.declared.tally.Tally.{Tally}
 use Rattle.comparison.specs.Answers.{playedFour, sameFour}
 use Rattle.comparison.specs.Tallies.{total, ofLasso}
 use Rattle.comparison.specs.Tables.{zeros}
-use Rattle.comparison.specs.Lassos.{sameMoments, runFits, lassoAgrees, lassoTally, lassoNumbered, power, shapeTally, lassosTally}
+use Rattle.comparison.specs.Lassos.{sameMoments, runFits, lassoAgrees, lassoTally, numberedLasso, power, shapeTally, lassosTally}
 
 module _ (p : Pair) (T : List ℕ) (l : Lasso) (B : List ℕ) where
   -- the first n states of B are the rule's
@@ -40,13 +41,13 @@ module _ (p : Pair) (T : List ℕ) (l : Lasso) (B : List ℕ) where
 
       -- the code's loop has n states
       module _ (e : ruled (s + q) ≡ true) (n : ℕ) (en : n ≡ q) where
-        pub fits-no-play : isPlay (p .abstraction) (lassoOf (take s B) (take n (drop s B))) ≡ false → runFits p T l B s q ≡ false
+        pub fits-no-play : isPlay (p .abstraction) (given (take s B) (take n (drop s B))) ≡ false → runFits p T l B s q ≡ false
         unfolding runFits
         fits-no-play f = and-true-l _ (le-leb _ _ h) ∙ and-true-l _ e ∙ and-false-l _ (rw en at f)
 
-        pub fits-play : (r : Bool) → isPlay (p .abstraction) (lassoOf (take s B) (take n (drop s B))) ≡ true
+        pub fits-play : (r : Bool) → isPlay (p .abstraction) (given (take s B) (take n (drop s B))) ≡ true
             → r ≡ every (s + q) (λ t. sameObservation (observation (p .concrete) (moment l t))
-            (observation (p .abstraction) (moment (lassoOf (take s B) (take n (drop s B))) t)))
+            (observation (p .abstraction) (moment (given (take s B) (take n (drop s B))) t)))
             → r ≡ runFits p T l B s q
         unfolding runFits sameMoments
         fits-play r f er = (rw en at er) ∙ sym (and-true-l _ (le-leb _ _ h) ∙ and-true-l _ e ∙ and-true-l _ (rw en at f))
@@ -79,26 +80,26 @@ power-two base n f g = rw (ne-eqb n 0 f, ne-eqb n 1 g)
 
 -- a lasso in the digits L of x, its loop of n states
 pub numbered-is : (p : Pair) (T L : List ℕ) (top s q x n : ℕ) (t : Tally) → L ≡ statesOf top x 4 → n ≡ q
-    → t ≡ lassoTally p T (lassoOf (take s L) (take n (drop s L))) → t ≡ lassoTally p T (lassoNumbered top s q x)
-unfolding lassoNumbered
+    → t ≡ lassoTally p T (given (take s L) (take n (drop s L))) → t ≡ lassoTally p T (numberedLasso top s q x)
+unfolding numberedLasso
 numbered-is p T L top s q x n t e en et = et ∙ rw (e, en)
 
 -- with a buffer Z of any length
-tally-in : (p : Pair) (T : List ℕ) (l : Lasso) (Z B : List ℕ) (x y : Played) (v w : Refusal) (a : Bool) (t : Tally)
+tally-in : (p : Pair) (T : List ℕ) (l : Lasso) (Z B : List ℕ) (x y : Result Played) (v w : Refusal) (a : Bool) (t : Tally)
     → B ≡ playerBuffer p T l Z → x ≡ playerAnswer p T l Z → y ≡ playedPlain p T l → v ≡ playedFour x → w ≡ playedFour y
     → a ≡ lassoAgrees p T l B v w → t ≡ ofLasso (eqb (v .number) 0) a
     → t ≡ (let u = playedFour (playerAnswer p T l Z) in
     ofLasso (eqb (u .number) 0) (lassoAgrees p T l (playerBuffer p T l Z) u (playedFour (playedPlain p T l))))
 tally-in p T l Z B x y v w a t eb ex ey ev ew ea et = rw (et, ea, eb, ev, ew, ex, ey)
 
-pub tally-is : (p : Pair) (T : List ℕ) (l : Lasso) (B : List ℕ) (x y : Played) (v w : Refusal) (a : Bool) (t : Tally)
+pub lasso-tally-is : (p : Pair) (T : List ℕ) (l : Lasso) (B : List ℕ) (x y : Result Played) (v w : Refusal) (a : Bool) (t : Tally)
     → B ≡ playerBuffer p T l zeros → x ≡ playerAnswer p T l zeros → y ≡ playedPlain p T l → v ≡ playedFour x → w ≡ playedFour y
     → a ≡ lassoAgrees p T l B v w → t ≡ ofLasso (eqb (v .number) 0) a → t ≡ lassoTally p T l
 unfolding lassoTally
-tally-is p T l B x y v w a t = tally-in p T l zeros B x y v w a t
+lasso-tally-is p T l B x y v w a t = tally-in p T l zeros B x y v w a t
 
 pub shape-is : (p : Pair) (T : List ℕ) (top s q a b n : ℕ) (t : Tally) → a ≡ power (top + 1) s → b ≡ power (top + 1) q → n ≡ a * b
-    → t ≡ total n (λ x. lassoTally p T (lassoNumbered top s q x)) → t ≡ shapeTally p T top s q
+    → t ≡ total n (λ x. lassoTally p T (numberedLasso top s q x)) → t ≡ shapeTally p T top s q
 unfolding shapeTally
 shape-is p T top s q a b n t ea eb en et = et ∙ rw (en, ea, eb)
 

@@ -6,18 +6,16 @@ use lib.ListN.{length}
 use lib.Dec.{eqb}
 use Rattle.mask.specs.Logic.{not, and, or}
 use Rattle.machine.specs.declared.Pair.{Pair}
-use Rattle.machine.specs.declared.Validity.{Validity}
-use Rattle.machine.specs.declared.Validity.the-variants.{Valid, Refused}
 use Rattle.machine.specs.Machines.{nC, setsC, pairs}
-use Rattle.machine.specs.WellFormed.{pairValidity}
+use Rattle.machine.specs.WellFormed.{isValid, pairValidity}
 use Rattle.machine.specs.Table.{entries}
 use Rattle.solver.specs.Solver.{solveValidity, solvedTable}
-use Rattle.brute.specs.Numbers.{pairOf}
+use Rattle.brute.specs.Numbers.{numberedPair}
 use Rattle.brute.specs.Lifting.{liftedTable}
 use Rattle.brute.specs.Ranking.{tableRanked}
 use Rattle.comparison.specs.declared.pairs.Series.{Series}
 use Rattle.comparison.specs.declared.tally.Tally.{Tally}
-use Rattle.comparison.specs.Answers.{validityFour, sameFour}
+use Rattle.comparison.specs.Answers.{testedFour, sameFour}
 use Rattle.comparison.specs.Tallies.{plus, total, ofPair, ofSolution}
 use Rattle.comparison.specs.Tables.{zeros, within, tableTally, tableOf}
 use Rattle.comparison.specs.Lassos.{lassosTally}
@@ -37,11 +35,6 @@ solutionTally p n every carrying S =
     let own = tableTally p n S S in
     ofSolution (own .carrying) (solutionAgrees p n (verdictFits own every carrying) (liftedTable p zeros) S)
 
--- a further count, where nothing is refused
-unfoldable pub plusUnless : Validity → Tally → Tally → Tally
-plusUnless Valid x y = plus x y
-plusUnless (Refused r) x y = x
-
 module _ (s : Series) where
   -- the tables of a pair, S being the solver's
   unfoldable pub tablesTally : Pair → List ℕ → Tally
@@ -53,16 +46,16 @@ module _ (s : Series) where
       let tables = tablesTally p S in
       plus (plus tables (solutionTally p (entries p) (s .every) (tables .carrying) S)) (lassosTally p S (nC p) (s .stem))
 
-  -- any pair
+  -- any pair: a further count where nothing is refused
   unfoldable pub pairTally : Pair → Tally
   pairTally p =
       let v = solveValidity p (length zeros) in
-      let tried = ofPair (sameFour (validityFour v) (validityFour (pairValidity p))) in
-      plusUnless v tried (formedTally p (solvedTable p zeros))
+      let tried = ofPair (sameFour (testedFour v) (testedFour (pairValidity p))) in
+      cond (isValid v) (plus tried (formedTally p (solvedTable p zeros))) tried
 
   -- the pairs of concrete machine number x
   unfoldable pub rowTally : ℕ → Tally
-  rowTally x = total (s .abstractions .count) (λ i. pairTally (pairOf (s .concrete) (s .abstraction) x (i * s .abstractions .step)))
+  rowTally x = total (s .abstractions .count) (λ i. pairTally (numberedPair (s .concrete) (s .abstraction) x (i * s .abstractions .step)))
 
   -- all pairs of the series
   unfoldable pub seriesTally : Tally

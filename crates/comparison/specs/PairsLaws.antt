@@ -1,5 +1,5 @@
 -- Laws of what is compared of a pair, case by case.
-use mathlib.Core.Bool.{Bool, false, true}
+use mathlib.Core.Bool.{Bool, cond, false, true}
 use mathlib.Core.List.{List}
 use mathlib.Core.Path.{_≡_, _∙_, ap, sym}
 use Prim.Native.Nat.{ℕ, _+_, _*_}
@@ -10,22 +10,21 @@ use Rattle.mask.specs.Logic.{not}
 use Rattle.mask.specs.LogicLaws.{and-false-l, and-i, and-true-l, not-f, not-i, or-false-l, or-l}
 use Rattle.machine.specs.declared.Pair.{Pair}
 use Rattle.machine.specs.declared.Refusal.{Refusal}
-use Rattle.machine.specs.declared.Validity.{Validity}
-use Rattle.machine.specs.declared.Validity.the-variants.{Valid, Refused}
+use Rattle.machine.specs.Refusals.{Tested, refused, valid}
 use Rattle.machine.specs.Machines.{nC, setsC, pairs}
 use Rattle.machine.specs.Table.{entries}
-use Rattle.machine.specs.WellFormed.{pairValidity, wellFormed}
+use Rattle.machine.specs.WellFormed.{isValid, pairValidity, wellFormed}
 use Rattle.machine.specs.WellFormedLaws.{valid-is-well}
 use Rattle.machine.specs.RefusalsLaws.{then-answer}
 use Rattle.solver.specs.Solver.{solveValidity, solvedTable}
-use Rattle.brute.specs.Numbers.{pairOf}
+use Rattle.brute.specs.Numbers.{numberedPair}
 use Rattle.comparison.specs.declared.pairs.Series.{Series}
-use Rattle.comparison.specs.Answers.{validityFour, sameFour}
+use Rattle.comparison.specs.Answers.{testedFour, sameFour}
 use Rattle.comparison.specs.Lassos.{lassosTally}
 use Rattle.comparison.specs.declared.tally.Tally.{Tally}
 use Rattle.brute.specs.Lifting.{liftedTable}
 use Rattle.brute.specs.Ranking.{tableRanked}
-use Rattle.comparison.specs.Pairs.{verdictFits, solutionAgrees, solutionTally, tablesTally, formedTally, plusUnless, pairTally, rowTally, seriesTally}
+use Rattle.comparison.specs.Pairs.{verdictFits, solutionAgrees, solutionTally, tablesTally, formedTally, pairTally, rowTally, seriesTally}
 use Rattle.comparison.specs.Tables.{zeros, within, tableTally, tableOf}
 use Rattle.comparison.specs.Tallies.{plus, total, ofPair, ofSolution}
 
@@ -81,29 +80,29 @@ module _ (s : Series) (p : Pair) (S : List ℕ) where
   unfolding formedTally tablesTally
   formed-is tables solution lassos first r et es el ef er = rw (er, ef, el, es, et)
 
-pub solved-well : (p : Pair) (n : ℕ) (v : Validity) → v ≡ solveValidity p n → v ≡ Valid → wellFormed p ≡ true
+pub solved-well : (p : Pair) (n : ℕ) → solveValidity p n ≡ valid → wellFormed p ≡ true
 unfolding solveValidity
-solved-well p n v ev e = valid-is-well p (then-answer _ _ (sym ev ∙ e) .1)
+solved-well p n e = valid-is-well p (then-answer _ _ e .1)
 
--- a pair, with the solver's answer v, the plain one u, and the table S that the solver left
-module _ (s : Series) (p : Pair) (v u : Validity) (x y : Refusal) (same : Bool) (tried : Tally) (ev : v ≡ solveValidity p (length zeros)) (eu : u ≡ pairValidity p) (ex : x ≡ validityFour v)
-    (ey : y ≡ validityFour u) (es : same ≡ sameFour x y) (et : tried ≡ ofPair same) where
-  pair-at : pairTally s p ≡ plusUnless v tried (formedTally s p (solvedTable p zeros))
+-- a pair, with what the solver says, what the plain reading says, and the table S that the solver left
+module _ (s : Series) (p : Pair) (v u : Tested) (x y : Refusal) (same : Bool) (tried : Tally) (ev : v ≡ solveValidity p (length zeros)) (eu : u ≡ pairValidity p) (ex : x ≡ testedFour v)
+    (ey : y ≡ testedFour u) (es : same ≡ sameFour x y) (et : tried ≡ ofPair same) where
+  pair-at : pairTally s p ≡ cond (isValid v) (plus tried (formedTally s p (solvedTable p zeros))) tried
   unfolding pairTally
   pair-at = rw (et, es, ey, ex, eu, ev)
 
-  pub pair-refused : (r : Refusal) → v ≡ Refused r → tried ≡ pairTally s p
-  unfolding plusUnless
+  pub pair-refused : (r : Refusal) → v ≡ refused r → tried ≡ pairTally s p
+  unfolding isValid
   pair-refused r e = sym (pair-at ∙ rw e)
 
-  pub pair-formed : v ≡ Valid → (S : List ℕ) (formed r : Tally) → S ≡ solvedTable p zeros → formed ≡ formedTally s p S → r ≡ plus tried formed → r ≡ pairTally s p
-  unfolding plusUnless
+  pub pair-formed : v ≡ valid → (S : List ℕ) (formed r : Tally) → S ≡ solvedTable p zeros → formed ≡ formedTally s p S → r ≡ plus tried formed → r ≡ pairTally s p
+  unfolding isValid
   pair-formed e S formed r eS ef er = rw (er, ef, eS) (sym (pair-at ∙ rw e))
 
 module _ (s : Series) where
-  pub row-is : (x n : ℕ) (r : Tally) → n ≡ s .abstractions .count → r ≡ total n (λ i. pairTally s (pairOf (s .concrete) (s .abstraction) x (i * s .abstractions .step))) → r ≡ rowTally s x
+  pub row-is : (x n : ℕ) (r : Tally) → n ≡ s .abstractions .count → r ≡ total n (λ i. pairTally s (numberedPair (s .concrete) (s .abstraction) x (i * s .abstractions .step))) → r ≡ rowTally s x
   unfolding rowTally
-  row-is x n r e er = er ∙ ap (λ k. total k (λ i. pairTally s (pairOf (s .concrete) (s .abstraction) x (i * s .abstractions .step)))) e
+  row-is x n r e er = er ∙ ap (λ k. total k (λ i. pairTally s (numberedPair (s .concrete) (s .abstraction) x (i * s .abstractions .step)))) e
 
   pub series-is : (n : ℕ) (r : Tally) → n ≡ s .concretes .count → r ≡ total n (λ i. rowTally s (i * s .concretes .step)) → r ≡ seriesTally s
   unfolding seriesTally

@@ -9,16 +9,16 @@ use Rattle.mask.specs.Logic.{not, and, or}
 use Rattle.mask.specs.Tables.{table}
 use Rattle.machine.specs.declared.Pair.{Pair}
 use Rattle.machine.specs.declared.Refusal.{Refusal}
-use Rattle.machine.specs.Table.{blank}
+use Rattle.machine.specs.Table.{blank, tableRoom}
 use Rattle.machine.specs.Verdict.{checkVerdict}
-use Rattle.brute.specs.Numbers.{entryOf, numbered}
+use Rattle.brute.specs.Numbers.{entryOf, numberedTable}
 use Rattle.comparison.specs.declared.tally.Tally.{Tally}
 use Rattle.comparison.specs.Answers.{verdictFour, sameFour}
 use Rattle.comparison.specs.Tallies.{ofTable}
 
--- a table or a run's buffer, as it is lent
+-- a table or a run's buffer, as it is lent; both have the same room
 abbrev pub zeros : List ℕ
-zeros = replicate 28672 0
+zeros = replicate tableRoom 0
 
 -- of n entries, S covers each that T covers
 unfoldable pub within : ℕ → List ℕ → List ℕ → Bool
@@ -39,4 +39,4 @@ altered top x n S T =
 
 -- table number x: one of all tables, or S with one entry changed
 unfoldable pub tableOf : Bool → ℕ → ℕ → List ℕ → ℕ → List ℕ → List ℕ
-tableOf every top n S x T = cond every (numbered top x n T) (altered top x n S T)
+tableOf every top n S x T = cond every (numberedTable top x n T) (altered top x n S T)

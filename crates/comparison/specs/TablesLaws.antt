@@ -15,35 +15,35 @@ use Rattle.machine.specs.Table.{blank}
 use Rattle.machine.specs.Verdict.{checkVerdict}
 use Rattle.machine.specs.declared.Pair.{Pair}
 use Rattle.machine.specs.declared.Refusal.{Refusal}
-use Rattle.brute.specs.Numbers.{numbered}
+use Rattle.brute.specs.Numbers.{numberedTable}
 use Rattle.comparison.specs.Answers.{sameFour, verdictFour}
 use Rattle.comparison.specs.Tables.{altered, tableAgrees, tableOf, tableTally, within}
 use Rattle.comparison.specs.Tallies.{ofTable}
 use Rattle.comparison.specs.declared.tally.Tally.{Tally}
 
 -- ---- S covers each entry that T covers: t and s are the two tables' values of one entry
-unfoldable pub covers : ℕ → ℕ → Bool
-covers t s = or (eqb t blank) (not (eqb s blank))
+unfoldable pub coveredToo : ℕ → ℕ → Bool
+coveredToo t s = or (eqb t blank) (not (eqb s blank))
 
 module _ (t s : ℕ) where
-  pub covers-blank : t ≡ blank → covers t s ≡ true
-  unfolding covers
-  covers-blank p = or-l _ (eq-eqb t blank p)
+  pub too-blank : t ≡ blank → coveredToo t s ≡ true
+  unfolding coveredToo
+  too-blank p = or-l _ (eq-eqb t blank p)
 
-  pub covers-held : (s ≡ blank → ⊥) → covers t s ≡ true
-  unfolding covers
-  covers-held q = or-r _ (not-i (ne-eqb s blank q))
+  pub too-held : (s ≡ blank → ⊥) → coveredToo t s ≡ true
+  unfolding coveredToo
+  too-held q = or-r _ (not-i (ne-eqb s blank q))
 
-  pub covers-not : (t ≡ blank → ⊥) → s ≡ blank → covers t s ≡ false
-  unfolding covers
-  covers-not p q = or-false (ne-eqb t blank p) (not-f (eq-eqb s blank q))
+  pub too-not : (t ≡ blank → ⊥) → s ≡ blank → coveredToo t s ≡ false
+  unfolding coveredToo
+  too-not p q = or-false (ne-eqb t blank p) (not-f (eq-eqb s blank q))
 
-pub within-of : (n : ℕ) (T S : List ℕ) → ((e : ℕ) → e < n → covers (getD T e 0) (getD S e 0) ≡ true) → within n T S ≡ true
-unfolding within covers
+pub within-of : (n : ℕ) (T S : List ℕ) → ((e : ℕ) → e < n → coveredToo (getD T e 0) (getD S e 0) ≡ true) → within n T S ≡ true
+unfolding within coveredToo
 within-of n T S h = every-of n _ h
 
-pub within-not : (n : ℕ) (T S : List ℕ) (e : ℕ) → e < n → covers (getD T e 0) (getD S e 0) ≡ false → within n T S ≡ false
-unfolding within covers
+pub within-not : (n : ℕ) (T S : List ℕ) (e : ℕ) → e < n → coveredToo (getD T e 0) (getD S e 0) ≡ false → within n T S ≡ false
+unfolding within coveredToo
 within-not n T S e h t = every-not n _ e h t
 
 -- ---- two answers x and y about T
@@ -83,7 +83,7 @@ module _ (e q w s v : ℕ) where
 
 -- ---- table number x
 module _ (every : Bool) (top n : ℕ) (S : List ℕ) (x : ℕ) (T r : List ℕ) where
-  pub table-of-all : every ≡ true → r ≡ numbered top x n T → r ≡ tableOf every top n S x T
+  pub table-of-all : every ≡ true → r ≡ numberedTable top x n T → r ≡ tableOf every top n S x T
   unfolding tableOf
   table-of-all h e = rw h e
 
@@ -93,12 +93,12 @@ module _ (every : Bool) (top n : ℕ) (S : List ℕ) (x : ℕ) (T r : List ℕ) 
 
 table-of-twice : (every : Bool) (top n : ℕ) (S : List ℕ) (x y : ℕ) (T : List ℕ)
     → tableOf every top n S x (tableOf every top n S y T) ≡ tableOf every top n S x T
-unfolding tableOf numbered altered
+unfolding tableOf numberedTable altered
 table-of-twice true top n S x y T = overlaid-twice n _ _ T
 table-of-twice false top n S x y T = overlaid-twice n _ _ T
 
 table-of-length : (every : Bool) (top n : ℕ) (S : List ℕ) (x : ℕ) (T : List ℕ) → length (tableOf every top n S x T) ≡ length T
-unfolding tableOf numbered altered
+unfolding tableOf numberedTable altered
 table-of-length true top n S x T = table-length _ _
 table-of-length false top n S x T = table-length _ _
 
@@ -118,11 +118,11 @@ reused-turn {every} {top} {n} {S} {A} {B} y C b e = record {
 }
 
 -- ---- one table's counts, from two answers x and y about it
-pub tally-is : (p : Pair) (n : ℕ) (S T : List ℕ) (x y : Refusal) (agrees : Bool) (r : Tally) → x ≡ verdictFour (checkVerdict p T)
+pub table-tally-is : (p : Pair) (n : ℕ) (S T : List ℕ) (x y : Refusal) (agrees : Bool) (r : Tally) → x ≡ verdictFour (checkVerdict p T)
     → y ≡ verdictFour (checkVerdict p T) → agrees ≡ tableAgrees n x y S T → r ≡ ofTable (leb 100 (x .number)) (eqb (x .number) 100) agrees
     → r ≡ tableTally p n S T
 unfolding tableTally
-tally-is p n S T x y agrees r ex ey ea er = rw (er, ea, ex, ey)
+table-tally-is p n S T x y agrees r ex ey ea er = rw (er, ea, ex, ey)
 
 -- and from a buffer that was used before
 pub reused-tally : {every : Bool} {top n : ℕ} {S A B : List ℕ} (p : Pair) (x : ℕ) (C : List ℕ) (r : Tally) → Reused every top n S A B

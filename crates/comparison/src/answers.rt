@@ -1,69 +1,66 @@
-// Each answer as four numbers, so that answers of two kinds can be compared: a refusal's number and spot; 0 for Valid; 0 and two lengths for a
-// run; 100 and the count for Carried; 200, c and the count for NotCarried.
+// Each answer as four numbers, so that answers can be compared: a refusal's number and spot; 0 for Valid; 0 and two lengths for a run; 100 and
+// the count for Carried; 200, c and the count for NotCarried.
 ghost use mathlib.Core.Path.{_≡_};
+ghost use Rattle.machine.specs.Refusals.{testedOf};
 ghost use Rattle.linecheck.specs.Answers.{verdictOf};
 ghost use Rattle.player.specs.Answers.{playedOf};
 ghost use Rattle.brute.specs.Lines.{verdictOf as plainVerdictOf};
 ghost use Rattle.brute.specs.Runs.{playedOf as plainPlayedOf};
-ghost use Rattle.comparison.specs.Answers.{fourOf, sameFour, validityFour, verdictFour, playedFour};
+ghost use Rattle.comparison.specs.Answers.{testedFour, verdictFour, playedFour, sameFour};
+use linecheck::Checked;
 use machine::Refusal;
 use machine::Validity;
+use player::Played;
 
-fn four(number: u32, first: usize, second: usize) -> Refusal
-    ensures { λ r. ⌜ r ≡ fourOf number first second ⌝ }
+// The plain reading's answer about a table, in the check's form.
+pub fn as_checked(v: brute::Verdict) -> Checked
+    ensures { λ r. ⌜ verdictOf r ≡ plainVerdictOf v ⌝ }
 {
-    Refusal {
-        number: number,
-        first: first,
-        second: second,
-        third: 0,
+    match v {
+        brute::Verdict::Carried(n) => Checked::Carried(n),
+        brute::Verdict::NotCarried(c, n) => Checked::NotCarried(c, n),
+        brute::Verdict::Refused(r) => Checked::Refused(r),
     }
 }
 
-pub fn validity_four(v: Validity) -> Refusal
-    ensures { λ r. ⌜ r ≡ validityFour v ⌝ }
+// The plain reading's answer about a lasso, in the player's form.
+pub fn as_played(v: brute::Played) -> Played
+    ensures { λ r. ⌜ playedOf r ≡ plainPlayedOf v ⌝ }
 {
     match v {
-        Validity::Valid => four(0, 0, 0),
+        brute::Played::Run(stem, cycle) => Played::Run(stem, cycle),
+        brute::Played::Refused(r) => Played::Refused(r),
+    }
+}
+
+// The four numbers of what a test says.
+pub fn tested_four(v: Validity) -> Refusal
+    ensures { λ r. ⌜ r ≡ testedFour (testedOf v) ⌝ }
+{
+    match v {
+        Validity::Valid => machine::refuse(0, 0, 0, 0),
         Validity::Refused(r) => r,
     }
 }
 
-pub fn answer_four(v: linecheck::Answer) -> Refusal
+// The four numbers of what the check says.
+pub fn verdict_four(v: Checked) -> Refusal
     ensures { λ r. ⌜ r ≡ verdictFour (verdictOf v) ⌝ }
 {
     match v {
-        linecheck::Answer::Carried(n) => four(100, n, 0),
-        linecheck::Answer::NotCarried(c, n) => four(200, c, n),
-        linecheck::Answer::Refused(r) => r,
+        Checked::Carried(n) => machine::refuse(100, n, 0, 0),
+        Checked::NotCarried(c, n) => machine::refuse(200, c, n, 0),
+        Checked::Refused(r) => r,
     }
 }
 
-pub fn verdict_four(v: brute::Verdict) -> Refusal
-    ensures { λ r. ⌜ r ≡ verdictFour (plainVerdictOf v) ⌝ }
-{
-    match v {
-        brute::Verdict::Carried(n) => four(100, n, 0),
-        brute::Verdict::NotCarried(c, n) => four(200, c, n),
-        brute::Verdict::Refused(r) => r,
-    }
-}
-
-pub fn played_four(v: player::Played) -> Refusal
+// The four numbers of what the player says.
+pub fn played_four(v: Played) -> Refusal
     ensures { λ r. ⌜ r ≡ playedFour (playedOf v) ⌝ }
 {
     match v {
-        player::Played::Run(stem, cycle) => four(0, stem, cycle),
-        player::Played::Refused(r) => r,
-    }
-}
-
-pub fn plain_played_four(v: brute::Played) -> Refusal
-    ensures { λ r. ⌜ r ≡ playedFour (plainPlayedOf v) ⌝ }
-{
-    match v {
-        brute::Played::Run(stem, cycle) => four(0, stem, cycle),
-        brute::Played::Refused(r) => r,
+        Played::Run(stem, cycle) => machine::refuse(0, stem, cycle, 0),
+        Played::Refused(r) => r,
     }
 }
 

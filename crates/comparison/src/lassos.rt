@@ -1,9 +1,9 @@
 // The player beside the rule, on all short lassos: the answers, the run, and whether it is a fair lasso with the same observations.
 ghost use mathlib.Core.Path.{_≡_};
 ghost use Prim.Native.Nat.{_+_, _*_, _≤_};
-ghost use Rattle.brute.specs.Runs.{lassoOf};
-ghost use Rattle.comparison.specs.Lassos.{runFits, lassoAgrees, lassoTally, lassoNumbered, power, shapeTally, lassosTally};
-use crate::answers::plain_played_four;
+ghost use Rattle.brute.specs.Runs.{given};
+ghost use Rattle.comparison.specs.Lassos.{runFits, lassoAgrees, lassoTally, numberedLasso, power, shapeTally, lassosTally};
+use crate::answers::as_played;
 use crate::answers::played_four;
 use crate::answers::same_four;
 use crate::tally::Tally;
@@ -24,7 +24,7 @@ fn run_fits(
     s: usize,
     q: usize,
 ) -> bool
-    ensures { λ r. ⌜ r ≡ runFits p (now (table .entry)) (lassoOf (now (stem .entry)) (now (cycle .entry))) (now (run .entry)) s q ⌝ }
+    ensures { λ r. ⌜ r ≡ runFits p (now (table .entry)) (given (now (stem .entry)) (now (cycle .entry))) (now (run .entry)) s q ⌝ }
 {
     if run.len() < s {
         return false;
@@ -53,7 +53,7 @@ fn lasso_agrees(
     answer: Refusal,
     plain: Refusal,
 ) -> bool
-    ensures { λ r. ⌜ r ≡ lassoAgrees p (now (table .entry)) (lassoOf (now (stem .entry)) (now (cycle .entry))) (now (run .entry)) answer plain ⌝ }
+    ensures { λ r. ⌜ r ≡ lassoAgrees p (now (table .entry)) (given (now (stem .entry)) (now (cycle .entry))) (now (run .entry)) answer plain ⌝ }
 {
     if !same_four(answer, plain) {
         return false;
@@ -66,11 +66,11 @@ fn lasso_agrees(
 
 // One lasso.
 fn compare_lasso(p: Pair, table: &[u16], stem: &[u8], cycle: &[u8]) -> Tally
-    ensures { λ r. ⌜ r ≡ lassoTally p (now (table .entry)) (lassoOf (now (stem .entry)) (now (cycle .entry))) ⌝ }
+    ensures { λ r. ⌜ r ≡ lassoTally p (now (table .entry)) (given (now (stem .entry)) (now (cycle .entry))) ⌝ }
 {
-    let mut run = [0u8; 28672];
+    let mut run = [0u8; machine::TABLE_ROOM];
     let answer = played_four(player::play(p, table, stem, cycle, &mut run));
-    let plain = plain_played_four(brute::plain_play(p, table, stem, cycle));
+    let plain = played_four(as_played(brute::plain_play(p, table, stem, cycle)));
     of_lasso(
         answer.number == 0,
         lasso_agrees(p, table, stem, cycle, &run, answer, plain),
@@ -80,12 +80,12 @@ fn compare_lasso(p: Pair, table: &[u16], stem: &[u8], cycle: &[u8]) -> Tally
 // Lasso number x of a stem of s states and a loop of q: its states are digits from 0 to `top`.
 fn compare_numbered(p: Pair, table: &[u16], s: usize, q: usize, top: u8, x: u64) -> Tally
     requires { ⌜ s + q ≤ 4 ⌝ }
-    ensures { λ r. ⌜ r ≡ lassoTally p (now (table .entry)) (lassoNumbered top s q x) ⌝ }
+    ensures { λ r. ⌜ r ≡ lassoTally p (now (table .entry)) (numberedLasso top s q x) ⌝ }
 {
     let mut states = [0u8; 4];
     brute::put_states(x, top, &mut states);
-    let given: &[u8] = &states;
-    compare_lasso(p, table, &given[..s], &given[s..s + q])
+    let lent: &[u8] = &states;
+    compare_lasso(p, table, &lent[..s], &lent[s..s + q])
 }
 
 // How many numbers n digits have, n up to 2.

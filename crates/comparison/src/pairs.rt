@@ -4,7 +4,7 @@ ghost use mathlib.Core.Path.{_≡_};
 ghost use Rattle.machine.specs.WellFormed.{wellFormed};
 ghost use Rattle.comparison.specs.Pairs.{verdictFits, solutionAgrees, solutionTally, formedTally, pairTally, rowTally, seriesTally};
 use crate::answers::same_four;
-use crate::answers::validity_four;
+use crate::answers::tested_four;
 use crate::lassos::compare_lassos;
 use crate::tables::compare_table;
 use crate::tables::compare_tables;
@@ -76,7 +76,7 @@ fn compare_solution(p: Pair, n: usize, every: bool, carrying: u64, solved: &[u16
 {
     let own = compare_table(p, n, solved, solved);
     let fits = verdict_fits(own, every, carrying);
-    let mut lifted = [0u16; 28672];
+    let mut lifted = [0u16; machine::TABLE_ROOM];
     brute::lift(p, &mut lifted);
     let agrees = solution_agrees(p, n, fits, &lifted, solved);
     of_solution(own.carrying, agrees)
@@ -102,10 +102,10 @@ fn compare_formed(p: Pair, s: Series, solved: &[u16]) -> Tally
 fn compare_pair(p: Pair, s: Series) -> Tally
     ensures { λ r. ⌜ r ≡ pairTally s p ⌝ }
 {
-    let mut solved = [0u16; 28672];
+    let mut solved = [0u16; machine::TABLE_ROOM];
     let answer = solver::solve(p, &mut solved);
     let plain = brute::validity(p);
-    let tried = of_pair(same_four(validity_four(answer), validity_four(plain)));
+    let tried = of_pair(same_four(tested_four(answer), tested_four(plain)));
     match answer {
         Validity::Refused(_) => tried,
         Validity::Valid => add(tried, compare_formed(p, s, &solved)),
@@ -120,7 +120,7 @@ fn compare_row(s: Series, x: u64) -> Tally
     let mut sum = none();
     for i in 0..numbers.count {
         let y = i as u64 * numbers.step as u64;
-        let p = brute::pair_of(s.concrete, s.abstraction, x, y);
+        let p = brute::numbered_pair(s.concrete, s.abstraction, x, y);
         sum = add(sum, compare_pair(p, s));
     }
     sum

@@ -2,7 +2,7 @@
 ghost use mathlib.Core.Path.{_≡_};
 ghost use Rattle.comparison.specs.Tallies.{total};
 ghost use Rattle.comparison.specs.Tables.{zeros, within, tableAgrees, tableTally, altered, tableOf};
-use crate::answers::answer_four;
+use crate::answers::as_checked;
 use crate::answers::same_four;
 use crate::answers::verdict_four;
 use crate::tally::Tally;
@@ -17,8 +17,8 @@ pub fn is_within(n: usize, table: &[u16], other: &[u16]) -> bool
     ensures { λ r. ⌜ r ≡ within n (now (table .entry)) (now (other .entry)) ⌝ }
 {
     for e in 0..n {
-        if brute::value_at(table, e) != 65535 {
-            if brute::value_at(other, e) == 65535 {
+        if brute::value_at(table, e) != machine::BLANK {
+            if brute::value_at(other, e) == machine::BLANK {
                 return false;
             }
         }
@@ -43,8 +43,8 @@ fn table_agrees(n: usize, answer: Refusal, plain: Refusal, table: &[u16], solved
 pub fn compare_table(p: Pair, n: usize, table: &[u16], solved: &[u16]) -> Tally
     ensures { λ r. ⌜ r ≡ tableTally p n (now (solved .entry)) (now (table .entry)) ⌝ }
 {
-    let answer = answer_four(linecheck::check_table(p, table));
-    let plain = verdict_four(brute::plain_verdict(p, table));
+    let answer = verdict_four(linecheck::check_table(p, table));
+    let plain = verdict_four(as_checked(brute::plain_verdict(p, table)));
     of_table(
         100 <= answer.number,
         answer.number == 100,
@@ -85,7 +85,7 @@ fn put_table(every: bool, x: u64, top: u16, n: usize, solved: &[u16], table: &mu
 pub fn compare_tables(p: Pair, every: bool, top: u16, n: usize, count: u64, solved: &[u16]) -> Tally
     ensures { λ r. ⌜ r ≡ total count (λ x. tableTally p n (now (solved .entry)) (tableOf every top n (now (solved .entry)) x zeros)) ⌝ }
 {
-    let mut table = [0u16; 28672];
+    let mut table = [0u16; machine::TABLE_ROOM];
     let mut sum = none();
     for x in 0..count {
         put_table(every, x, top, n, solved, &mut table);

@@ -11,7 +11,7 @@ use Rattle.mask.specs.Tables.{maskOf, table}
 use Rattle.machine.specs.declared.Machine.{Machine}
 use Rattle.machine.specs.declared.Pair.{Pair}
 use Rattle.machine.specs.Machines.{observation, successors, moves, starts, fairSet, inFairSet, sameObservation, matched, next}
-use Rattle.machine.specs.Refusals.{refusal, andThen}
+use Rattle.machine.specs.Refusals.{Result, answer, refused, refusal, andThen}
 use Rattle.machine.specs.WellFormed.{countsOk, beyond, stateBeyond, setBeyond, beyondCounts, stuckState, contentValidity, pairValidity}
 use Rattle.machine.specs.Lassos.{Lasso, moment}
 use Rattle.machine.specs.Step.{steps, better, least, partner, found, stateOf}
@@ -20,8 +20,8 @@ use Rattle.machine.specs.Game.{pairSet, mem, sameSet, none, allMatched, goals, 
 use Rattle.machine.specs.Ranks.{levelOf, setOf, towerOver, tower, rankIn, solverTable}
 use Rattle.machine.specs.Table.{blank, entryIndex, entry, covers, coveredCount}
 use Rattle.machine.specs.Lines.{nonBlank, lower, atMost, goalLine, rankLine, passes, linesValidity}
-use Rattle.machine.specs.Verdict.{Verdict, carried, notCarried, refused, startCovered, lackingStart, startVerdict, orElse, linesVerdict}
-use Rattle.machine.specs.Player.{badLength, badStep, missedSet, lassoValidity, startPartner, startValidity, sectionAfter, follow, stepTo, placeAt, samePlace, lastRound, earlierRound, stemLength, loopLength, run, playValidity, Played, played, playedUnless}
+use Rattle.machine.specs.Verdict.{Verdict, carried, notCarried, startCovered, lackingStart, startVerdict, linesVerdict}
+use Rattle.machine.specs.Player.{badLength, badStep, missedSet, lassoValidity, startPartner, startValidity, sectionAfter, follow, stepTo, placeAt, samePlace, lastRound, earlierRound, stemLength, loopLength, run, playValidity, Played, played}
 
 -- a machine whose start state is 0, from the lists of its states' observations and successor masks and of its sets
 machineOf : List ℕ → List ℕ → List ℕ → Machine
@@ -53,25 +53,25 @@ Early : Machine
 Early = machineOf (0 ∷ 1 ∷ 1 ∷ 2 ∷ 3 ∷ []) (6 ∷ 8 ∷ 16 ∷ 8 ∷ 16 ∷ []) (31 ∷ [])
 
 -- what a case asks, and what is answered: the solver's table, the check's verdict on a table, the player's run
-data Answer : Type 0 where
-  solves : List ℕ → Answer
-  says : Verdict → Answer
-  plays : Played → List ℕ → Answer
+data Reply : Type 0 where
+  solves : List ℕ → Reply
+  says : Result Verdict → Reply
+  plays : Result Played → List ℕ → Reply
 
-solve : Pair → Answer
+solve : Pair → Reply
 solve p = solves (solverTable p)
 
-check : Pair → List ℕ → Answer
+check : Pair → List ℕ → Reply
 check p T = says (linesVerdict p T)
 
-solveAndCheck : Pair → Answer
+solveAndCheck : Pair → Reply
 solveAndCheck p = check p (solverTable p)
 
-play : Pair → List ℕ → Lasso → Answer
-play p T l = plays (playedUnless (playValidity p T l) (played (stemLength p T l) (loopLength p T l))) (run p T l)
+play : Pair → List ℕ → Lasso → Reply
+play p T l = plays (andThen (playValidity p T l) (answer (played (stemLength p T l) (loopLength p T l)))) (run p T l)
 
 -- cases 1 to 12
-asked : List Answer
+asked : List Reply
 asked =
     solve (K 0 (1 ∷ []) by K 0 (1 ∷ []))
     ∷ solve (K 0 (1 ∷ []) by K 0 (0 ∷ []))
@@ -90,27 +90,27 @@ asked =
     ∷ solveAndCheck (Early by Late)
     ∷ []
 
-answered : List Answer
+answered : List Reply
 answered =
     solves (0 ∷ [])
     ∷ solves (blank ∷ [])
-    ∷ says (notCarried 0 0)
+    ∷ says (answer (notCarried 0 0))
     ∷ solves (1 ∷ [])
-    ∷ says (carried 1)
+    ∷ says (answer (carried 1))
     ∷ solves (blank ∷ [])
     ∷ solves (2 ∷ 0 ∷ [])
-    ∷ says (carried 2)
-    ∷ says (carried 2)
+    ∷ says (answer (carried 2))
+    ∷ says (answer (carried 2))
     ∷ says (refused (refusal 12 1 0 0))
     ∷ says (refused (refusal 12 1 0 0))
-    ∷ says (notCarried 0 1)
-    ∷ plays (played 1 1) (0 ∷ 1 ∷ [])
-    ∷ says (notCarried 0 2)
-    ∷ says (carried 5)
+    ∷ says (answer (notCarried 0 1))
+    ∷ plays (answer (played 1 1)) (0 ∷ 1 ∷ [])
+    ∷ says (answer (notCarried 0 2))
+    ∷ says (answer (carried 5))
     ∷ []
 
 cases : asked ≡ answered
-unfolding machineOf _by_ K S Late Early solve check solveAndCheck play asked answered not and or hasBit every some first sum count everyIn someIn maskOf table observation successors moves starts fairSet inFairSet sameObservation matched next andThen countsOk beyond stateBeyond setBeyond beyondCounts stuckState contentValidity pairValidity moment steps better least partner found stateOf iterate settle pairSet mem sameSet none allMatched goals inX roundX xOver xsOver union levelOver levels turn firstFamily sameFamily family levelOf setOf towerOver tower rankIn solverTable entryIndex entry covers coveredCount nonBlank lower atMost goalLine rankLine passes linesValidity startCovered lackingStart startVerdict orElse linesVerdict badLength badStep missedSet lassoValidity startPartner startValidity sectionAfter follow stepTo placeAt samePlace lastRound earlierRound stemLength loopLength run playValidity playedUnless
+unfolding machineOf _by_ K S Late Early solve check solveAndCheck play asked answered not and or hasBit every some first sum count everyIn someIn maskOf table observation successors moves starts fairSet inFairSet sameObservation matched next andThen countsOk beyond stateBeyond setBeyond beyondCounts stuckState contentValidity pairValidity moment steps better least partner found stateOf iterate settle pairSet mem sameSet none allMatched goals inX roundX xOver xsOver union levelOver levels turn firstFamily sameFamily family levelOf setOf towerOver tower rankIn solverTable entryIndex entry covers coveredCount nonBlank lower atMost goalLine rankLine passes linesValidity startCovered lackingStart startVerdict linesVerdict badLength badStep missedSet lassoValidity startPartner startValidity sectionAfter follow stepTo placeAt samePlace lastRound earlierRound stemLength loopLength run playValidity
 cases = refl
 
 -- a concrete machine of two states, 0 to 0 and 1 to 0, one observation
@@ -118,7 +118,7 @@ Two : List ℕ → Machine
 Two sets = machineOf (0 ∷ 0 ∷ []) (1 ∷ 1 ∷ []) sets
 
 -- cases with two concrete states, or with more than one set
-askedMore : List Answer
+askedMore : List Reply
 askedMore =
     solve (Two (2 ∷ []) by K 0 (0 ∷ []))
     ∷ check (Two (2 ∷ []) by K 0 (0 ∷ [])) (1 ∷ 1 ∷ [])
@@ -129,17 +129,17 @@ askedMore =
     ∷ solve (K 0 (1 ∷ 0 ∷ []) by K 0 (0 ∷ 0 ∷ []))
     ∷ []
 
-answeredMore : List Answer
+answeredMore : List Reply
 answeredMore =
     solves (1 ∷ 2 ∷ [])
     ∷ says (refused (refusal 12 1 1 0))
     ∷ says (refused (refusal 12 1 0 0))
-    ∷ says (notCarried 0 1)
+    ∷ says (answer (notCarried 0 1))
     ∷ says (refused (refusal 12 2 0 0))
     ∷ solves (blank ∷ blank ∷ [])
     ∷ solves (2 ∷ 2 ∷ [])
     ∷ []
 
 casesMore : askedMore ≡ answeredMore
-unfolding machineOf _by_ K S Late Early solve check solveAndCheck play askedMore answeredMore Two not and or hasBit every some first sum count everyIn someIn maskOf table observation successors moves starts fairSet inFairSet sameObservation matched next andThen countsOk beyond stateBeyond setBeyond beyondCounts stuckState contentValidity pairValidity moment steps better least partner found stateOf iterate settle pairSet mem sameSet none allMatched goals inX roundX xOver xsOver union levelOver levels turn firstFamily sameFamily family levelOf setOf towerOver tower rankIn solverTable entryIndex entry covers coveredCount nonBlank lower atMost goalLine rankLine passes linesValidity startCovered lackingStart startVerdict orElse linesVerdict badLength badStep missedSet lassoValidity startPartner startValidity sectionAfter follow stepTo placeAt samePlace lastRound earlierRound stemLength loopLength run playValidity playedUnless
+unfolding machineOf _by_ K S Late Early solve check solveAndCheck play askedMore answeredMore Two not and or hasBit every some first sum count everyIn someIn maskOf table observation successors moves starts fairSet inFairSet sameObservation matched next andThen countsOk beyond stateBeyond setBeyond beyondCounts stuckState contentValidity pairValidity moment steps better least partner found stateOf iterate settle pairSet mem sameSet none allMatched goals inX roundX xOver xsOver union levelOver levels turn firstFamily sameFamily family levelOf setOf towerOver tower rankIn solverTable entryIndex entry covers coveredCount nonBlank lower atMost goalLine rankLine passes linesValidity startCovered lackingStart startVerdict linesVerdict badLength badStep missedSet lassoValidity startPartner startValidity sectionAfter follow stepTo placeAt samePlace lastRound earlierRound stemLength loopLength run playValidity
 casesMore = refl

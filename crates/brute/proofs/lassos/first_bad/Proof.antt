@@ -1,3 +1,4 @@
+-- The positions are looked at in order, so that the first bad one is the lowest.
 use mathlib.Core.Bool.{false}
 use mathlib.Core.Path.{_∙_, _≡_, sym}
 use Prim.Native.Nat.{_-_, _<_, _≤_, ℕ}
@@ -6,12 +7,12 @@ use borrow.Author.Count.{below-more, below-none}
 use borrow.Author.Needs.{needs}
 use Rattle.mask.specs.BoundedLaws.{first-is, first-none}
 use Rattle.machine.specs.Player.{badStep}
-use Rattle.brute.specs.Runs.{lassoOf}
+use Rattle.brute.specs.Runs.{given}
 use Rattle.brute.proofs.lassos.first_bad.Statement.{statement}
 use Rattle.brute.proofs.lassos.first_bad.Tie as tie
 
 abbrev Inv-loop : tie.InvT-loop
-Inv-loop m stem cycle i₀ i-end i = (i ≤ i-end) × ((k : ℕ) → k < i → badStep m (lassoOf stem cycle) k ≡ false)
+Inv-loop m stem cycle i₀ i-end i = (i ≤ i-end) × ((k : ℕ) → k < i → badStep m (given stem cycle) k ≡ false)
 
 abbrev μ-loop : tie.MeasureT-loop
 μ-loop m stem cycle i₀ i-end i = i-end - i

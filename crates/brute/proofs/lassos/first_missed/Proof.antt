@@ -1,3 +1,4 @@
+-- The sets are looked at in order, so that the first that the loop misses is the lowest.
 use mathlib.Core.Bool.{false}
 use mathlib.Core.List.{[]}
 use mathlib.Core.Path.{_∙_, _≡_, sym}
@@ -8,13 +9,13 @@ use borrow.Author.Needs.{needs}
 use Rattle.mask.specs.BoundedLaws.{first-is, first-none}
 use Rattle.mask.specs.LogicLaws.{not-f, not-i}
 use Rattle.machine.specs.Player.{missedSet}
-use Rattle.brute.specs.Runs.{lassoOf}
+use Rattle.brute.specs.Runs.{given}
 use borrow.Author.Tests.{not-true, not-false}
 use Rattle.brute.proofs.lassos.first_missed.Statement.{statement}
 use Rattle.brute.proofs.lassos.first_missed.Tie as tie
 
 abbrev Inv-loop : tie.InvT-loop
-Inv-loop m cycle k₀ k-end k = (k ≤ k-end) × ((i : ℕ) → i < k → missedSet m (lassoOf [] cycle) i ≡ false)
+Inv-loop m cycle k₀ k-end k = (k ≤ k-end) × ((i : ℕ) → i < k → missedSet m (given [] cycle) i ≡ false)
 
 abbrev μ-loop : tie.MeasureT-loop
 μ-loop m cycle k₀ k-end k = k-end - k

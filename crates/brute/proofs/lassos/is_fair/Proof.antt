@@ -1,3 +1,4 @@
+-- Each set passed has a state of the loop; the first that has none ends the search.
 use mathlib.Core.Bool.{true}
 use mathlib.Core.Path.{_∙_, _≡_, sym}
 use Prim.Native.Nat.{_-_, _<_, _≤_, ℕ}

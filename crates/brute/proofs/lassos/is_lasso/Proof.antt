@@ -1,3 +1,4 @@
+-- Each moment passed has a state of the machine and a step to the next; the first that has not ends the search.
 use mathlib.Core.Path.{_∙_, _≡_, sym}
 use Prim.Native.Nat.{_-_, _<_, _≤_, suc, ℕ}
 use native.Mathlib.Numerals.{add-one}
@@ -8,25 +9,25 @@ use Rattle.mask.specs.LogicLaws.{clash}
 use Rattle.machine.specs.Lassos.{moment}
 use Rattle.machine.specs.Machines.{moves}
 use Rattle.brute.specs.RunLaws.{Goes, lasso-all, lasso-empty, lasso-not}
-use Rattle.brute.specs.Runs.{lassoOf}
+use Rattle.brute.specs.Runs.{given}
 use borrow.Author.Tests.{not-true, not-false}
 use Rattle.brute.proofs.lassos.is_lasso.Statement.{statement}
 use Rattle.brute.proofs.lassos.is_lasso.Tie as tie
 
 abbrev Inv-loop : tie.InvT-loop
-Inv-loop m stem cycle t₀ t-end t = (t ≤ t-end) × ((i : ℕ) → i < t → Goes m (lassoOf stem cycle) i)
+Inv-loop m stem cycle t₀ t-end t = (t ≤ t-end) × ((i : ℕ) → i < t → Goes m (given stem cycle) i)
 
 abbrev μ-loop : tie.MeasureT-loop
 μ-loop m stem cycle t₀ t-end t = t-end - t
 
 stepped : (c : tie.After-has-move Inv-loop μ-loop)
     → let x = c .before .before .before .before .before .before .before .before .before .before .args in
-    let l = lassoOf (x .stem .now) (x .cycle .now) in
+    let l = given (x .stem .now) (x .cycle .now) in
     c .has-move .result ≡ moves (x .m) (moment l (c .before .before .before .before .before .before .loop .t)) (moment l (suc (c .before .before .before .before .before .before .loop .t)))
 stepped c = c .has-move .ensures ∙ rw (c .before .before .before .before .moment-at .ensures, c .before .moment-at2 .ensures, add-one)
 
 returns : tie.Need-returns Inv-loop μ-loop
-returns c = let x = c .before .before .before .args in sym (lasso-empty (x .m) (lassoOf (x .stem .now) (x .cycle .now)) (c .if1 .taken))
+returns c = let x = c .before .before .before .args in sym (lasso-empty (x .m) (given (x .stem .now) (x .cycle .now)) (c .if1 .taken))
 
 add-t-end : tie.Need-add-t-end Inv-loop μ-loop
 add-t-end c = search needs
@@ -43,7 +44,7 @@ cast-s c = search needs
 returns-2 : tie.Need-returns-2 Inv-loop μ-loop
 returns-2 c =
     let x = c .before .before .before .before .before .before .before .before .args in
-    sym (lasso-not (x .m) (lassoOf (x .stem .now) (x .cycle .now)) (c .before .before .before .before .loop .t) (omega arith) (λ g. omega (arith, g .0, c .before .before .moment-at .ensures)))
+    sym (lasso-not (x .m) (given (x .stem .now) (x .cycle .now)) (c .before .before .before .before .loop .t) (omega arith) (λ g. omega (arith, g .0, c .before .before .moment-at .ensures)))
 
 add-moment-at : tie.Need-add-moment-at Inv-loop μ-loop
 add-moment-at c = search needs
@@ -60,7 +61,7 @@ has-move-requires c κs = search needs
 returns-3 : tie.Need-returns-3 Inv-loop μ-loop
 returns-3 c =
     let x = c .before .before .before .before .before .before .before .before .before .before .before .args in
-    let l = lassoOf (x .stem .now) (x .cycle .now) in
+    let l = given (x .stem .now) (x .cycle .now) in
     sym (lasso-not (x .m) l (c .before .before .before .before .before .before .before .loop .t) (omega arith) (λ g. clash (sym (stepped (c .before)) ∙ not-true _ (c .if3 .taken)) (g .1)))
 
 add-t : tie.Need-add-t Inv-loop μ-loop
@@ -72,13 +73,13 @@ loop-less c = search needs
 loop-again : tie.Need-loop-again Inv-loop μ-loop
 loop-again c =
     let x = c .before .before .before .before .before .before .before .before .before .before .before .args in
-    let l = lassoOf (x .stem .now) (x .cycle .now) in
+    let l = given (x .stem .now) (x .cycle .now) in
     (search needs, below-more _ _ (c .before .before .before .before .before .before .before .loop .inv .1) (omega (arith, c .before .before .before .before .before .moment-at .ensures), sym (stepped (c .before)) ∙ not-false _ (c .if3 .left)))
 
 returns-4 : tie.Need-returns-4 Inv-loop μ-loop
 returns-4 c =
     let x = c .before .before .before .before .before .args in
-    sym (lasso-all (x .m) (lassoOf (x .stem .now) (x .cycle .now)) (c .before .before .if1 .left) (λ k h. c .before .loop .inv .1 k (omega arith)))
+    sym (lasso-all (x .m) (given (x .stem .now) (x .cycle .now)) (c .before .before .if1 .left) (λ k h. c .before .loop .inv .1 k (omega arith)))
 
 pub is-lasso-spec : {M : Type 1} → statement M
 is-lasso-spec =

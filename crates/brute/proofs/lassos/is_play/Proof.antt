@@ -1,18 +1,19 @@
+-- The three parts of a play are asked in order; fairness does not look at the stem.
 use mathlib.Core.Bool.{true}
 use mathlib.Core.Path.{_∙_, _≡_, ap, sym}
 use borrow.Author.Needs.{needs}
 use Rattle.machine.specs.Lassos.{isFair, isLasso}
 use Rattle.machine.specs.Machines.{starts}
 use Rattle.brute.specs.RunLaws.{fair-loop, play-start, play-stuck, play-unfair}
-use Rattle.brute.specs.Runs.{lassoOf}
+use Rattle.brute.specs.Runs.{given}
 use borrow.Author.Tests.{not-true, not-false}
 use Rattle.brute.proofs.lassos.is_play.Statement.{statement}
 use Rattle.brute.proofs.lassos.is_play.Tie as tie
 
-lasso : (c : tie.Else1) → let x = c .before .before .before .before .args in isLasso (x .m) (lassoOf (x .stem .now) (x .cycle .now)) ≡ true
+lasso : (c : tie.Else1) → let x = c .before .before .before .before .args in isLasso (x .m) (given (x .stem .now) (x .cycle .now)) ≡ true
 lasso c = sym (c .before .is-lasso .ensures) ∙ not-false _ (c .if1 .left)
 
-fair : (c : tie.After-is-fair) → let x = c .before .before .before .before .before .args in c .is-fair .result ≡ isFair (x .m) (lassoOf (x .stem .now) (x .cycle .now))
+fair : (c : tie.After-is-fair) → let x = c .before .before .before .before .before .args in c .is-fair .result ≡ isFair (x .m) (given (x .stem .now) (x .cycle .now))
 fair c = let x = c .before .before .before .before .before .args in c .is-fair .ensures ∙ fair-loop (x .m) (x .stem .now) (x .cycle .now)
 
 is-lasso-requires : tie.Need-is-lasso-requires

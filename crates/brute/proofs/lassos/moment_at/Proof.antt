@@ -1,3 +1,4 @@
+-- A moment lies in the stem or in the loop; of an empty loop the definition has 0.
 use mathlib.Core.Path.{sym}
 use Prim.Native.Nat.{_-_}
 use native.Mathlib.Nat.{mod-lt}

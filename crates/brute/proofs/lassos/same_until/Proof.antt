@@ -1,3 +1,4 @@
+-- The moments passed have equal observations; the first that has not ends the search.
 use mathlib.Core.Bool.{Bool, true}
 use mathlib.Core.List.{List}
 use mathlib.Core.Path.{_∙_, _≡_, ap, ap₂, sym}
@@ -8,15 +9,14 @@ use borrow.Author.Needs.{needs}
 use Rattle.mask.specs.BoundedLaws.{every-not, every-of}
 use Rattle.machine.specs.Lassos.{moment}
 use Rattle.machine.specs.Machines.{observation, sameObservation}
-use Rattle.machine.specs.Player.{run}
 use Rattle.machine.specs.declared.Machine.{Machine}
-use Rattle.brute.specs.Runs.{lassoOf}
+use Rattle.brute.specs.Runs.{given}
 use borrow.Author.Tests.{not-true, not-false}
 use Rattle.brute.proofs.lassos.same_until.Statement.{statement}
 use Rattle.brute.proofs.lassos.same_until.Tie as tie
 
 abbrev agree : Machine → List ℕ → List ℕ → Machine → List ℕ → List ℕ → ℕ → Bool
-agree m stem cycle k run round t = sameObservation (observation m (moment (lassoOf stem cycle) t)) (observation k (moment (lassoOf run round) t))
+agree m stem cycle k run round t = sameObservation (observation m (moment (given stem cycle) t)) (observation k (moment (given run round) t))
 
 abbrev Inv-loop : tie.InvT-loop
 Inv-loop m stem cycle k run round n t₀ t = (t ≤ n) × ((i : ℕ) → i < t → agree m stem cycle k run round i ≡ true)

@@ -1,3 +1,4 @@
+-- No position passed has a state of the set; the first that has one ends the search.
 use mathlib.Core.Bool.{false}
 use mathlib.Core.Path.{_∙_, _≡_, sym}
 use Prim.Native.Nat.{_-_, _<_, _≤_, ℕ}

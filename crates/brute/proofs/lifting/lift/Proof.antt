@@ -6,10 +6,11 @@ use native.Mathlib.Omega.{arith}
 use lib.ListN.{length}
 use borrow.Author.Needs.{needs}
 use Rattle.machine.specs.Machines.{pairs, setsC}
+use Rattle.machine.specs.Refusals.{valid}
+use Rattle.machine.specs.RefusalsLaws.{tested-refused, tested-valid}
 use Rattle.machine.specs.Table.{entries, tableRoom}
 use Rattle.machine.specs.WellFormed.{pairValidity}
 use Rattle.machine.specs.WellFormedLaws.{WellPair, entries-small, pairs-small, ranks-small, valid-is-well, well-valid}
-use Rattle.machine.specs.declared.Validity.the-variants.{Valid}
 use Rattle.brute.specs.Lifting.{lifted, liftedTable}
 use Rattle.brute.specs.LiftingLaws.{lifted-done, lifted-ill, lifted-next, lifted-none, lifted-short, lifted-well, turns-small}
 use Rattle.brute.proofs.lifting.lift.Statement.{statement}
@@ -31,11 +32,11 @@ well-formed c = c .before .before .before .before .before
 abbrev zeros : tie.At-loop Inv-loop μ-loop → tie.After-put-zeros Inv-loop μ-loop
 zeros c = c .before .before .before .before
 
-valid : (c : tie.After-enum-told2 Inv-loop μ-loop) → pairValidity (start c .args .p) ≡ Valid
-valid c = sym (c .before .before .validity .ensures) ∙ c .enum-told2 .given .1
+formed : (c : tie.After-enum-told2 Inv-loop μ-loop) → pairValidity (start c .args .p) ≡ valid
+formed c = tested-valid (c .before .before .validity .ensures) (c .enum-told2 .given .1)
 
 well : (c : tie.After-enum-told2 Inv-loop μ-loop) → WellPair (start c .args .p)
-well c = well-valid _ (valid c)
+well c = well-valid _ (formed c)
 
 room : (c : tie.After-enum-told2 Inv-loop μ-loop) → tableRoom ≤ length (start c .args .table .now)
 room c = c .before .before .before .if1 .left
@@ -49,7 +50,7 @@ answer : (c : tie.At-loop Inv-loop μ-loop) → let x = start (well-formed (zero
 answer c e =
     let w = well-formed (zeros c) in
     let x = start w .args in
-    lifted-well (x .p) (x .table .now) (room w) (valid w) (zeros c .put-zeros .ensures) (sym e ∙ c .loop .inv .2)
+    lifted-well (x .p) (x .table .now) (room w) (formed w) (zeros c .put-zeros .ensures) (sym e ∙ c .loop .inv .2)
 
 returns : tie.Need-returns Inv-loop μ-loop
 returns c = let x = c .before .before .before .before .args in lifted-short (x .p) (x .table .now) (c .if1 .taken)
@@ -63,7 +64,7 @@ enum-told c = search needs
 returns-2 : tie.Need-returns-2 Inv-loop μ-loop
 returns-2 c =
     let x = c .before .before .before .before .before .before .before .args in
-    lifted-ill (x .p) (x .table .now) (c .before .before .before .if1 .left) _ (sym (c .before .before .validity .ensures) ∙ c .enum-told .given .1)
+    lifted-ill (x .p) (x .table .now) (c .before .before .before .if1 .left) _ (tested-refused (c .before .before .validity .ensures) (c .enum-told .given .1))
 
 enum-told-2 : tie.Need-enum-told-2 Inv-loop μ-loop
 enum-told-2 c = search needs
@@ -90,7 +91,7 @@ loop-holds : tie.Need-loop-holds Inv-loop μ-loop
 loop-holds c = (search needs, refl, rw sub-zero)
 
 lines-requires : tie.Need-lines-requires Inv-loop μ-loop
-lines-requires c κs = valid-is-well _ (valid (well-formed (zeros (c .before .before))))
+lines-requires c κs = valid-is-well _ (formed (well-formed (zeros (c .before .before))))
 
 enum-told-3 : tie.Need-enum-told-3 Inv-loop μ-loop
 enum-told-3 c = search needs
@@ -101,7 +102,7 @@ same-length c = same (c .before .before .before .before .before)
 returns-3 : tie.Need-returns-3 Inv-loop μ-loop
 returns-3 c =
     let l = c .before .before .before .before .before in
-    answer l (lifted-done _ (l .loop .table) _ (sym (c .before .before .lines .ensures) ∙ c .enum-told3 .given .1))
+    answer l (lifted-done _ (l .loop .table) _ (tested-valid (c .before .before .lines .ensures) (c .enum-told3 .given .1)))
 
 enum-told-4 : tie.Need-enum-told-4 Inv-loop μ-loop
 enum-told-4 c = search needs
@@ -110,7 +111,7 @@ sweep-requires : tie.Need-sweep-requires Inv-loop μ-loop
 sweep-requires c κs =
     let l = c .before .before .before .before .before .before in
     let w = well-formed (zeros l) in
-    (valid-is-well _ (valid w), omega (arith, entries-small _ (well w), room w, same l))
+    (valid-is-well _ (formed w), omega (arith, entries-small _ (well w), room w, same l))
 
 add-counter : tie.Need-add-counter Inv-loop μ-loop
 add-counter c = omega (arith, turns-small _ (well (well-formed (zeros (c .before .before .before .before .before .before .before .before .before)))))
@@ -125,7 +126,7 @@ loop-again c =
     let told = c .before .before .before .before in (
       search needs,
       call .kept .1 .0 ∙ l .loop .inv .1,
-      lifted-next _ (l .loop .table) _ _ _ (sym (told .before .before .lines .ensures) ∙ told .enum-told4 .given .1) (call .ensures) (omega arith) ∙ l .loop .inv .2,
+      lifted-next _ (l .loop .table) _ _ _ (tested-refused (told .before .before .lines .ensures) (told .enum-told4 .given .1)) (call .ensures) (omega arith) ∙ l .loop .inv .2,
     )
 
 same-length-2 : tie.Need-same-length-2 Inv-loop μ-loop

@@ -1,17 +1,18 @@
+-- An entry's number tells its section, c and a, which are within the counts.
 use mathlib.Core.Path.{_∙_, sym}
 use native.Mathlib.Omega.{arith}
 use borrow.Author.Needs.{needs}
 use borrow.Author.Tests.{not-false, not-true}
 use Rattle.machine.specs.WellFormedLaws.{WellPair, pairs-small, ranks-small, some-pairs, well-pair}
-use Rattle.brute.specs.LiftingLaws.{Spot, lifted-failing, lifted-passing, spot}
+use Rattle.brute.specs.LiftingLaws.{Located, lifted-failing, lifted-passing, located}
 use Rattle.brute.proofs.lifting.lift_entry.Statement.{statement}
 use Rattle.brute.proofs.lifting.lift_entry.Tie as tie
 
 well : (c : tie.Start) → WellPair (c .args .p)
 well c = well-pair (c .args .p) (c .pre .0)
 
-place : (c : tie.Start) → Spot (c .args .p) (c .args .e)
-place c = spot (c .args .p) (well c) (c .args .e) (c .pre .1 .0)
+place : (c : tie.Start) → Located (c .args .p) (c .args .e)
+place c = located (c .args .p) (well c) (c .args .e) (c .pre .1 .0)
 
 mul-pairs : tie.Need-mul-pairs
 mul-pairs c = omega (arith, pairs-small _ (well (c .before .before .before .before .before)))
@@ -31,8 +32,9 @@ div-entry-passes c = some-pairs _ (well (c .before .before .before .before .befo
 entry-passes-requires : tie.Need-entry-passes-requires
 entry-passes-requires c κs =
     let s = c .before .before .before .before .before .before .before .before in
+    let w = well s in
     let q = place s in
-    (s .pre .0, (q .section, (q .state, q .beside)))
+    (s .pre .0, (q .in-section, (omega (arith, q .in-row, w .concrete .states-high), omega (arith, q .in-column, w .abstraction .states-high))))
 
 mul-raise : tie.Need-mul-raise
 mul-raise c = omega (arith, ranks-small _ (well (c .before .before .before .before .before .before .before .before .before .before .before)))

@@ -1,9 +1,11 @@
-use mathlib.Core.Path.{refl}
+-- The invariant: the first e entries are 0, and the others are as they were.
+use mathlib.Core.Path.{_≡_, refl}
 use Prim.Native.Nat.{_-_, _≤_}
 use native.Mathlib.Omega.{arith}
+use lib.ListN.{getD-replicate, length-replicate, replicate}
 use borrow.Author.Needs.{needs}
-use Rattle.brute.specs.FillLaws.{Overlaying, overlaying-done, overlaying-start, overlaying-step}
-use Rattle.brute.specs.Lifting.{zeroed}
+use Rattle.brute.specs.FillLaws.{Overlaying, overlaying-start, overlaying-step}
+use Rattle.brute.specs.LiftingLaws.{overlaid-front}
 use Rattle.brute.proofs.lifting.put_zeros.Statement.{statement}
 use Rattle.brute.proofs.lifting.put_zeros.Tie as tie
 
@@ -35,8 +37,10 @@ same-length : tie.Need-same-length Inv-loop μ-loop
 same-length c = c .before .loop .inv .1 .size
 
 returns : tie.Need-returns Inv-loop μ-loop
-unfolding zeroed
-returns c = let l = c .before in overlaying-done _ (l .loop .inv .1) (omega (arith, l .before .pre))
+returns c =
+    let l = c .before in
+    let n = l .before .args .n in
+    let e : l .loop .e ≡ n = omega arith in overlaid-front (replicate n 0) (length-replicate n 0) (λ k h. getD-replicate n k 0 0 h) (rw e at (l .loop .inv .1))
 
 pub put-zeros-spec : {M : Type 1} → statement M
 put-zeros-spec =

@@ -1,3 +1,4 @@
+-- The invariant: the first e entries have been raised, one after the other.
 use mathlib.Core.Path.{_∙_, _≡_, refl}
 use Prim.Native.Nat.{_-_, _≤_}
 use native.Mathlib.Omega.{arith}

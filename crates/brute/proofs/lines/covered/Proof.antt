@@ -1,3 +1,4 @@
+-- The invariant: the number of non-blank entries among those passed.
 use mathlib.Core.Bool.{Bool}
 use mathlib.Core.List.{List}
 use mathlib.Core.Logic.{⊎-elim}
@@ -5,7 +6,7 @@ use mathlib.Core.Path.{_∙_, _≡_, sym}
 use Prim.Native.Nat.{_*_, _-_, _≤_, ℕ}
 use native.Mathlib.Numerals.{add-one}
 use native.Mathlib.Omega.{arith}
-use lib.Dec.{T, eqb}
+use lib.Dec.{eqb}
 use lib.ListN.{getD}
 use borrow.Author.Needs.{needs}
 use borrow.Author.Tests.{eq-eqb, ne-eqb}
@@ -13,9 +14,7 @@ use Rattle.mask.specs.Bounded.{count}
 use Rattle.mask.specs.BoundedLaws.{count-hit, count-miss, count-zero}
 use Rattle.mask.specs.Logic.{not}
 use Rattle.mask.specs.LogicLaws.{not-f, not-i}
-use Rattle.mask.specs.Tables.{table}
 use Rattle.machine.specs.Machines.{nA, nC, setsA}
-use Rattle.machine.specs.Step.{found}
 use Rattle.machine.specs.Table.{blank, coveredCount}
 use Rattle.machine.specs.WellFormedLaws.{WellPair, entries-small, pairs-small, well-pair}
 use Rattle.brute.proofs.lines.covered.Statement.{statement}

@@ -1,3 +1,4 @@
+-- The place of the entry is a small number, and past the table's end both sides are 0.
 use Prim.Native.Nat.{_*_, _+_, _≤_}
 use native.Mathlib.Omega.{arith}
 use borrow.Author.Needs.{needs}

@@ -1,11 +1,13 @@
+-- The cases are those of the definition: blank, not matched, above the greatest rank, 0, and a rank.
 use mathlib.Core.Bool.{true}
 use mathlib.Core.Path.{_∙_, _≡_, sym}
 use native.Mathlib.Omega.{arith}
 use borrow.Author.Needs.{needs}
+use Rattle.machine.specs.LinesLaws.{blank-passes}
 use Rattle.machine.specs.Machines.{matched}
 use Rattle.machine.specs.Table.{blank, entry}
 use Rattle.machine.specs.WellFormedLaws.{WellPair, pairs-small, ranks-small, well-pair}
-use Rattle.brute.specs.TargetLaws.{pass-above, pass-blank, pass-goal, pass-rank, pass-unmatched}
+use Rattle.brute.specs.TargetLaws.{pass-above, pass-goal, pass-rank, pass-unmatched}
 use borrow.Author.Tests.{not-true, not-false}
 use Rattle.brute.proofs.lines.entry_passes.Statement.{statement}
 use Rattle.brute.proofs.lines.entry_passes.Tie as tie
@@ -25,7 +27,7 @@ entry-at-requires c κs = let w = well (c .before .before .before) in (c .before
 returns : tie.Need-returns
 returns c =
     let x = c .before .before .before .before .before .args in
-    sym (pass-blank (x .p) (x .table .now) (x .j) (x .c) (x .a) (sym (c .before .entry-at .ensures) ∙ c .if1 .taken))
+    sym (blank-passes (x .p) (x .table .now) (x .j) (x .c) (x .a) (sym (c .before .entry-at .ensures) ∙ c .if1 .taken))
 
 is-matched-requires : tie.Need-is-matched-requires
 is-matched-requires c κs = search needs

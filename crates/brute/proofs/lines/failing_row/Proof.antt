@@ -1,3 +1,4 @@
+-- The rows are looked at in order, so that the first with an entry that fails is the lowest.
 use mathlib.Core.Bool.{false}
 use mathlib.Core.Path.{_≡_, sym}
 use Prim.Native.Nat.{_-_, _<_, _≤_, ℕ}
@@ -8,7 +9,6 @@ use Rattle.mask.specs.Bounded.{every}
 use Rattle.mask.specs.BoundedLaws.{first-is, first-none}
 use Rattle.mask.specs.Logic.{not}
 use Rattle.mask.specs.LogicLaws.{not-f, not-i}
-use Rattle.mask.specs.Tables.{table}
 use Rattle.machine.specs.Lines.{passes}
 use Rattle.machine.specs.Machines.{nA}
 use Rattle.machine.specs.WellFormedLaws.{WellPair, well-pair}

@@ -1,3 +1,4 @@
+-- The states are looked at in order, so that the first whose entry fails is the lowest.
 use mathlib.Core.Bool.{false}
 use mathlib.Core.Path.{_∙_, _≡_, sym}
 use Prim.Native.Nat.{_-_, _<_, _≤_, ℕ}
@@ -7,7 +8,6 @@ use borrow.Author.Needs.{needs}
 use Rattle.mask.specs.BoundedLaws.{first-is, first-none}
 use Rattle.mask.specs.Logic.{not}
 use Rattle.mask.specs.LogicLaws.{not-f, not-i}
-use Rattle.mask.specs.Tables.{table}
 use Rattle.machine.specs.Lines.{passes}
 use Rattle.machine.specs.WellFormedLaws.{WellPair, well-pair}
 use borrow.Author.Tests.{not-true, not-false}

@@ -1,3 +1,4 @@
+-- Set j is asked at a, and then the step goes into the next section.
 use mathlib.Core.Path.{_∙_, sym}
 use native.Mathlib.Omega.{arith}
 use borrow.Author.Needs.{needs}

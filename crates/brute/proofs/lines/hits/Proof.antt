@@ -1,3 +1,4 @@
+-- One case for each kind of target; an entry of 0 is told before its l is asked for.
 use mathlib.Core.Path.{sym}
 use borrow.Author.Needs.{needs}
 use borrow.Author.Tests.{eq-eqb, ne-eqb}

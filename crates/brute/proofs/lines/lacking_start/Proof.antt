@@ -1,3 +1,4 @@
+-- The states are looked at in order, so that the first start state without a partner is the lowest.
 use mathlib.Core.Bool.{false}
 use mathlib.Core.Logic.{⊎-elim}
 use mathlib.Core.Path.{_∙_, _≡_, sym}
@@ -8,7 +9,6 @@ use borrow.Author.Needs.{needs}
 use Rattle.mask.specs.BoundedLaws.{first-is, first-none}
 use Rattle.mask.specs.Logic.{and, not}
 use Rattle.mask.specs.LogicLaws.{and-false-l, and-false-r, and-i, not-f, not-i}
-use Rattle.mask.specs.Tables.{table}
 use Rattle.machine.specs.Machines.{starts}
 use Rattle.machine.specs.Verdict.{lackingStart, startCovered}
 use Rattle.machine.specs.WellFormedLaws.{WellPair, well-pair}

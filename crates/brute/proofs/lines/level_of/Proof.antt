@@ -1,8 +1,8 @@
+-- The invariant: l of what is left and the turns made give l of the entry, and k is that of what is left.
 use mathlib.Core.Path.{_∙_, _≡_, refl, sym}
 use Prim.Native.Nat.{_+_, _-_, _<_, _≤_}
 use native.Mathlib.Omega.{arith}
 use borrow.Author.Needs.{needs}
-use Rattle.machine.specs.Game.{level}
 use Rattle.machine.specs.Ranks.{levelOf, setOf}
 use Rattle.brute.specs.TargetLaws.{level-down, level-one, set-down, set-one}
 use Rattle.brute.proofs.lines.level_of.Statement.{statement}

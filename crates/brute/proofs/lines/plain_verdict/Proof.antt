@@ -1,19 +1,24 @@
-use mathlib.Core.Path.{_∙_, _≡_, sym}
+-- The tests are made in the order of the definition, and each return is the first that fails.
+use mathlib.Core.Path.{_∙_, _≡_, ap, sym}
 use borrow.Author.Needs.{needs}
+use Rattle.machine.specs.Refusals.{refused, valid}
+use Rattle.machine.specs.RefusalsLaws.{tested-refused, tested-valid}
+use Rattle.machine.specs.VerdictLaws.{check-fails, check-invalid, check-passes, check-short}
 use Rattle.machine.specs.WellFormed.{pairValidity}
 use Rattle.machine.specs.WellFormedLaws.{valid-is-well}
-use Rattle.machine.specs.declared.Validity.the-variants.{Valid}
 use Rattle.brute.specs.Lines.{verdictOf}
-use Rattle.brute.specs.TargetLaws.{verdict-fail, verdict-ill, verdict-pass, verdict-short}
 use Rattle.brute.proofs.lines.plain_verdict.Statement.{statement}
 use Rattle.brute.proofs.lines.plain_verdict.Tie as tie
 
-valid : (c : tie.After-enum-told) → pairValidity (c .before .before .before .before .before .args .p) ≡ Valid
-valid c = sym (c .before .before .validity .ensures) ∙ c .enum-told .given .1
+formed : (c : tie.After-enum-told) → pairValidity (c .before .before .before .before .before .args .p) ≡ valid
+formed c = tested-valid (c .before .before .validity .ensures) (c .enum-told .given .1)
+
+refuse-requires : tie.Need-refuse-requires
+refuse-requires c κs = search needs
 
 returns : tie.Need-returns
 unfolding verdictOf
-returns c = let x = c .before .before .args in sym (verdict-short (x .p) (x .table .now) (c .if1 .taken))
+returns c = let x = c .before .before .before .args in ap refused (c .refuse .ensures) ∙ sym (check-short (x .p) (x .table .now) (c .before .if1 .taken))
 
 validity-requires : tie.Need-validity-requires
 validity-requires c κs = search needs
@@ -23,13 +28,16 @@ enum-known-valid c = search needs
 
 returns-2 : tie.Need-returns-2
 unfolding verdictOf
-returns-2 c = let x = c .before .before .before .before .before .before .args in sym (verdict-ill (x .p) (x .table .now) (c .before .before .before .before .if1 .left) _ (sym (c .before .before .before .validity .ensures) ∙ c .before .valid .given .1))
+returns-2 c =
+    let e = c .before .before .before in
+    let x = e .before .before .before .args in
+    sym (check-invalid (x .p) (x .table .now) (e .before .if1 .left) _ (tested-refused (e .validity .ensures) (c .before .valid .given .1)))
 
 enum-told : tie.Need-enum-told
 enum-told c = search needs
 
 lines-requires : tie.Need-lines-requires
-lines-requires c κs = valid-is-well _ (valid c)
+lines-requires c κs = valid-is-well _ (formed c)
 
 enum-known-passed : tie.Need-enum-known-passed
 enum-known-passed c = search needs
@@ -37,25 +45,30 @@ enum-known-passed c = search needs
 returns-3 : tie.Need-returns-3
 unfolding verdictOf
 returns-3 c =
-    let x = c .before .before .before .before .before .before .before .before .before .args in
-    sym (verdict-fail (x .p) (x .table .now) (c .before .before .before .before .before .before .before .if1 .left) (valid (c .before .before .before .before)) _ (sym (c .before .before .before .lines .ensures) ∙ c .before .passed .given .1))
+    let e = c .before .before .before in
+    let f = e .before in
+    let x = f .before .before .before .before .before .args in
+    sym (check-fails (x .p) (x .table .now) (f .before .before .before .if1 .left) _ (formed f) (tested-refused (e .lines .ensures) (c .before .passed .given .1)))
 
 enum-told-2 : tie.Need-enum-told-2
 enum-told-2 c = search needs
 
 start-verdict-requires : tie.Need-start-verdict-requires
-start-verdict-requires c κs = valid-is-well _ (valid (c .before .before .before))
+start-verdict-requires c κs = valid-is-well _ (formed (c .before .before .before))
 
 returns-4 : tie.Need-returns-4
 returns-4 c =
-    let x = c .before .before .before .before .before .before .before .before .before .args in
+    let e = c .before .before .before in
+    let f = e .before in
+    let x = f .before .before .before .before .before .args in
     c .start-verdict .ensures
-    ∙ sym (verdict-pass (x .p) (x .table .now) (c .before .before .before .before .before .before .before .if1 .left) (valid (c .before .before .before .before)) (sym (c .before .before .before .lines .ensures) ∙ c .before .enum-told2 .given .1))
+    ∙ sym (check-passes (x .p) (x .table .now) (f .before .before .before .if1 .left) (formed f) (tested-valid (e .lines .ensures) (c .before .enum-told2 .given .1)))
 
 pub plain-verdict-spec : {M : Type 1} → statement M
 plain-verdict-spec =
     tie.close
     (tie.spec
+    refuse-requires
     returns
     validity-requires
     enum-known-valid

@@ -1,3 +1,4 @@
+-- The entry's k is asked at c, and tells into which entries the pair has to step.
 use mathlib.Core.Path.{_∙_, _≡_, sym}
 use native.Mathlib.Omega.{arith}
 use borrow.Author.Needs.{needs}

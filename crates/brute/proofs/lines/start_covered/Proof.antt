@@ -1,3 +1,4 @@
+-- No start state passed is covered beside c; the first that is ends the search.
 use mathlib.Core.Bool.{false, true}
 use mathlib.Core.Logic.{⊎-elim}
 use mathlib.Core.Path.{_∙_, _≡_, sym}
@@ -6,7 +7,6 @@ use native.Mathlib.Omega.{arith}
 use borrow.Author.Count.{below-more, below-none}
 use borrow.Author.Needs.{needs}
 use Rattle.mask.specs.LogicLaws.{clash}
-use Rattle.mask.specs.Tables.{table}
 use Rattle.machine.specs.LinesLaws.{covers-of}
 use Rattle.machine.specs.Machines.{starts}
 use Rattle.machine.specs.Table.{covers}

@@ -1,3 +1,4 @@
+-- The lowest start state that lacks a partner tells which answer it is; both have the count.
 use borrow.Author.Tests.{le-ltb, lt-ltb}
 use Rattle.machine.specs.Verdict.{startVerdict}
 use Rattle.brute.specs.Lines.{verdictOf}

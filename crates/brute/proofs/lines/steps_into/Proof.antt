@@ -1,3 +1,4 @@
+-- Each successor passed finds a partner; the first that finds none ends the search.
 use mathlib.Core.Bool.{true}
 use mathlib.Core.Logic.{⊎-elim}
 use mathlib.Core.Path.{_∙_, _≡_, sym}
@@ -7,7 +8,6 @@ use borrow.Author.Count.{below-more, below-none}
 use borrow.Author.Needs.{needs}
 use Rattle.mask.specs.Bounded.{someIn}
 use Rattle.mask.specs.LogicLaws.{clash}
-use Rattle.mask.specs.Tables.{table}
 use Rattle.machine.specs.Machines.{moves, nA, successors}
 use Rattle.machine.specs.WellFormedLaws.{WellPair, well-pair}
 use Rattle.brute.specs.Lines.{inTarget}

@@ -1,7 +1,9 @@
+-- The tests are made in the order of the definition, and each return is the first that fails.
 use mathlib.Core.Bool.{false}
-use mathlib.Core.Path.{_∙_, _≡_, sym}
+use mathlib.Core.Path.{_∙_, _≡_, ap, sym}
 use borrow.Author.Needs.{needs}
 use borrow.Author.Tests.{eq-eqb, le-ltb, lt-ltb, ne-eqb}
+use Rattle.machine.specs.Refusals.{refused, testedOf}
 use Rattle.machine.specs.WellFormed.{beyondCounts, contentValidity}
 use Rattle.brute.proofs.machines.content.Statement.{statement}
 use Rattle.brute.proofs.machines.content.Tie as tie
@@ -12,32 +14,32 @@ within c = sym (c .before .is-past .ensures) ∙ c .if1 .left
 is-past-requires : tie.Need-is-past-requires
 is-past-requires c κs = search needs
 
-refused-requires : tie.Need-refused-requires
-refused-requires c κs = search needs
+refuse-requires : tie.Need-refuse-requires
+refuse-requires c κs = search needs
 
 returns : tie.Need-returns
-unfolding contentValidity
-returns c = rw (sym (c .before .before .is-past .ensures) ∙ c .before .if1 .taken) (c .refused .ensures)
+unfolding contentValidity testedOf
+returns c = rw (sym (c .before .before .is-past .ensures) ∙ c .before .if1 .taken) (ap refused (c .refuse .ensures))
 
-refused-requires-2 : tie.Need-refused-requires-2
-refused-requires-2 c κs = search needs
+refuse-requires-2 : tie.Need-refuse-requires-2
+refuse-requires-2 c κs = search needs
 
 returns-2 : tie.Need-returns-2
-unfolding contentValidity
-returns-2 c = rw (within (c .before .before .before), eq-eqb _ 0 (c .before .if2 .taken)) (c .refused2 .ensures)
+unfolding contentValidity testedOf
+returns-2 c = rw (within (c .before .before .before), eq-eqb _ 0 (c .before .if2 .taken)) (ap refused (c .refuse2 .ensures))
 
 stuck-requires : tie.Need-stuck-requires
 stuck-requires c κs = search needs
 
-refused-requires-3 : tie.Need-refused-requires-3
-refused-requires-3 c κs = search needs
+refuse-requires-3 : tie.Need-refuse-requires-3
+refuse-requires-3 c κs = search needs
 
 returns-3 : tie.Need-returns-3
-unfolding contentValidity
-returns-3 c = rw (within (c .before .before .before .before .before), ne-eqb _ 0 (c .before .before .before .if2 .left), ← c .before .before .stuck .ensures, lt-ltb _ 64 (c .before .if3 .taken)) (c .refused3 .ensures)
+unfolding contentValidity testedOf
+returns-3 c = rw (within (c .before .before .before .before .before), ne-eqb _ 0 (c .before .before .before .if2 .left), ← c .before .before .stuck .ensures, lt-ltb _ 64 (c .before .if3 .taken)) (ap refused (c .refuse3 .ensures))
 
 returns-4 : tie.Need-returns-4
-unfolding contentValidity
+unfolding contentValidity testedOf
 returns-4 c = rw (within (c .before .before .before .before), ne-eqb _ 0 (c .before .before .if2 .left), ← c .before .stuck .ensures, le-ltb _ 64 (c .if3 .left))
 
 pub content-spec : {M : Type 1} → statement M
@@ -45,11 +47,11 @@ content-spec =
     tie.close
     (tie.spec
     is-past-requires
-    refused-requires
+    refuse-requires
     returns
-    refused-requires-2
+    refuse-requires-2
     returns-2
     stuck-requires
-    refused-requires-3
+    refuse-requires-3
     returns-3
     returns-4)

@@ -1,3 +1,4 @@
+-- Each return is a part of the definition that fails; the last one is the part that is left.
 use mathlib.Core.Path.{_∙_, sym}
 use native.Mathlib.Omega.{arith}
 use lib.Dec.{leb}

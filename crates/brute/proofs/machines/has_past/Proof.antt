@@ -1,3 +1,4 @@
+-- No state passed is in the mask and at or past n; the first that is ends the search.
 use mathlib.Core.Bool.{false}
 use mathlib.Core.Logic.{⊎-elim}
 use mathlib.Core.Path.{_∙_, _≡_, sym}

@@ -1,3 +1,4 @@
+-- The three parts are asked in order, and one that holds is enough.
 use mathlib.Core.Path.{_∙_, sym}
 use borrow.Author.Needs.{needs}
 use Rattle.mask.specs.LogicLaws.{or-false-l, or-l}

@@ -1,3 +1,4 @@
+-- A set below the count is asked for its states, one past the count for being empty.
 use mathlib.Core.Path.{_≡_, sym}
 use lib.ListN.{getD}
 use borrow.Author.Needs.{needs}

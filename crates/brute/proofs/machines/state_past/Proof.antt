@@ -1,3 +1,4 @@
+-- A state below the count is asked for its successors, one past the count for being empty.
 use mathlib.Core.Path.{_∙_, _≡_, sym}
 use lib.ListN.{getD}
 use borrow.Author.Needs.{needs}

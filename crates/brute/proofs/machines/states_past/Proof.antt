@@ -1,3 +1,4 @@
+-- No state passed has anything beyond the counts; the first that has ends the search.
 use mathlib.Core.Bool.{false}
 use mathlib.Core.Path.{_∙_, _≡_, sym}
 use Prim.Native.Nat.{_-_, _<_, _≤_, ℕ}

@@ -1,3 +1,4 @@
+-- The states are looked at in order, so that the first without a successor is the lowest.
 use mathlib.Core.Logic.{⊎-elim}
 use mathlib.Core.Path.{_∙_, _≡_, sym}
 use Prim.Native.Nat.{_-_, _<_, _≤_, ℕ}

@@ -1,8 +1,10 @@
+-- The counts of both machines are tested first; then the concrete machine, and where nothing of it is refused, the abstract one.
 use mathlib.Core.Bool.{true}
-use mathlib.Core.Path.{_∙_, _≡_, sym}
+use mathlib.Core.Path.{_∙_, _≡_, ap, sym}
 use borrow.Author.Needs.{needs}
 use Rattle.mask.specs.LogicLaws.{and-false-l, and-false-r, and-i}
-use Rattle.machine.specs.Refusals.{andThen}
+use Rattle.machine.specs.Refusals.{refused, testedOf}
+use Rattle.machine.specs.RefusalsLaws.{tested-refused, tested-valid, then-of, then-refused}
 use Rattle.machine.specs.WellFormed.{countsOk, pairValidity}
 use borrow.Author.Tests.{not-true, not-false}
 use Rattle.brute.proofs.machines.validity.Statement.{statement}
@@ -17,22 +19,22 @@ abstract-counts c = sym (c .before .has-counts2 .ensures) ∙ not-false _ (c .if
 has-counts-requires : tie.Need-has-counts-requires
 has-counts-requires c κs = search needs
 
-refused-requires : tie.Need-refused-requires
-refused-requires c κs = search needs
+refuse-requires : tie.Need-refuse-requires
+refuse-requires c κs = search needs
 
 returns : tie.Need-returns
-unfolding pairValidity
-returns c = rw (and-false-l _ (sym (c .before .before .has-counts .ensures) ∙ not-true _ (c .before .if1 .taken))) (c .refused .ensures)
+unfolding pairValidity testedOf
+returns c = rw (and-false-l _ (sym (c .before .before .has-counts .ensures) ∙ not-true _ (c .before .if1 .taken))) (ap refused (c .refuse .ensures))
 
 has-counts-requires-2 : tie.Need-has-counts-requires-2
 has-counts-requires-2 c κs = search needs
 
-refused-requires-2 : tie.Need-refused-requires-2
-refused-requires-2 c κs = search needs
+refuse-requires-2 : tie.Need-refuse-requires-2
+refuse-requires-2 c κs = search needs
 
 returns-2 : tie.Need-returns-2
-unfolding pairValidity
-returns-2 c = rw (and-false-r _ (sym (c .before .before .has-counts2 .ensures) ∙ not-true _ (c .before .if2 .taken))) (c .refused2 .ensures)
+unfolding pairValidity testedOf
+returns-2 c = rw (and-false-r _ (sym (c .before .before .has-counts2 .ensures) ∙ not-true _ (c .before .if2 .taken))) (ap refused (c .refuse2 .ensures))
 
 content-requires : tie.Need-content-requires
 content-requires c κs = search needs
@@ -47,22 +49,28 @@ content-requires-2 : tie.Need-content-requires-2
 content-requires-2 c κs = search needs
 
 returns-3 : tie.Need-returns-3
-unfolding pairValidity andThen
-returns-3 c = rw (and-i (concrete-counts (c .before .before .before .before .before .before)) (abstract-counts (c .before .before .before .before)), ← c .before .before .before .content .ensures, c .before .first .given .1)
+unfolding pairValidity testedOf
+returns-3 c =
+    let e = c .before .before .before in
+    rw (and-i (concrete-counts (e .before .before .before)) (abstract-counts (e .before)))
+    (sym (then-refused _ _ _ (tested-refused (e .content .ensures) (c .before .first .given .1))))
 
 returns-4 : tie.Need-returns-4
-unfolding pairValidity andThen
-returns-4 c = rw (and-i (concrete-counts (c .before .before .before .before .before .before)) (abstract-counts (c .before .before .before .before)), ← c .before .before .before .content .ensures, c .before .enum-told .given .1) (c .content2 .ensures)
+unfolding pairValidity
+returns-4 c =
+    let e = c .before .before .before in
+    rw (and-i (concrete-counts (e .before .before .before)) (abstract-counts (e .before)))
+    (c .content2 .ensures ∙ sym (then-of _ _ (tested-valid (e .content .ensures) (c .before .enum-told .given .1))))
 
 pub validity-spec : {M : Type 1} → statement M
 validity-spec =
     tie.close
     (tie.spec
     has-counts-requires
-    refused-requires
+    refuse-requires
     returns
     has-counts-requires-2
-    refused-requires-2
+    refuse-requires-2
     returns-2
     content-requires
     enum-known-first

@@ -1,3 +1,4 @@
+-- The invariant: the first s elements are the bits of the mask.
 use mathlib.Core.Bool.{cond}
 use mathlib.Core.Logic.{⊎-elim}
 use mathlib.Core.Path.{_∙_, _≡_, sym}

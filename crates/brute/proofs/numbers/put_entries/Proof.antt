@@ -1,12 +1,12 @@
+-- The invariant: the first e entries are those of table number x, and the others are as they were.
 use mathlib.Core.Logic.{⊎-elim}
 use mathlib.Core.Path.{_∙_, _≡_, ap}
 use Prim.Native.Nat.{_-_, _≤_, min}
 use native.Mathlib.Omega.{arith}
 use lib.ListN.{length}
 use borrow.Author.Needs.{needs}
-use Rattle.mask.specs.Tables.{table}
 use Rattle.brute.specs.FillLaws.{Overlaying, overlaying-done, overlaying-start, overlaying-step}
-use Rattle.brute.specs.Numbers.{digitOf, entryOf, numbered}
+use Rattle.brute.specs.Numbers.{digitOf, entryOf, numberedTable}
 use Rattle.brute.specs.NumbersLaws.{digit-le}
 use Rattle.brute.proofs.numbers.put_entries.Statement.{statement}
 use Rattle.brute.proofs.numbers.put_entries.Tie as tie
@@ -56,7 +56,7 @@ same-length : tie.Need-same-length Inv-loop μ-loop
 same-length c = c .before .loop .inv .2 .size
 
 returns : tie.Need-returns Inv-loop μ-loop
-unfolding numbered
+unfolding numberedTable
 returns c = let l = c .before .loop in overlaying-done _ (l .inv .2) (omega (arith, l .inv .1))
 
 pub put-entries-spec : {M : Type 1} → statement M

@@ -1,3 +1,4 @@
+-- The invariant: the first s elements are the digits from place `at` on, n of them, and 0 after these.
 use mathlib.Core.Bool.{cond}
 use mathlib.Core.Logic.{⊎-elim}
 use mathlib.Core.Path.{_∙_, _≡_}

@@ -1,3 +1,4 @@
+-- The invariant: the first i elements are the digits of x.
 use Prim.Native.Nat.{_-_, _≤_}
 use native.Mathlib.Omega.{arith}
 use lib.ListN.{length}

@@ -1,3 +1,4 @@
+-- Each pair of the set that was passed meets the rule; the first that does not ends the search.
 use mathlib.Core.Bool.{true}
 use mathlib.Core.Logic.{⊎-elim}
 use mathlib.Core.Path.{_∙_, _≡_, sym}

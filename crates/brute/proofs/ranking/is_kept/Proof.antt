@@ -1,3 +1,4 @@
+-- The parts of the rule are asked in order: matched, a goal, level l - 1, set k, the set itself.
 use mathlib.Core.Bool.{false, true}
 use mathlib.Core.Path.{_∙_, _≡_, sym}
 use borrow.Author.Needs.{needs}

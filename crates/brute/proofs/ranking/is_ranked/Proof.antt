@@ -1,3 +1,4 @@
+-- Each section passed has the ranks; the first that has not ends the search.
 use mathlib.Core.Bool.{true}
 use mathlib.Core.Path.{_∙_, _≡_, sym}
 use Prim.Native.Nat.{_-_, _<_, _≤_, ℕ}
@@ -5,6 +6,7 @@ use native.Mathlib.Omega.{arith}
 use borrow.Author.Count.{below-more, below-none}
 use borrow.Author.Needs.{needs}
 use borrow.Author.Tests.{not-false, not-true}
+use Rattle.machine.specs.RefusalsLaws.{tested-refused, tested-valid}
 use Rattle.machine.specs.WellFormed.{wellFormed}
 use Rattle.machine.specs.WellFormedLaws.{valid-is-well}
 use Rattle.brute.specs.Ranking.{sectionRanked}
@@ -19,7 +21,7 @@ abbrev μ-loop : tie.MeasureT-loop
 μ-loop p lifted table j₀ j-end j = j-end - j
 
 well : (c : tie.After-enum-told2 Inv-loop μ-loop) → wellFormed (c .before .before .before .before .before .before .args .p) ≡ true
-well c = valid-is-well _ (sym (c .before .before .validity .ensures) ∙ c .enum-told2 .given .1)
+well c = valid-is-well _ (tested-valid (c .before .before .validity .ensures) (c .enum-told2 .given .1))
 
 validity-requires : tie.Need-validity-requires Inv-loop μ-loop
 validity-requires c κs = search needs
@@ -28,7 +30,7 @@ enum-told : tie.Need-enum-told Inv-loop μ-loop
 enum-told c = search needs
 
 returns : tie.Need-returns Inv-loop μ-loop
-returns c = let x = c .before .before .before .before .before .before .args in sym (table-ill (x .p) (x .lifted .now) (x .table .now) _ (sym (c .before .before .validity .ensures) ∙ c .enum-told .given .1))
+returns c = let x = c .before .before .before .before .before .before .args in sym (table-ill (x .p) (x .lifted .now) (x .table .now) _ (tested-refused (c .before .before .validity .ensures) (c .enum-told .given .1)))
 
 enum-told-2 : tie.Need-enum-told-2 Inv-loop μ-loop
 enum-told-2 c = search needs

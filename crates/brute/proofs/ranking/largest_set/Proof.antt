@@ -1,3 +1,4 @@
+-- The invariant: the greatest such number up to x is the answer.
 use mathlib.Core.Path.{_∙_, _≡_, ap, sym}
 use Prim.Native.Nat.{min, ℕ}
 use native.Mathlib.Omega.{arith}

@@ -1,3 +1,4 @@
+-- The invariant: the first e entries have their rank, and the others are as they were.
 use mathlib.Core.Logic.{⊎-elim}
 use mathlib.Core.Path.{_∙_, sym}
 use Prim.Native.Nat.{_-_}

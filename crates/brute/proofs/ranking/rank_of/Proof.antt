@@ -1,3 +1,4 @@
+-- A matched goal has rank 0, and any other pair the rank that was found.
 use mathlib.Core.Logic.{⊎-elim}
 use mathlib.Core.Path.{_∙_, sym}
 use native.Mathlib.Omega.{arith}

@@ -1,3 +1,4 @@
+-- The invariant: the pairs of the first i sets have their ranks.
 use mathlib.Core.Path.{_∙_, _≡_, refl}
 use Prim.Native.Nat.{_*_, _-_, _≤_}
 use native.Mathlib.Omega.{arith}

@@ -1,3 +1,4 @@
+-- Each pair passed has its rank in the table; the first that has not ends the search.
 use mathlib.Core.Path.{_∙_, _≡_, sym}
 use Prim.Native.Nat.{_*_, _+_, _-_, _<_, _≤_, ℕ}
 use native.Mathlib.Omega.{arith}
@@ -5,6 +6,7 @@ use lib.ListN.{getD}
 use borrow.Author.Count.{below-more, below-none}
 use borrow.Author.Needs.{needs}
 use Rattle.machine.specs.Machines.{pairs}
+use Rattle.machine.specs.Table.{tableRoom}
 use Rattle.machine.specs.WellFormedLaws.{WellPair, pairs-small, section-fits, well-pair}
 use Rattle.brute.specs.Ranking.{rankOf}
 use Rattle.brute.specs.RankingLaws.{section-all, section-not}
@@ -20,7 +22,7 @@ abbrev μ-loop : tie.MeasureT-loop
 well : (c : tie.Start Inv-loop μ-loop) → WellPair (c .args .p)
 well c = well-pair (c .args .p) (c .pre .0)
 
-fits : (c : tie.Start Inv-loop μ-loop) → let x = c .args in x .j * pairs (x .p) + pairs (x .p) ≤ 28672
+fits : (c : tie.Start Inv-loop μ-loop) → let x = c .args in x .j * pairs (x .p) + pairs (x .p) ≤ tableRoom
 fits c = section-fits (c .args .p) (well c) (c .args .j) (c .pre .1)
 
 mul-pairs : tie.Need-mul-pairs Inv-loop μ-loop

@@ -1,3 +1,4 @@
+-- The rounds are looked at in order, so that the first with the same place is the lowest.
 use mathlib.Core.Bool.{false}
 use mathlib.Core.Path.{_∙_, _≡_, sym}
 use Prim.Native.Nat.{_-_, _<_, _≤_, ℕ}
@@ -5,14 +6,13 @@ use native.Mathlib.Omega.{arith}
 use borrow.Author.Count.{below-more, below-none}
 use borrow.Author.Needs.{needs}
 use Rattle.mask.specs.BoundedLaws.{first-is, first-none}
-use Rattle.mask.specs.Tables.{table}
 use Rattle.machine.specs.Player.{samePlace}
-use Rattle.brute.specs.Runs.{lassoOf}
+use Rattle.brute.specs.Runs.{given}
 use Rattle.brute.proofs.runs.earlier_round.Statement.{statement}
 use Rattle.brute.proofs.runs.earlier_round.Tie as tie
 
 abbrev Inv-loop : tie.InvT-loop
-Inv-loop p table stem cycle y x₀ x = (x ≤ y) × ((k : ℕ) → k < x → samePlace p table (lassoOf stem cycle) k y ≡ false)
+Inv-loop p table stem cycle y x₀ x = (x ≤ y) × ((k : ℕ) → k < x → samePlace p table (given stem cycle) k y ≡ false)
 
 abbrev μ-loop : tie.MeasureT-loop
 μ-loop p table stem cycle y x₀ x = y - x

@@ -1,26 +1,27 @@
+-- Each state passed is the rule's; the first that is not ends the search.
 use mathlib.Core.Bool.{Bool, true}
 use mathlib.Core.List.{List}
 use mathlib.Core.Path.{_∙_, _≡_, ap, refl, sym}
 use Prim.Native.Nat.{_-_, _<_, _≤_, ℕ}
 use native.Mathlib.Omega.{arith}
-use lib.Dec.{T, eqb}
+use lib.Dec.{eqb}
 use lib.ListN.{getD}
 use borrow.Author.Count.{below-more, below-none}
 use borrow.Author.Needs.{needs}
 use borrow.Author.Tests.{eq-eqb, ne-eqb}
 use Rattle.mask.specs.BoundedLaws.{every-not, every-of}
 use Rattle.mask.specs.LogicLaws.{and-false-l, and-false-r, and-i}
-use Rattle.mask.specs.Tables.{table}
-use Rattle.machine.specs.Player.{Place, placeAt, run}
+use Rattle.machine.specs.Player.{Place, placeAt}
+use Rattle.machine.specs.RefusalsLaws.{tested-refused, tested-valid}
 use Rattle.machine.specs.WellFormed.{isValid, wellFormed}
 use Rattle.machine.specs.WellFormedLaws.{valid-is-well}
 use Rattle.machine.specs.declared.Pair.{Pair}
-use Rattle.brute.specs.Runs.{lassoOf}
+use Rattle.brute.specs.Runs.{given}
 use Rattle.brute.proofs.runs.is_run.Statement.{statement}
 use Rattle.brute.proofs.runs.is_run.Tie as tie
 
 abbrev right : Pair → List ℕ → List ℕ → List ℕ → List ℕ → ℕ → Bool
-right p T stem cycle run t = eqb (getD run t 0) (placeAt p T (lassoOf stem cycle) t .state)
+right p T stem cycle run t = eqb (getD run t 0) (placeAt p T (given stem cycle) t .state)
 
 abbrev Inv-loop : tie.InvT-loop
 Inv-loop p table stem cycle run n t₀ t = (t ≤ n) × ((i : ℕ) → i < t → right p table stem cycle run i ≡ true)
@@ -29,13 +30,13 @@ abbrev μ-loop : tie.MeasureT-loop
 μ-loop p table stem cycle run n t₀ t = n - t
 
 valid : (c : tie.After-enum-told2 Inv-loop μ-loop) → wellFormed (c .before .before .before .before .before .before .before .args .p) ≡ true
-valid c = valid-is-well _ (sym (c .before .before .validity .ensures) ∙ c .enum-told2 .given .1)
+valid c = valid-is-well _ (tested-valid (c .before .before .validity .ensures) (c .enum-told2 .given .1))
 
 -- the two states that are compared
 byte : (c : tie.After-byte-at Inv-loop μ-loop) → c .byte-at .result ≡ getD (c .before .before .before .before .before .before .before .before .before .before .before .args .run .now) (c .before .before .before .loop .t) 0
 byte c = c .byte-at .ensures
 
-placed : (c : tie.After-place-at Inv-loop μ-loop) → let x = c .before .before .before .before .before .before .before .before .before .before .args in c .place-at .result .state ≡ placeAt (x .p) (x .table .now) (lassoOf (x .stem .now) (x .cycle .now)) (c .before .before .loop .t) .state
+placed : (c : tie.After-place-at Inv-loop μ-loop) → let x = c .before .before .before .before .before .before .before .before .before .before .args in c .place-at .result .state ≡ placeAt (x .p) (x .table .now) (given (x .stem .now) (x .cycle .now)) (c .before .before .loop .t) .state
 placed c = ap (λ (at : Place). at .state) (c .place-at .ensures)
 
 validity-requires : tie.Need-validity-requires Inv-loop μ-loop
@@ -46,7 +47,7 @@ enum-told c = search needs
 
 returns : tie.Need-returns Inv-loop μ-loop
 unfolding wellFormed isValid
-returns c = rw (sym (c .before .before .validity .ensures) ∙ c .enum-told .given .1) (sym (and-false-l _ refl))
+returns c = rw (tested-refused (c .before .before .validity .ensures) (c .enum-told .given .1)) (sym (and-false-l _ refl))
 
 enum-told-2 : tie.Need-enum-told-2 Inv-loop μ-loop
 enum-told-2 c = search needs

@@ -1,21 +1,19 @@
+-- The invariant: the best of the states passed, and what a later entry has to be below: blank before there is one.
 use mathlib.Core.Bool.{Bool, true}
 use mathlib.Core.List.{List}
 use mathlib.Core.Logic.{⊎-elim}
 use mathlib.Core.Path.{_∙_, _≡_, sym}
 use Prim.Native.Nat.{_-_, _<_, _≤_, ℕ}
 use native.Mathlib.Omega.{arith}
-use lib.Dec.{T}
 use lib.ListN.{getD}
 use borrow.Author.Needs.{needs}
 use Rattle.mask.specs.Bits.{hasBit}
 use Rattle.mask.specs.Logic.{and}
 use Rattle.mask.specs.LogicLaws.{and-false-l, and-i, and-r, clash, refute}
-use Rattle.mask.specs.Tables.{table}
 use Rattle.machine.specs.Lines.{nonBlank}
 use Rattle.machine.specs.LinesLaws.{covers-of, nonBlank-at, nonBlank-of}
-use Rattle.machine.specs.Machines.{moves}
 use Rattle.machine.specs.Step.{partner}
-use Rattle.machine.specs.Table.{covers, entry}
+use Rattle.machine.specs.Table.{blank, covers, entry}
 use Rattle.machine.specs.declared.Pair.{Pair}
 use Rattle.brute.specs.ScanLaws.{Scanned, entry-below, scan-keep, scan-miss, scan-start, scan-take}
 use Rattle.brute.proofs.runs.least_partner.Statement.{statement}
@@ -30,7 +28,7 @@ Inv-loop p table moves j d best₀ limit₀ a₀ best limit a = (a ≤ 64) × Sc
 abbrev μ-loop : tie.MeasureT-loop
 μ-loop p table moves j d best₀ limit₀ a₀ best limit a = 64 - a
 
-small : (c : tie.At-loop Inv-loop μ-loop) → (i : ℕ) → getD (c .before .before .args .table .now) i 0 < 65536
+small : (c : tie.At-loop Inv-loop μ-loop) → (i : ℕ) → getD (c .before .before .args .table .now) i 0 ≤ blank
 small c i = omega (arith, c .before .shared-slice-known .given i)
 
 loop-holds : tie.Need-loop-holds Inv-loop μ-loop

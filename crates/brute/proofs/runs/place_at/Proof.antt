@@ -1,19 +1,18 @@
+-- The invariant: the place at moment i.
 use mathlib.Core.Path.{_∙_, _≡_, ap}
 use Prim.Native.Nat.{_-_, _≤_}
 use native.Mathlib.Numerals.{add-one}
 use native.Mathlib.Omega.{arith}
-use lib.Dec.{T}
 use borrow.Author.Needs.{needs}
-use Rattle.mask.specs.Tables.{table}
 use Rattle.machine.specs.Player.{placeAt, startPartner}
 use Rattle.machine.specs.WellFormedLaws.{WellPair, well-pair}
-use Rattle.brute.specs.Runs.{lassoOf, placeOf}
+use Rattle.brute.specs.Runs.{given, asPlace}
 use Rattle.brute.specs.ScanLaws.{Placed, place-next, place-start, placed}
 use Rattle.brute.proofs.runs.place_at.Statement.{statement}
 use Rattle.brute.proofs.runs.place_at.Tie as tie
 
 abbrev Inv-loop : tie.InvT-loop
-Inv-loop p table stem cycle t at₀ i₀ at i = (i ≤ t) × (placeOf at ≡ placeAt p table (lassoOf stem cycle) i)
+Inv-loop p table stem cycle t at₀ i₀ at i = (i ≤ t) × (asPlace at ≡ placeAt p table (given stem cycle) i)
 
 abbrev μ-loop : tie.MeasureT-loop
 μ-loop p table stem cycle t at₀ i₀ at i = t - i
@@ -21,11 +20,11 @@ abbrev μ-loop : tie.MeasureT-loop
 well : (c : tie.Start Inv-loop μ-loop) → WellPair (c .args .p)
 well c = well-pair (c .args .p) (c .pre)
 
-here : (c : tie.At-loop Inv-loop μ-loop) → Placed (c .before .before .before .before .before .before .before .before .args .p) (c .before .before .before .before .before .before .before .before .args .table .now) (placeOf (c .loop .at))
+here : (c : tie.At-loop Inv-loop μ-loop) → Placed (c .before .before .before .before .before .before .before .before .args .p) (c .before .before .before .before .before .before .before .before .args .table .now) (asPlace (c .loop .at))
 here c =
     let x = c .before .before .before .before .before .before .before .before .args in
     let w = well (c .before .before .before .before .before .before .before .before) in
-    rw (c .loop .inv .1) (placed (x .p) (x .table .now) (lassoOf (x .stem .now) (x .cycle .now)) (w .abstraction .sets-low) (c .loop .i))
+    rw (c .loop .inv .1) (placed (x .p) (x .table .now) (given (x .stem .now) (x .cycle .now)) (w .abstraction .sets-low) (c .loop .i))
 
 moment-at-requires : tie.Need-moment-at-requires Inv-loop μ-loop
 moment-at-requires c κs = search needs
@@ -43,7 +42,7 @@ loop-holds : tie.Need-loop-holds Inv-loop μ-loop
 unfolding startPartner
 loop-holds c =
     let x = c .before .before .before .before .before .before .before .args in
-    let l = lassoOf (x .stem .now) (x .cycle .now) in
+    let l = given (x .stem .now) (x .cycle .now) in
     (search needs, rw (c .state-of .ensures) (place-start (x .p) (x .table .now) l _ (c .before .least-partner .ensures ∙ ap (startPartner (x .p) (x .table .now)) (c .before .before .moment-at .ensures))))
 
 moment-at-requires-2 : tie.Need-moment-at-requires-2 Inv-loop μ-loop
@@ -74,9 +73,9 @@ loop-again : tie.Need-loop-again Inv-loop μ-loop
 loop-again c =
     let x = c .before .before .before .before .before .before .before .before .before .before .before .before .args in
     let T = x .table .now in
-    let l = lassoOf (x .stem .now) (x .cycle .now) in (
+    let l = given (x .stem .now) (x .cycle .now) in (
       search needs,
-      rw add-one (c .step-to .ensures ∙ rw (c .before .before .moment-at2 .ensures, c .before .moment-at3 .ensures, add-one) (place-next (x .p) T l (c .before .before .before .before .loop .i) (placeOf (c .before .before .before .before .loop .at)) (c .before .before .before .before .loop .inv .1))),
+      rw add-one (c .step-to .ensures ∙ rw (c .before .before .moment-at2 .ensures, c .before .moment-at3 .ensures, add-one) (place-next (x .p) T l (c .before .before .before .before .loop .i) (asPlace (c .before .before .before .before .loop .at)) (c .before .before .before .before .loop .inv .1))),
     )
 
 returns : tie.Need-returns Inv-loop μ-loop

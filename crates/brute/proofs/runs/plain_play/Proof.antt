@@ -1,3 +1,4 @@
+-- The tests are made in the order of the definition, and each return is the first that fails; where none does, the rounds tell the run.
 use mathlib.Core.Path.{_∙_, _≡_, ap, sym}
 use Prim.Native.Nat.{_*_, _+_, _-_, _≤_}
 use native.Mathlib.Omega.{arith}
@@ -7,26 +8,27 @@ use Rattle.mask.specs.BoundedLaws.{first-le}
 use Rattle.machine.specs.Lassos.{moment}
 use Rattle.machine.specs.Lines.{linesValidity}
 use Rattle.machine.specs.Player.{lassoValidity, lastRound, startPartner}
+use Rattle.machine.specs.Refusals.{refused, valid}
+use Rattle.machine.specs.RefusalsLaws.{tested-refused, tested-valid}
 use Rattle.machine.specs.WellFormed.{pairValidity}
 use Rattle.machine.specs.WellFormedLaws.{mul-bound, valid-is-well}
-use Rattle.machine.specs.declared.Validity.the-variants.{Valid}
-use Rattle.brute.specs.Runs.{lassoOf, playedOf}
+use Rattle.brute.specs.Runs.{given, playedOf}
 use Rattle.brute.specs.ScanLaws.{played-alone, played-fail, played-ill, played-run, played-unfit, valid-length}
 use Rattle.brute.proofs.runs.plain_play.Statement.{statement}
 use Rattle.brute.proofs.runs.plain_play.Tie as tie
 
-valid : (c : tie.After-enum-told) → pairValidity (c .before .before .before .before .before .before .before .args .p) ≡ Valid
-valid c = sym (c .before .before .validity .ensures) ∙ c .enum-told .given .1
+formed : (c : tie.After-enum-told) → pairValidity (c .before .before .before .before .before .before .before .args .p) ≡ valid
+formed c = tested-valid (c .before .before .validity .ensures) (c .enum-told .given .1)
 
-passed : (c : tie.After-enum-told2) → linesValidity (c .before .before .before .before .before .before .before .before .before .before .args .p) (c .before .before .before .before .before .before .before .before .before .before .args .table .now) ≡ Valid
-passed c = sym (c .before .before .lines .ensures) ∙ c .enum-told2 .given .1
+passed : (c : tie.After-enum-told2) → linesValidity (c .before .before .before .before .before .before .before .before .before .before .args .p) (c .before .before .before .before .before .before .before .before .before .before .args .table .now) ≡ valid
+passed c = tested-valid (c .before .before .lines .ensures) (c .enum-told2 .given .1)
 
-fits : (c : tie.After-enum-told3) → let x = c .before .before .before .before .before .before .before .before .before .before .before .before .before .args in lassoValidity (x .p .concrete) (lassoOf (x .stem .now) (x .cycle .now)) ≡ Valid
-fits c = sym (c .before .before .lasso-fits .ensures) ∙ c .enum-told3 .given .1
+fits : (c : tie.After-enum-told3) → let x = c .before .before .before .before .before .before .before .before .before .before .before .before .before .args in lassoValidity (x .p .concrete) (given (x .stem .now) (x .cycle .now)) ≡ valid
+fits c = tested-valid (c .before .before .lasso-fits .ensures) (c .enum-told3 .given .1)
 
 start : (c : tie.After-least-partner)
     → let x = c .before .before .before .before .before .before .before .before .before .before .before .before .before .before .before .args in
-    c .least-partner .result ≡ startPartner (x .p) (x .table .now) (moment (lassoOf (x .stem .now) (x .cycle .now)) 0)
+    c .least-partner .result ≡ startPartner (x .p) (x .table .now) (moment (given (x .stem .now) (x .cycle .now)) 0)
 unfolding startPartner
 start c = c .least-partner .ensures ∙ ap (startPartner (c .before .before .before .before .before .before .before .before .before .before .before .before .before .before .before .args .p) (c .before .before .before .before .before .before .before .before .before .before .before .before .before .before .before .args .table .now)) (c .before .moment-at .ensures)
 
@@ -55,13 +57,13 @@ returns : tie.Need-returns
 unfolding playedOf
 returns c =
     let x = c .before .before .before .before .before .before .before .before .args in
-    sym (played-ill (x .p) (x .table .now) (lassoOf (x .stem .now) (x .cycle .now)) _ (sym (c .before .before .before .validity .ensures) ∙ c .before .valid .given .1))
+    sym (played-ill (x .p) (x .table .now) (given (x .stem .now) (x .cycle .now)) _ (tested-refused (c .before .before .before .validity .ensures) (c .before .valid .given .1)))
 
 enum-told : tie.Need-enum-told
 enum-told c = search needs
 
 lines-requires : tie.Need-lines-requires
-lines-requires c κs = valid-is-well _ (valid c)
+lines-requires c κs = valid-is-well _ (formed c)
 
 enum-known-passed : tie.Need-enum-known-passed
 enum-known-passed c = search needs
@@ -70,7 +72,7 @@ returns-2 : tie.Need-returns-2
 unfolding playedOf
 returns-2 c =
     let x = c .before .before .before .before .before .before .before .before .before .before .before .args in
-    sym (played-fail (x .p) (x .table .now) (lassoOf (x .stem .now) (x .cycle .now)) (valid (c .before .before .before .before)) _ (sym (c .before .before .before .lines .ensures) ∙ c .before .passed .given .1))
+    sym (played-fail (x .p) (x .table .now) (given (x .stem .now) (x .cycle .now)) (formed (c .before .before .before .before)) _ (tested-refused (c .before .before .before .lines .ensures) (c .before .passed .given .1)))
 
 enum-told-2 : tie.Need-enum-told-2
 enum-told-2 c = search needs
@@ -85,7 +87,7 @@ returns-3 : tie.Need-returns-3
 unfolding playedOf
 returns-3 c =
     let x = c .before .before .before .before .before .before .before .before .before .before .before .before .before .before .args in
-    sym (played-unfit (x .p) (x .table .now) (lassoOf (x .stem .now) (x .cycle .now)) (valid (c .before .before .before .before .before .before .before)) (passed (c .before .before .before .before)) _ (sym (c .before .before .before .lasso-fits .ensures) ∙ c .before .fits2 .given .1))
+    sym (played-unfit (x .p) (x .table .now) (given (x .stem .now) (x .cycle .now)) (formed (c .before .before .before .before .before .before .before)) (passed (c .before .before .before .before)) _ (tested-refused (c .before .before .before .lasso-fits .ensures) (c .before .fits2 .given .1)))
 
 enum-told-3 : tie.Need-enum-told-3
 enum-told-3 c = search needs
@@ -97,26 +99,31 @@ cast-least-partner : tie.Need-cast-least-partner
 cast-least-partner c = search needs
 
 least-partner-requires : tie.Need-least-partner-requires
-least-partner-requires c κs = (valid-is-well _ (valid (c .before .before .before .before .before .before .before)), omega (arith, c .moment-at .ok))
+least-partner-requires c κs = (valid-is-well _ (formed (c .before .before .before .before .before .before .before)), omega (arith, c .moment-at .ok))
 
 enum-told-4 : tie.Need-enum-told-4
 enum-told-4 c = search needs
 
+refuse-requires : tie.Need-refuse-requires
+refuse-requires c κs = search needs
+
 returns-4 : tie.Need-returns-4
 unfolding playedOf
 returns-4 c =
-    let x = c .before .before .before .before .before .before .before .before .before .before .before .before .before .before .before .before .before .args in
-    sym (played-alone (x .p) (x .table .now) (lassoOf (x .stem .now) (x .cycle .now)) (valid (c .before .before .before .before .before .before .before .before .before .before)) (passed (c .before .before .before .before .before .before .before)) (fits (c .before .before .before .before)) (sym (start (c .before .before)) ∙ c .enum-told4 .given .1))
+    let alone = c .before in
+    let x = alone .before .before .before .before .before .before .before .before .before .before .before .before .before .before .before .before .before .args in
+    ap refused (c .refuse .ensures)
+    ∙ sym (played-alone (x .p) (x .table .now) (given (x .stem .now) (x .cycle .now)) (formed (alone .before .before .before .before .before .before .before .before .before .before)) (passed (alone .before .before .before .before .before .before .before)) (fits (alone .before .before .before .before)) (sym (start (alone .before .before)) ∙ alone .enum-told4 .given .1))
 
 enum-told-5 : tie.Need-enum-told-5
 enum-told-5 c = search needs
 
 last-round-requires : tie.Need-last-round-requires
-last-round-requires c κs = (valid-is-well _ (valid (c .before .before .before .before .before .before .before .before .before .before)), valid-length _ _ (fits (c .before .before .before .before)))
+last-round-requires c κs = (valid-is-well _ (formed (c .before .before .before .before .before .before .before .before .before .before)), valid-length _ _ (fits (c .before .before .before .before)))
 
 earlier-round-requires : tie.Need-earlier-round-requires
 unfolding lastRound
-earlier-round-requires c κs = (valid-is-well _ (valid (c .before .before .before .before .before .before .before .before .before .before .before)), (valid-length _ _ (fits (c .before .before .before .before .before)), rw (c .last-round .ensures) (first-le 449 _)))
+earlier-round-requires c κs = (valid-is-well _ (formed (c .before .before .before .before .before .before .before .before .before .before .before)), (valid-length _ _ (fits (c .before .before .before .before .before)), rw (c .last-round .ensures) (first-le 449 _)))
 
 mul-t19 : tie.Need-mul-t19
 mul-t19 c = omega (arith, room c)
@@ -134,7 +141,7 @@ returns-5 : tie.Need-returns-5
 unfolding playedOf
 returns-5 c =
     let x = c .before .before .before .before .before .before .before .before .before .before .before .before .before .before .before .before .before .before .before .args in
-    sym (played-run (x .p) (x .table .now) (lassoOf (x .stem .now) (x .cycle .now)) (valid (c .before .before .before .before .before .before .before .before .before .before .before .before)) (passed (c .before .before .before .before .before .before .before .before .before)) (fits (c .before .before .before .before .before .before)) _ _ _ (sym (start (c .before .before .before .before)) ∙ c .before .before .enum-told5 .given .1) (c .before .last-round .ensures) (c .earlier-round .ensures))
+    sym (played-run (x .p) (x .table .now) (given (x .stem .now) (x .cycle .now)) (formed (c .before .before .before .before .before .before .before .before .before .before .before .before)) (passed (c .before .before .before .before .before .before .before .before .before)) (fits (c .before .before .before .before .before .before)) _ _ _ (sym (start (c .before .before .before .before)) ∙ c .before .before .enum-told5 .given .1) (c .before .last-round .ensures) (c .earlier-round .ensures))
 
 pub plain-play-spec : {M : Type 1} → statement M
 plain-play-spec =
@@ -156,6 +163,7 @@ plain-play-spec =
     cast-least-partner
     least-partner-requires
     enum-told-4
+    refuse-requires
     returns-4
     enum-told-5
     last-round-requires

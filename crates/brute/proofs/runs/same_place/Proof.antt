@@ -1,9 +1,10 @@
+-- The places at the two loop starts differ in the state, or their sections tell.
 use mathlib.Core.Path.{sym}
 use Prim.Native.Nat.{_*_, _≤_}
 use native.Mathlib.Omega.{arith}
 use lib.ListN.{length}
 use Rattle.machine.specs.WellFormedLaws.{mul-bound}
-use Rattle.brute.specs.Runs.{lassoOf}
+use Rattle.brute.specs.Runs.{given}
 use Rattle.brute.specs.ScanLaws.{place-other, place-same}
 use Rattle.brute.proofs.runs.same_place.Statement.{statement}
 use Rattle.brute.proofs.runs.same_place.Tie as tie
@@ -33,12 +34,12 @@ place-at-requires-2 c κs = c .before .before .before .before .pre .0
 returns : tie.Need-returns
 returns c =
     let a = c .before .before .before .before .before .before .before .before .args in
-    sym (place-other (a .p) (a .table .now) (lassoOf (a .stem .now) (a .cycle .now)) (a .x) (a .y) _ _ (c .before .before .before .before .place-at .ensures) (c .before .before .before .place-at2 .ensures) (c .if1 .taken))
+    sym (place-other (a .p) (a .table .now) (given (a .stem .now) (a .cycle .now)) (a .x) (a .y) _ _ (c .before .before .before .before .place-at .ensures) (c .before .before .before .place-at2 .ensures) (c .if1 .taken))
 
 returns-2 : tie.Need-returns-2
 returns-2 c =
     let a = c .before .before .before .before .before .before .before .before .before .before .args in
-    sym (place-same (a .p) (a .table .now) (lassoOf (a .stem .now) (a .cycle .now)) (a .x) (a .y) _ _ (c .before .before .before .before .before .before .place-at .ensures) (c .before .before .before .before .before .place-at2 .ensures) (c .before .before .if1 .left))
+    sym (place-same (a .p) (a .table .now) (given (a .stem .now) (a .cycle .now)) (a .x) (a .y) _ _ (c .before .before .before .before .before .before .place-at .ensures) (c .before .before .before .before .before .place-at2 .ensures) (c .before .before .if1 .left))
 
 pub same-place-spec : {M : Type 1} → statement M
 same-place-spec =

@@ -1,3 +1,4 @@
+-- The entry of the pair tells whether the section changes.
 use mathlib.Core.Path.{_∙_, sym}
 use native.Mathlib.Omega.{arith}
 use borrow.Author.Needs.{needs}

@@ -1,7 +1,8 @@
+-- The section changes first, and the partner is looked for in the new one.
 use native.Mathlib.Omega.{arith}
 use borrow.Author.Needs.{needs}
 use Rattle.machine.specs.WellFormedLaws.{WellPair, well-pair}
-use Rattle.brute.specs.Runs.{placeOf}
+use Rattle.brute.specs.Runs.{asPlace}
 use Rattle.brute.specs.ScanLaws.{section-small, step-is}
 use Rattle.brute.proofs.runs.step_to.Statement.{statement}
 use Rattle.brute.proofs.runs.step_to.Tie as tie
@@ -19,7 +20,7 @@ least-partner-requires : tie.Need-least-partner-requires
 least-partner-requires c κs =
     let x = c .before .before .before .args in
     let w = well (c .before .before .before) in
-    (c .before .before .before .pre .0, omega (arith, c .before .section-after .ensures, section-small (x .p) (x .table .now) (x .c) (placeOf (x .at)) (c .before .before .before .pre .1 .1 .1 .1), w .abstraction .sets-high))
+    (c .before .before .before .pre .0, omega (arith, c .before .section-after .ensures, section-small (x .p) (x .table .now) (x .c) (asPlace (x .at)) (c .before .before .before .pre .1 .1 .1 .1), w .abstraction .sets-high))
 
 state-of-requires : tie.Need-state-of-requires
 state-of-requires c κs = search needs
@@ -27,7 +28,7 @@ state-of-requires c κs = search needs
 returns : tie.Need-returns
 returns c =
     let x = c .before .before .before .before .before .args in
-    rw (c .state-of .ensures) (step-is (x .p) (x .table .now) (x .c) (x .d) _ (placeOf (x .at)) _ _ (c .before .before .before .section-after .ensures) (c .before .before .successors-of .ensures) (c .before .least-partner .ensures))
+    rw (c .state-of .ensures) (step-is (x .p) (x .table .now) (x .c) (x .d) _ (asPlace (x .at)) _ _ (c .before .before .before .section-after .ensures) (c .before .before .successors-of .ensures) (c .before .least-partner .ensures))
 
 pub step-to-spec : {M : Type 1} → statement M
 step-to-spec =

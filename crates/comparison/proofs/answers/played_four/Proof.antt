@@ -1,5 +1,5 @@
 use Rattle.player.specs.Answers.{playedOf}
-use Rattle.comparison.specs.Answers.{playedFour}
+use Rattle.comparison.specs.Answers.{fourOf, playedNumbers}
 use borrow.Author.Needs.{needs}
 use Rattle.comparison.proofs.answers.played_four.Statement.{statement}
 use Rattle.comparison.proofs.answers.played_four.Tie as tie
@@ -7,19 +7,19 @@ use Rattle.comparison.proofs.answers.played_four.Tie as tie
 enum-known-v : tie.Need-enum-known-v
 enum-known-v c = search needs
 
-four-requires : tie.Need-four-requires
-four-requires c κs = search needs
+refuse-requires : tie.Need-refuse-requires
+refuse-requires c κs = search needs
 
 enum-known-v-2 : tie.Need-enum-known-v-2
 enum-known-v-2 c = search needs
 
 returns : tie.Need-returns
-unfolding playedOf playedFour
-returns c = rw (c .before .before .v .given .1) (c .four .ensures)
+unfolding playedOf fourOf playedNumbers
+returns c = rw (c .before .before .v .given .1) (c .refuse .ensures)
 
 returns-2 : tie.Need-returns-2
-unfolding playedOf playedFour
+unfolding playedOf fourOf playedNumbers
 returns-2 c = rw (c .before .v2 .given .1)
 
 pub played-four-spec : {M : Type 1} → statement M
-played-four-spec = tie.close (tie.spec enum-known-v four-requires enum-known-v-2 returns returns-2)
+played-four-spec = tie.close (tie.spec enum-known-v refuse-requires enum-known-v-2 returns returns-2)

@@ -1,3 +1,4 @@
+-- The numbers are compared in order, and the first that differs ends it.
 use mathlib.Core.Path.{sym, _∙_}
 use borrow.Author.Tests.{eq-eqb, ne-eqb}
 use Rattle.mask.specs.LogicLaws.{and-false-l, and-true-l}

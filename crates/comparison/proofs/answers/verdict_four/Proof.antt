@@ -1,5 +1,5 @@
-use Rattle.brute.specs.Lines.{verdictOf}
-use Rattle.comparison.specs.Answers.{verdictFour}
+use Rattle.linecheck.specs.Answers.{verdictOf}
+use Rattle.comparison.specs.Answers.{fourOf, verdictNumbers}
 use borrow.Author.Needs.{needs}
 use Rattle.comparison.proofs.answers.verdict_four.Statement.{statement}
 use Rattle.comparison.proofs.answers.verdict_four.Tie as tie
@@ -7,28 +7,28 @@ use Rattle.comparison.proofs.answers.verdict_four.Tie as tie
 enum-known-v : tie.Need-enum-known-v
 enum-known-v c = search needs
 
-four-requires : tie.Need-four-requires
-four-requires c κs = search needs
+refuse-requires : tie.Need-refuse-requires
+refuse-requires c κs = search needs
 
 enum-known-v-2 : tie.Need-enum-known-v-2
 enum-known-v-2 c = search needs
 
-four-requires-2 : tie.Need-four-requires-2
-four-requires-2 c κs = search needs
+refuse-requires-2 : tie.Need-refuse-requires-2
+refuse-requires-2 c κs = search needs
 
 enum-known-v-3 : tie.Need-enum-known-v-3
 enum-known-v-3 c = search needs
 
 returns : tie.Need-returns
-unfolding verdictOf verdictFour
-returns c = rw (c .before .before .v .given .1) (c .four .ensures)
+unfolding verdictOf fourOf verdictNumbers
+returns c = rw (c .before .before .v .given .1) (c .refuse .ensures)
 
 returns-2 : tie.Need-returns-2
-unfolding verdictOf verdictFour
-returns-2 c = rw (c .before .before .v2 .given .1) (c .four2 .ensures)
+unfolding verdictOf fourOf verdictNumbers
+returns-2 c = rw (c .before .before .v2 .given .1) (c .refuse2 .ensures)
 
 returns-3 : tie.Need-returns-3
-unfolding verdictOf verdictFour
+unfolding verdictOf fourOf verdictNumbers
 returns-3 c = rw (c .before .v3 .given .1)
 
 pub verdict-four-spec : {M : Type 1} → statement M
@@ -36,9 +36,9 @@ verdict-four-spec =
     tie.close
     (tie.spec
     enum-known-v
-    four-requires
+    refuse-requires
     enum-known-v-2
-    four-requires-2
+    refuse-requires-2
     enum-known-v-3
     returns
     returns-2

@@ -1,4 +1,6 @@
-use Rattle.comparison.specs.LassosLaws.{tally-is}
+-- Both answers and the run are those of the definition, by the contracts of player and plain reading.
+use mathlib.Core.Path.{_∙_}
+use Rattle.comparison.specs.LassosLaws.{lasso-tally-is}
 use borrow.Author.Needs.{needs}
 use Rattle.comparison.proofs.lassos.compare_lasso.Statement.{statement}
 use Rattle.comparison.proofs.lassos.compare_lasso.Tie as tie
@@ -15,8 +17,11 @@ played-four-requires c κs = search needs
 plain-play-requires : tie.Need-plain-play-requires
 plain-play-requires c κs = search needs
 
-plain-played-four-requires : tie.Need-plain-played-four-requires
-plain-played-four-requires c κs = search needs
+as-played-requires : tie.Need-as-played-requires
+as-played-requires c κs = search needs
+
+played-four-requires-2 : tie.Need-played-four-requires-2
+played-four-requires-2 c κs = search needs
 
 slice-aggregate-lasso-agrees : tie.Need-slice-aggregate-lasso-agrees
 slice-aggregate-lasso-agrees c = search needs
@@ -29,9 +34,12 @@ of-lasso-requires c κs = search needs
 
 returns : tie.Need-returns
 returns c =
-    let played = c .before .before .before .before .before .before .before .before .play .ensures in
-    tally-is _ _ _ _ _ _ _ _ _ _ (played .1) (played .0) (c .before .before .before .before .before .plain-play .ensures) (c .before .before .before .before .before .before .played-four .ensures)
-    (c .before .before .before .before .plain-played-four .ensures) (c .before .lasso-agrees .ensures) (c .of-lasso .ensures)
+    let plain = c .before .before .before .before in
+    let rule = plain .before .before in
+    let answer = rule .before in
+    let played = answer .before .before .play .ensures in
+    lasso-tally-is _ _ _ _ _ _ _ _ _ _ (played .1) (played .0) (plain .before .as-played .ensures ∙ rule .plain-play .ensures) (answer .played-four .ensures)
+    (plain .played-four2 .ensures) (c .before .lasso-agrees .ensures) (c .of-lasso .ensures)
 
 pub compare-lasso-spec : {M : Type 1} → statement M
 compare-lasso-spec =
@@ -41,7 +49,8 @@ compare-lasso-spec =
     play-requires
     played-four-requires
     plain-play-requires
-    plain-played-four-requires
+    as-played-requires
+    played-four-requires-2
     slice-aggregate-lasso-agrees
     lasso-agrees-requires
     of-lasso-requires

@@ -1,3 +1,4 @@
+-- The invariant: the sum of the first i shapes.
 use mathlib.Core.Logic.{⊎-elim}
 use mathlib.Core.Path.{_≡_}
 use Prim.Native.Nat.{_-_, _/_, _%_, _≤_, min}

@@ -1,3 +1,4 @@
+-- The digits of x are cut into stem and loop as the definition cuts them.
 use mathlib.Core.Path.{sym}
 use Prim.Native.Nat.{_+_, _-_}
 use native.Mathlib.Omega.{arith}
@@ -13,8 +14,8 @@ slice-aggregate-put-states c = search needs
 put-states-requires : tie.Need-put-states-requires
 put-states-requires c κs = search needs
 
-slice-aggregate-given : tie.Need-slice-aggregate-given
-slice-aggregate-given c = search needs
+slice-aggregate-lent : tie.Need-slice-aggregate-lent
+slice-aggregate-lent c = search needs
 
 slice-aggregate-compare-lasso : tie.Need-slice-aggregate-compare-lasso
 slice-aggregate-compare-lasso c = sym (length-take-le _ _ (omega (arith, c .before .before .before .put-states .kept .1 .1 .0)))
@@ -45,7 +46,7 @@ compare-numbered-spec =
     (tie.spec
     slice-aggregate-put-states
     put-states-requires
-    slice-aggregate-given
+    slice-aggregate-lent
     slice-aggregate-compare-lasso
     add-compare-lasso
     sub-compare-lasso

@@ -1,9 +1,10 @@
+-- The invariant: the sum of the first x lassos.
 use mathlib.Core.Path.{_≡_}
 use Prim.Native.Nat.{_-_, _*_, _≤_}
 use native.Mathlib.Omega.{arith}
 use borrow.Author.Needs.{needs}
 use Rattle.machine.specs.WellFormedLaws.{mul-bound}
-use Rattle.comparison.specs.Lassos.{lassoTally, lassoNumbered}
+use Rattle.comparison.specs.Lassos.{lassoTally, numberedLasso}
 use Rattle.comparison.specs.LassosLaws.{shape-is}
 use Rattle.comparison.specs.Tallies.{total}
 use Rattle.comparison.specs.TalliesLaws.{total-start, total-more}
@@ -11,7 +12,7 @@ use Rattle.comparison.proofs.lassos.compare_shape.Statement.{statement}
 use Rattle.comparison.proofs.lassos.compare_shape.Tie as tie
 
 abbrev Inv-loop : tie.InvT-loop
-Inv-loop p table s q top base sum₀ x₀ x-end sum x = (x ≤ x-end) × (sum ≡ total x (λ i. lassoTally p table (lassoNumbered top s q i)))
+Inv-loop p table s q top base sum₀ x₀ x-end sum x = (x ≤ x-end) × (sum ≡ total x (λ i. lassoTally p table (numberedLasso top s q i)))
 
 abbrev μ-loop : tie.MeasureT-loop
 μ-loop p table s q top base sum₀ x₀ x-end sum x = x-end - x

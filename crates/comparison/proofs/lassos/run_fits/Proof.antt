@@ -1,3 +1,4 @@
+-- The parts of the definition are asked in order, the buffer's length first, so that both slices can be cut.
 use mathlib.Core.Bool.{true}
 use mathlib.Core.Path.{_∙_, _≡_, sym}
 use Prim.Native.Nat.{_+_, _-_, _≤_}
@@ -5,7 +6,7 @@ use native.Mathlib.Omega.{arith}
 use lib.ListN.{length}
 use lib.Seq.{length-take-le}
 use borrow.Author.Tests.{not-true, not-false}
-use Rattle.brute.specs.Runs.{lassoOf}
+use Rattle.brute.specs.Runs.{given}
 use Rattle.comparison.specs.LassosLaws.{ruled, fits-short, fits-other, fits-no-play, fits-play}
 use borrow.Author.Needs.{needs}
 use Rattle.comparison.proofs.lassos.run_fits.Statement.{statement}
@@ -16,7 +17,7 @@ long c = omega arith
 
 rules : (c : tie.Else3)
     → let x = c .before .before .before .before .before .before .before .before .args in
-    ruled (x .p) (x .table .now) (lassoOf (x .stem .now) (x .cycle .now)) (x .run .now) (x .s + x .q) ≡ true
+    ruled (x .p) (x .table .now) (given (x .stem .now) (x .cycle .now)) (x .run .now) (x .s + x .q) ≡ true
 rules c = sym (c .before .is-run .ensures) ∙ not-false _ (c .if3 .left)
 
 returns : tie.Need-returns

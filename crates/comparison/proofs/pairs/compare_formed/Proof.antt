@@ -1,3 +1,4 @@
+-- Each call has its part of the definition as its contract.
 use native.Mathlib.Omega.{arith}
 use Rattle.machine.specs.WellFormedLaws.{WellPair, well-pair, pairs-small, ranks-small, entries-small}
 use Rattle.comparison.specs.PairsLaws.{formed-is}

@@ -1,3 +1,6 @@
+-- Where the solver refuses nothing the pair is well formed, and the further count is added.
+use mathlib.Core.Path.{refl}
+use Rattle.machine.specs.RefusalsLaws.{tested-refused, tested-valid}
 use Rattle.comparison.specs.PairsLaws.{solved-well, pair-refused, pair-formed}
 use borrow.Author.Needs.{needs}
 use Rattle.comparison.proofs.pairs.compare_pair.Statement.{statement}
@@ -12,11 +15,11 @@ solve-requires c κs = search needs
 validity-requires : tie.Need-validity-requires
 validity-requires c κs = search needs
 
-validity-four-requires : tie.Need-validity-four-requires
-validity-four-requires c κs = search needs
+tested-four-requires : tie.Need-tested-four-requires
+tested-four-requires c κs = search needs
 
-validity-four-requires-2 : tie.Need-validity-four-requires-2
-validity-four-requires-2 c κs = search needs
+tested-four-requires-2 : tie.Need-tested-four-requires-2
+tested-four-requires-2 c κs = search needs
 
 same-four-requires : tie.Need-same-four-requires
 same-four-requires c κs = search needs
@@ -34,16 +37,35 @@ slice-aggregate-compare-formed : tie.Need-slice-aggregate-compare-formed
 slice-aggregate-compare-formed c = search needs
 
 compare-formed-requires : tie.Need-compare-formed-requires
-compare-formed-requires c κs = solved-well _ _ _ (c .before .before .before .before .before .before .before .before .before .solve .ensures .0) (c .before .enum-told2 .given .1)
+compare-formed-requires c κs =
+    let told = c .before in
+    solved-well _ _ (tested-valid (told .before .before .before .before .before .before .before .before .solve .ensures .0) (told .enum-told2 .given .1))
 
 add-requires : tie.Need-add-requires
 add-requires c κs = search needs
 
 returns : tie.Need-returns
-returns c = pair-refused _ _ _ _ _ _ _ _ (c .before .before .before .before .before .before .before .before .solve .ensures .0) (c .before .before .before .before .before .before .validity .ensures) (c .before .before .before .before .before .validity-four .ensures) (c .before .before .before .before .validity-four2 .ensures) (c .before .before .before .same-four .ensures) (c .before .before .of-pair .ensures) _ (c .enum-told .given .1)
+returns c =
+    let tried = c .before .before in
+    let same = tried .before in
+    let plain = same .before in
+    let answer = plain .before in
+    let rule = answer .before in
+    let solved = rule .before .before in
+    pair-refused _ _ _ _ _ _ _ _ (solved .solve .ensures .0) (rule .validity .ensures) (answer .tested-four .ensures) (plain .tested-four2 .ensures) (same .same-four .ensures)
+    (tried .of-pair .ensures) _ (tested-refused refl (c .enum-told .given .1))
 
 returns-2 : tie.Need-returns-2
-returns-2 c = pair-formed _ _ _ _ _ _ _ _ (c .before .before .before .before .before .before .before .before .before .before .before .solve .ensures .0) (c .before .before .before .before .before .before .before .before .before .validity .ensures) (c .before .before .before .before .before .before .before .before .validity-four .ensures) (c .before .before .before .before .before .before .before .validity-four2 .ensures) (c .before .before .before .before .before .before .same-four .ensures) (c .before .before .before .before .before .of-pair .ensures) (c .before .before .before .enum-told2 .given .1) _ _ _ (c .before .before .before .before .before .before .before .before .before .before .before .solve .ensures .1) (c .before .compare-formed .ensures) (c .add .ensures)
+returns-2 c =
+    let told = c .before .before .before in
+    let tried = told .before .before in
+    let same = tried .before in
+    let plain = same .before in
+    let answer = plain .before in
+    let rule = answer .before in
+    let solved = rule .before .before in
+    pair-formed _ _ _ _ _ _ _ _ (solved .solve .ensures .0) (rule .validity .ensures) (answer .tested-four .ensures) (plain .tested-four2 .ensures) (same .same-four .ensures)
+    (tried .of-pair .ensures) (tested-valid refl (told .enum-told2 .given .1)) _ _ _ (solved .solve .ensures .1) (c .before .compare-formed .ensures) (c .add .ensures)
 
 pub compare-pair-spec : {M : Type 1} → statement M
 compare-pair-spec =
@@ -52,8 +74,8 @@ compare-pair-spec =
     slice-aggregate-solve
     solve-requires
     validity-requires
-    validity-four-requires
-    validity-four-requires-2
+    tested-four-requires
+    tested-four-requires-2
     same-four-requires
     of-pair-requires
     enum-told

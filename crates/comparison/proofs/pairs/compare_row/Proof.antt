@@ -1,8 +1,9 @@
+-- The invariant: the sum of the first i pairs.
 use mathlib.Core.Path.{_≡_, _∙_}
 use Prim.Native.Nat.{_-_, _*_, _≤_}
 use native.Mathlib.Omega.{arith}
 use borrow.Author.Needs.{needs}
-use Rattle.brute.specs.Numbers.{pairOf}
+use Rattle.brute.specs.Numbers.{numberedPair}
 use Rattle.machine.specs.WellFormedLaws.{mul-bound}
 use Rattle.comparison.specs.Pairs.{pairTally}
 use Rattle.comparison.specs.PairsLaws.{row-is}
@@ -12,7 +13,7 @@ use Rattle.comparison.proofs.pairs.compare_row.Statement.{statement}
 use Rattle.comparison.proofs.pairs.compare_row.Tie as tie
 
 abbrev Inv-loop : tie.InvT-loop
-Inv-loop s x numbers sum₀ i₀ i-end sum i = (i ≤ i-end) × (sum ≡ total i (λ y. pairTally s (pairOf (s .concrete) (s .abstraction) x (y * s .abstractions .step))))
+Inv-loop s x numbers sum₀ i₀ i-end sum i = (i ≤ i-end) × (sum ≡ total i (λ y. pairTally s (numberedPair (s .concrete) (s .abstraction) x (y * s .abstractions .step))))
 
 abbrev μ-loop : tie.MeasureT-loop
 μ-loop s x numbers sum₀ i₀ i-end sum i = i-end - i
@@ -35,8 +36,8 @@ mul-y c =
     let t = c .before .before .before .before .before .args .s .abstractions .step in
     omega (arith, mul-bound (l .i) t 4294967295 4294967295 (omega arith) (omega arith))
 
-pair-of-requires : tie.Need-pair-of-requires Inv-loop μ-loop
-pair-of-requires c κs = search needs
+numbered-pair-requires : tie.Need-numbered-pair-requires Inv-loop μ-loop
+numbered-pair-requires c κs = search needs
 
 compare-pair-requires : tie.Need-compare-pair-requires Inv-loop μ-loop
 compare-pair-requires c κs = search needs
@@ -51,7 +52,7 @@ loop-less : tie.Need-loop-less Inv-loop μ-loop
 loop-less c = search needs
 
 loop-again : tie.Need-loop-again Inv-loop μ-loop
-loop-again c = (search needs, total-more _ _ _ _ _ (c .before .before .before .before .before .loop .inv .1) (c .before .compare-pair .ensures ∙ rw (c .before .before .pair-of .ensures)) (c .add .ensures))
+loop-again c = (search needs, total-more _ _ _ _ _ (c .before .before .before .before .before .loop .inv .1) (c .before .compare-pair .ensures ∙ rw (c .before .before .numbered-pair .ensures)) (c .add .ensures))
 
 returns : tie.Need-returns Inv-loop μ-loop
 returns c = row-is _ _ (c .before .loop .i) _ (omega arith) (c .before .loop .inv .1)
@@ -67,7 +68,7 @@ compare-row-spec =
     cast-y
     cast-y-2
     mul-y
-    pair-of-requires
+    numbered-pair-requires
     compare-pair-requires
     add-requires
     add-i

@@ -1,3 +1,4 @@
+-- Each call has its part of the definition as its contract.
 use borrow.Author.Needs.{needs}
 use Rattle.comparison.specs.PairsLaws.{solution-is}
 use Rattle.comparison.proofs.pairs.compare_solution.Statement.{statement}

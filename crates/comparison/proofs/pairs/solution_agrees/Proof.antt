@@ -1,3 +1,4 @@
+-- The parts of the definition are asked in order, and the first that fails ends it.
 use mathlib.Core.Path.{sym, _∙_}
 use borrow.Author.Needs.{needs}
 use borrow.Author.Tests.{not-true, not-false}

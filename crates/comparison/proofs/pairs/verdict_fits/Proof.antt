@@ -1,3 +1,4 @@
+-- The cases are those of the definition.
 use mathlib.Core.Path.{sym, _∙_}
 use borrow.Author.Tests.{not-true, not-false}
 use Rattle.mask.specs.LogicLaws.{not-is}

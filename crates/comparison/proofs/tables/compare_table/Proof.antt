@@ -1,21 +1,25 @@
+-- Both answers are that of the definition, by the contracts of check and plain reading.
 use mathlib.Core.Path.{_∙_, ap}
 use borrow.Author.Needs.{needs}
 use Rattle.comparison.specs.Answers.{verdictFour}
-use Rattle.comparison.specs.TablesLaws.{tally-is}
+use Rattle.comparison.specs.TablesLaws.{table-tally-is}
 use Rattle.comparison.proofs.tables.compare_table.Statement.{statement}
 use Rattle.comparison.proofs.tables.compare_table.Tie as tie
 
 check-table-requires : tie.Need-check-table-requires
 check-table-requires c κs = search needs
 
-answer-four-requires : tie.Need-answer-four-requires
-answer-four-requires c κs = search needs
+verdict-four-requires : tie.Need-verdict-four-requires
+verdict-four-requires c κs = search needs
 
 plain-verdict-requires : tie.Need-plain-verdict-requires
 plain-verdict-requires c κs = search needs
 
-verdict-four-requires : tie.Need-verdict-four-requires
-verdict-four-requires c κs = search needs
+as-checked-requires : tie.Need-as-checked-requires
+as-checked-requires c κs = search needs
+
+verdict-four-requires-2 : tie.Need-verdict-four-requires-2
+verdict-four-requires-2 c κs = search needs
 
 table-agrees-requires : tie.Need-table-agrees-requires
 table-agrees-requires c κs = search needs
@@ -25,18 +29,21 @@ of-table-requires c κs = search needs
 
 returns : tie.Need-returns
 returns c =
-    let d = c .before .before .before .before in
-    let a = d .before .before in
-    tally-is _ _ _ _ _ _ _ _ (a .answer-four .ensures ∙ ap verdictFour (a .before .check-table .ensures)) (d .verdict-four .ensures ∙ ap verdictFour (d .before .plain-verdict .ensures)) (c .before .table-agrees .ensures) (c .of-table .ensures)
+    let plain = c .before .before .before .before in
+    let rule = plain .before .before in
+    let answer = rule .before in
+    table-tally-is _ _ _ _ _ _ _ _ (answer .verdict-four .ensures ∙ ap verdictFour (answer .before .check-table .ensures))
+    (plain .verdict-four2 .ensures ∙ ap verdictFour (plain .before .as-checked .ensures ∙ rule .plain-verdict .ensures)) (c .before .table-agrees .ensures) (c .of-table .ensures)
 
 pub compare-table-spec : {M : Type 1} → statement M
 compare-table-spec =
     tie.close
     (tie.spec
     check-table-requires
-    answer-four-requires
-    plain-verdict-requires
     verdict-four-requires
+    plain-verdict-requires
+    as-checked-requires
+    verdict-four-requires-2
     table-agrees-requires
     of-table-requires
     returns)

@@ -1,8 +1,10 @@
+-- The invariant: the sum of the first x tables, and that a table laid over the used buffer is the one laid over the first.
 use mathlib.Core.Path.{_∙_, _≡_, sym}
 use Prim.Native.Nat.{_-_, _≤_, ℕ}
 use native.Mathlib.Omega.{arith}
 use lib.ListN.{length-replicate}
 use borrow.Author.Needs.{needs}
+use Rattle.machine.specs.Table.{tableRoom}
 use Rattle.comparison.specs.Tables.{tableOf, tableTally}
 use Rattle.comparison.specs.TablesLaws.{Reused, reused-start, reused-tally, reused-turn}
 use Rattle.comparison.specs.Tallies.{total}
@@ -24,7 +26,7 @@ loop-holds : tie.Need-loop-holds Inv-loop μ-loop
 loop-holds c = (search needs, reused-start _ _ _ _ _, total-start _ _ (c .none .ensures))
 
 slice-aggregate-put-table : tie.Need-slice-aggregate-put-table Inv-loop μ-loop
-slice-aggregate-put-table c = sym (c .before .before .loop .inv .1 .size ∙ length-replicate {A = ℕ} 28672 0)
+slice-aggregate-put-table c = sym (c .before .before .loop .inv .1 .size ∙ length-replicate {A = ℕ} tableRoom 0)
 
 put-table-requires : tie.Need-put-table-requires Inv-loop μ-loop
 put-table-requires c κs = search needs
@@ -32,7 +34,7 @@ put-table-requires c κs = search needs
 slice-aggregate-compare-table : tie.Need-slice-aggregate-compare-table Inv-loop μ-loop
 slice-aggregate-compare-table c =
     let d = c .before .before in
-    sym (d .put-table .kept .1 .1 .1 .1 .1 .0 ∙ d .before .before .before .loop .inv .1 .size ∙ length-replicate {A = ℕ} 28672 0)
+    sym (d .put-table .kept .1 .1 .1 .1 .1 .0 ∙ d .before .before .before .loop .inv .1 .size ∙ length-replicate {A = ℕ} tableRoom 0)
 
 compare-table-requires : tie.Need-compare-table-requires Inv-loop μ-loop
 compare-table-requires c κs = search needs

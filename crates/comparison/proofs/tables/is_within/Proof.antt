@@ -1,3 +1,4 @@
+-- Each entry passed that the table covers is covered by the other; the first that is not ends the search.
 use mathlib.Core.Bool.{true}
 use mathlib.Core.Logic.{⊎-elim}
 use mathlib.Core.Path.{_∙_, _≡_, sym}
@@ -6,12 +7,12 @@ use native.Mathlib.Omega.{arith}
 use lib.ListN.{getD}
 use borrow.Author.Count.{below-more, below-none}
 use borrow.Author.Needs.{needs}
-use Rattle.comparison.specs.TablesLaws.{covers, covers-blank, covers-held, covers-not, within-not, within-of}
+use Rattle.comparison.specs.TablesLaws.{coveredToo, too-blank, too-held, too-not, within-not, within-of}
 use Rattle.comparison.proofs.tables.is_within.Statement.{statement}
 use Rattle.comparison.proofs.tables.is_within.Tie as tie
 
 abbrev Inv-loop : tie.InvT-loop
-Inv-loop n table other e₀ e = (e ≤ n) × ((k : ℕ) → k < e → covers (getD table k 0) (getD other k 0) ≡ true)
+Inv-loop n table other e₀ e = (e ≤ n) × ((k : ℕ) → k < e → coveredToo (getD table k 0) (getD other k 0) ≡ true)
 
 abbrev μ-loop : tie.MeasureT-loop
 μ-loop n table other e₀ e = n - e
@@ -28,7 +29,7 @@ value-at-requires-2 c κs = search needs
 returns : tie.Need-returns Inv-loop μ-loop
 returns c =
     let l = c .before .before .before .before .before in
-    sym (within-not _ _ _ (l .loop .e) (omega arith) (covers-not _ _ (λ z. c .before .before .if1 .taken (c .before .before .before .value-at .ensures ∙ z)) (sym (c .before .value-at2 .ensures) ∙ c .if2 .taken)))
+    sym (within-not _ _ _ (l .loop .e) (omega arith) (too-not _ _ (λ z. c .before .before .if1 .taken (c .before .before .before .value-at .ensures ∙ z)) (sym (c .before .value-at2 .ensures) ∙ c .if2 .taken)))
 
 add-e : tie.Need-add-e Inv-loop μ-loop
 add-e c = search needs
@@ -40,8 +41,8 @@ loop-again : tie.Need-loop-again Inv-loop μ-loop
 loop-again c = (
   search needs,
   below-more _ _ (c .before .before .before .loop .inv .1) (⊎-elim
-      (λ w. covers-held _ _ (λ z. w .2 .left (w .1 .ensures ∙ z)))
-      (λ w. covers-blank _ _ (sym (c .before .value-at .ensures) ∙ w .left))
+      (λ w. too-held _ _ (λ z. w .2 .left (w .1 .ensures ∙ z)))
+      (λ w. too-blank _ _ (sym (c .before .value-at .ensures) ∙ w .left))
       (c .if1 .came)),
 )
 

@@ -1,3 +1,4 @@
+-- The invariant: the first e entries are those of the altered table, and the others are as they were.
 use mathlib.Core.Bool.{cond}
 use mathlib.Core.Logic.{⊎-elim}
 use mathlib.Core.Path.{_∙_, _≡_}

@@ -1,3 +1,4 @@
+-- The answers are compared first; of a table that passes it is also asked what it covers.
 use mathlib.Core.Path.{_∙_, sym}
 use borrow.Author.Needs.{needs}
 use borrow.Author.Tests.{not-false, not-true}

@@ -1,3 +1,4 @@
+-- Each count is the sum of the two, modulo 2^64.
 use Rattle.comparison.specs.Tallies.{plus, sum64}
 use borrow.Author.Needs.{needs}
 use Rattle.comparison.proofs.tally.add.Statement.{statement}

@@ -1,13 +1,12 @@
+-- Each part is filled by a call whose contract is that part of the definition.
 use mathlib.Core.Logic.{⊎-elim}
 use mathlib.Core.Path.{_∙_, _≡_}
 use Prim.Native.Nat.{min}
 use native.Mathlib.Omega.{arith}
-use lib.Seq.{sets}
 use borrow.Author.Needs.{needs}
-use Rattle.machine.specs.Machines.{moves}
 use Rattle.brute.specs.NumbersLaws.{machine-is}
-use Rattle.brute.proofs.numbers.machine_of.Statement.{statement}
-use Rattle.brute.proofs.numbers.machine_of.Tie as tie
+use Rattle.brute.proofs.numbers.numbered_machine.Statement.{statement}
+use Rattle.brute.proofs.numbers.numbered_machine.Tie as tie
 
 n-is : (c : tie.Joined1) → c .if1 .n ≡ min (c .before .before .args .shape .states) 64
 n-is c = ⊎-elim (λ w. omega arith) (λ w. omega arith) (c .if1 .came)
@@ -49,8 +48,8 @@ returns c =
     machine-is (x .shape) (x .x) (d .before .if1 .n) _ _ _ _ (n-is (d .before)) (c .digit2 .ensures)
     (bits .put-bits .ensures ∙ rw (d .digit .ensures)) (moves .put-masks .ensures) (sets .put-masks2 .ensures)
 
-pub machine-of-spec : {M : Type 1} → statement M
-machine-of-spec =
+pub numbered-machine-spec : {M : Type 1} → statement M
+numbered-machine-spec =
     tie.close
     (tie.spec
     digit-requires
