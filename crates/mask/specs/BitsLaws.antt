@@ -3,13 +3,13 @@ use mathlib.Core.Bool.{true, false}
 use mathlib.Core.Logic.{_⊎_, inl, inr, ⊎-elim}
 use mathlib.Core.Path.{_≡_, refl, sym, ap, _∙_}
 use Prim.Native.Nat.{ℕ, zero, suc, _+_, _-_, _*_, _/_, _%_, _^_, _≤_, _<_, zero-le, min, max}
-use native.Mathlib.Nat.{div-one, div-div-eq-div-mul, pow-succ', pow-suc, min-zero, zero-min}
+use native.Mathlib.Nat.{div-one, div-div-eq-div-mul, one-mul, pow-succ', pow-suc, min-zero, zero-min}
 use native.Mathlib.Decide.{decLt}
 use native.Mathlib.Omega.{arith}
 use lib.Dec.{eqb, ltb, eqb·suc-suc, eqb·zero-suc, eqb·suc-zero}
 use lib.Bits.{bitAnd, bitOr, and-step, and-self, and-le-r, or-step}
 use lib.Count.{trailingZeros, under, trailing-le}
-use lib.Pow.{pow-pos}
+use lib.Pow.{pow-pos, shl-exact}
 use borrow.Author.Tests.{lt-ltb, le-ltb}
 use Rattle.mask.specs.Logic.{not, and, or}
 use Rattle.mask.specs.LogicLaws.{clash, and-true-r, not-i}
@@ -219,6 +219,10 @@ has-or (suc i) a b =
     rw (has-suc, has-suc, has-suc, or-step, e) (has-or i (a / 2) (b / 2))
 
 -- ---- one state
+-- the mask of one state, as the code's shift makes it
+pub one-shl : (n : ℕ) → n < 64 → 1 * 2 ^ n % 2 ^ 64 ≡ 2 ^ n
+one-shl n h = shl-exact {a = 1} 1 n 64 (omega arith) (omega arith) ∙ one-mul (2 ^ n)
+
 pub has-power : (s i : ℕ) → hasBit (2 ^ s) i ≡ eqb i s
 has-power zero zero = has-odd 1 refl
 has-power zero (suc i) = rw (has-suc, has-none, eqb·suc-zero)

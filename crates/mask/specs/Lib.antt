@@ -8,4 +8,5 @@ pub mod LogicLaws
 pub mod BitsLaws
 pub mod BoundedLaws
 pub mod TablesLaws
+pub mod FrontLaws
 pub mod WalkLaws

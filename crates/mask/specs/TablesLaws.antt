@@ -2,9 +2,9 @@
 use mathlib.Core.Bool.{Bool, true, false, cond}
 use mathlib.Core.Logic.{_⊎_, inl, inr}
 use mathlib.Core.Path.{_≡_, refl, sym, ap, ap₂, _∙_}
-use mathlib.Core.List.{List, _∷_}
+use mathlib.Core.List.{List, [], _∷_, _++_}
 use Prim.Native.Nat.{ℕ, zero, suc, _+_, _*_, _/_, _%_, _^_, _≤_, _<_, zero-le}
-use native.Mathlib.Nat.{eq-or-lt-of-le, pow-suc, zero-add, one-mul}
+use native.Mathlib.Nat.{eq-or-lt-of-le, pow-suc, zero-add, add-zero, suc-add, one-mul}
 use native.Mathlib.Decide.{decLt, ℕ-discrete}
 use native.Mathlib.Omega.{arith}
 use lib.Dec.{eqb, ltb, eqb·suc-suc, eqb·suc-zero, eqb·zero-suc}
@@ -37,6 +37,17 @@ pub table-cong : {A : Type 0} (n : ℕ) (f g : ℕ → A) → ((i : ℕ) → i <
 unfolding table
 table-cong zero f g h = refl
 table-cong (suc n) f g h = ap₂ _∷_ (h 0 (omega arith)) (table-cong n (λ i. f (suc i)) (λ i. g (suc i)) (λ i l. h (suc i) (omega arith)))
+
+-- a table in two parts
+pub table-append : {A : Type 0} (m n : ℕ) (f : ℕ → A) → table (m + n) f ≡ table m f ++ table n (λ i. f (m + i))
+unfolding table
+table-append zero n f = rw zero-add (table-cong n f (λ i. f (0 + i)) (λ i h. ap f (sym (zero-add i))))
+table-append {A} (suc m) n f =
+    rw suc-add (ap (λ (l : List A). f 0 ∷ l) (table-append m n (λ i. f (suc i)) ∙ ap (λ (l : List A). table m (λ i. f (suc i)) ++ l) (table-cong n _ _ (λ i h. ap f (sym (suc-add m i))))))
+
+pub table-snoc : {A : Type 0} (n : ℕ) (f : ℕ → A) → table (n + 1) f ≡ table n f ++ (f n ∷ [])
+unfolding table
+table-snoc {A} n f = table-append n 1 f ∙ ap (λ (x : A). table n f ++ (x ∷ [])) (ap f (add-zero n))
 
 -- ---- maskOf
 pub maskOf-lt : (w : ℕ) (p : ℕ → Bool) → maskOf w p < 2 ^ w

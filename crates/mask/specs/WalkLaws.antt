@@ -1,6 +1,5 @@
 -- A walk takes the lowest state of what is left of a mask, again and again. Shown for any width w: it meets each state of the mask
 -- exactly once, in ascending order; it ends; the count falls by one at each turn; and "for every state" and "for some state" are what it decides.
-use mathlib.Core.Bool as B
 use mathlib.Core.Bool.{Bool, true, false, cond}
 use mathlib.Core.Logic.{_⊎_, inl, inr, ⊎-elim, by-cases}
 use mathlib.Core.Path.{_≡_, refl, sym, ap, _∙_}
@@ -11,13 +10,12 @@ use native.Mathlib.Decide.{decLt, ℕ-discrete}
 use native.Mathlib.Omega.{arith}
 use lib.Dec.{eqb}
 use lib.ListN.{length, getD}
-use lib.Bits.{bitAnd, and-le-l}
 use lib.Count.{ones, ones-step}
-use borrow.Author.Tests.{not-true, eqb-true, eqb-false, eq-eqb, ne-eqb}
+use borrow.Author.Tests.{eqb-true, eqb-false, eq-eqb, ne-eqb}
 use Rattle.mask.specs.Logic.{not, and, or}
 use Rattle.mask.specs.LogicLaws.{dec, clash, refute, both, cond-cases, and-l, and-r, and-i, and-true-l, and-false-l, or-l, or-r, or-e, or-false-l, not-e, not-i, not-or, not-not}
 use Rattle.mask.specs.Bits.{hasBit, lowestOf, restOf}
-use Rattle.mask.specs.BitsLaws.{parity, has-even, has-odd, has-suc, has-none, lowest-set, lowest-lt, lowest-least, has-rest, has-and, rest-lt}
+use Rattle.mask.specs.BitsLaws.{parity, has-even, has-odd, has-suc, has-none, lowest-set, lowest-lt, lowest-least, has-rest, rest-lt}
 use Rattle.mask.specs.Bounded.{count, everyIn, someIn}
 use Rattle.mask.specs.BoundedLaws.{someIn-of, someIn-at, everyIn-some, count-cong, count-remove, count-none, count-zero, count-front}
 
@@ -72,24 +70,6 @@ everyIn-step w m p h k =
       not-or (not (p (lowestOf w m))) (someIn w (restOf m) (λ i. not (p i))),
       not-not (p (lowestOf w m)),
     )
-
--- two masks have a state in common exactly if their common mask is not empty
-pub and-some : (w a b : ℕ) → a < 2 ^ w → B.not (eqb (bitAnd a b) 0) ≡ someIn w a (hasBit b)
-and-some w a b h = both _ _ fwd bwd
-  where
-    fwd : B.not (eqb (bitAnd a b) 0) ≡ true → someIn w a (hasBit b) ≡ true
-    fwd e =
-        let d : bitAnd a b ≡ 0 → ⊥ = eqb-false (bitAnd a b) 0 (not-true _ e) in
-        let p : 0 < bitAnd a b = omega arith in
-        let k : bitAnd a b < 2 ^ w = omega (arith, and-le-l a b) in
-        let l = lowestOf w (bitAnd a b) in
-        let q : and (hasBit a l) (hasBit b l) ≡ true = sym (has-and l a b) ∙ lowest-set w (bitAnd a b) p k in
-        someIn-of w a (hasBit b) l (lowest-lt w (bitAnd a b) p k) (and-l _ _ q) (and-r _ _ q)
-
-    bwd : someIn w a (hasBit b) ≡ true → B.not (eqb (bitAnd a b) 0) ≡ true
-    bwd e =
-        let r = someIn-at w a (hasBit b) e in
-        ap B.not (ne-eqb (bitAnd a b) 0 (λ z. clash (has-none (r .0)) (ap (λ (x : ℕ). hasBit x (r .0)) (sym z) ∙ has-and (r .0) a b ∙ and-i (r .2) (r .3))))
 
 -- one turn of a walk, as a loop's proof wants it
 module _ (w m : ℕ) (p : ℕ → Bool) (i : ℕ) (h : 0 < m) (k : m < 2 ^ w) (low : i ≡ lowestOf w m) where

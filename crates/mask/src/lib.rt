@@ -2,7 +2,7 @@
 ghost use mathlib.Core.Path.{_≡_};
 ghost use Prim.Native.Nat.{min};
 ghost use Rattle.mask.specs.Bits.{hasBit, lowestOf, restOf, withBit, fullMask};
-ghost use Rattle.mask.specs.Bounded.{count, someIn};
+ghost use Rattle.mask.specs.Bounded.{count};
 
 // Whether state i is in the mask.
 pub fn has(m: u64, i: usize) -> bool
@@ -41,13 +41,6 @@ pub fn with(m: u64, i: usize) -> u64
     ensures { λ r. ⌜ r ≡ withBit m i ⌝ }
 {
     if i < 64 { m | (1u64 << i) } else { m }
-}
-
-// Whether two masks have a state in common.
-pub fn meets(x: u64, y: u64) -> bool
-    ensures { λ r. ⌜ r ≡ someIn 64 x (hasBit y) ⌝ }
-{
-    x & y != 0
 }
 
 // How many states the mask has.

@@ -1,4 +1,4 @@
--- Decimal digits in ASCII.
+-- Text: the decimal digits of a number, in ASCII. (Bytes put at a place of a buffer are the library's `sets`.)
 use mathlib.Core.Bool.{cond}
 use mathlib.Core.List.{List, [], _∷_, _++_}
 use Prim.Native.Nat.{ℕ, zero, suc, _+_, _*_, _-_, _/_, _%_}

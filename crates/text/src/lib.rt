@@ -1,4 +1,4 @@
-// Decimal digits, and bytes put at a place of a lent buffer.
+// Text: the decimal digits of a number, and bytes put at a place of a lent buffer.
 ghost use mathlib.Core.Path.{_≡_};
 ghost use lib.Seq.{sets};
 ghost use Rattle.text.specs.Answers.{digitsFor};

@@ -1,15 +1,13 @@
-use Prim.Native.Nat.{ℕ, _*_, _%_, _-_, _^_, _<_, _≤_, min}
+-- One shifted by a width below 64 is that power of two; from 64 on the width that counts is 64.
+use Prim.Native.Nat.{ℕ, _-_, _<_, _≤_, min}
 use mathlib.Core.Path.{_≡_, sym, ap, _∙_}
 use native.Mathlib.Omega.{arith}
-use native.Mathlib.Nat.{one-mul}
-use lib.Pow.{shl-exact, pow-pos}
+use lib.Pow.{pow-pos}
 use borrow.Author.Needs.{needs}
 use Rattle.mask.specs.Bits.{fullMask}
+use Rattle.mask.specs.BitsLaws.{one-shl}
 use Rattle.mask.proofs.full.Statement.{statement}
 use Rattle.mask.proofs.full.Tie as tie
-
-one-shl : (n : ℕ) → n < 64 → 1 * 2 ^ n % 2 ^ 64 ≡ 2 ^ n
-one-shl n h = shl-exact {a = 1} 1 n 64 (omega arith) (omega arith) ∙ one-mul (2 ^ n)
 
 low : (n : ℕ) → n < 64 → min n 64 ≡ n
 low n h = omega arith

@@ -1,3 +1,4 @@
+-- The last bit of the shifted mask is the state; a number of 64 bits has no state from 64 on.
 use Prim.Native.Nat.{ℕ, _/_, _^_}
 use native.Mathlib.Omega.{arith}
 use lib.Bits.{and-mask}

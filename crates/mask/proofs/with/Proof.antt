@@ -1,17 +1,13 @@
-use Prim.Native.Nat.{ℕ, _*_, _%_, _^_, _<_}
-use mathlib.Core.Path.{_≡_, ap, _∙_}
+-- One shifted by a state below 64 is the mask of that state.
+use mathlib.Core.Path.{ap}
 use native.Mathlib.Omega.{arith}
-use native.Mathlib.Nat.{one-mul}
 use lib.Bits.{bitOr}
-use lib.Pow.{shl-exact}
 use borrow.Author.Needs.{needs}
 use borrow.Author.Tests.{lt-ltb, le-ltb}
 use Rattle.mask.specs.Bits.{withBit}
+use Rattle.mask.specs.BitsLaws.{one-shl}
 use Rattle.mask.proofs.with.Statement.{statement}
 use Rattle.mask.proofs.with.Tie as tie
-
-one-shl : (n : ℕ) → n < 64 → 1 * 2 ^ n % 2 ^ 64 ≡ 2 ^ n
-one-shl n h = shl-exact {a = 1} 1 n 64 (omega arith) (omega arith) ∙ one-mul (2 ^ n)
 
 shl-result : tie.Need-shl-result
 shl-result c = search needs
