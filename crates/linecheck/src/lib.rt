@@ -122,6 +122,7 @@ fn lines_validity(p: Pair, matched: [u64; 64], table: &[u16]) -> Validity
                 let at = machine::entry_index(nc, na, j, c, a);
                 let e = table[at];
                 if e != machine::BLANK {
+                    // the spot of this entry, its section counted from 1
                     let spot = machine::refuse(machine::FAILING_ENTRY, j + 1, c, a);
                     let line = line_of(
                         m,

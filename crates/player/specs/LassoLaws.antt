@@ -13,7 +13,7 @@ use Rattle.mask.specs.LogicLaws.{cond-cases, or-l, or-r, or-false-l, not-i, not
 use Rattle.mask.specs.Bits.{hasBit}
 use Rattle.mask.specs.BitsLaws.{has-none}
 use Rattle.mask.specs.Bounded.{first}
-use Rattle.mask.specs.BoundedLaws.{some-of, some-none, first-is, first-none}
+use Rattle.mask.specs.BoundedLaws.{some-of, some-none, first-cong}
 use Rattle.machine.specs.declared.Machine.{Machine}
 use Rattle.machine.specs.Refusals.{valid, refused, refusal, bad-lasso-length, bad-lasso-step, unfair-lasso}
 use Rattle.machine.specs.Machines.{successors, moves, starts, fairSet, inFairSet}
@@ -106,7 +106,7 @@ module _ (m : Machine) (l : Lasso) (i : ℕ) where
           sym (rest (rw (← at) h) b ∙ and-true-l _ (eq-eqb _ _ e) ∙ ap not c ∙ not-is r)
 
 -- ---- 15
-pub missed-is : (m : Machine) (l : Lasso) (k : ℕ) → missedSet m l k ≡ noneIn (getD (m .fairness) k 0) (l .loop)
+missed-is : (m : Machine) (l : Lasso) (k : ℕ) → missedSet m l k ≡ noneIn (getD (m .fairness) k 0) (l .loop)
 unfolding missedSet noneIn inFairSet fairSet
 missed-is m l k = refl
 
@@ -124,21 +124,20 @@ module _ (m : Machine) (l : Lasso) where
   unfolding lassoValidity
   refused-length e = rw e
 
-  module _ (fit : badLength l ≡ false) where
-    pub refused-step : (i : ℕ) → i < lassoLength l → badStep m l i ≡ true → ((k : ℕ) → k < i → badStep m l k ≡ false)
-        → lassoValidity m l ≡ refused (refusal bad-lasso-step i 0 0)
+  -- i is the first wrong position, and k the first missed set
+  module _ (fit : badLength l ≡ false) (i : ℕ) (position : i ≡ first (lassoLength l) (badStep m l)) where
+    pub refused-step : i < lassoLength l → lassoValidity m l ≡ refused (refusal bad-lasso-step i 0 0)
     unfolding lassoValidity
-    refused-step i h e b = rw (fit, first-is (lassoLength l) (badStep m l) i h e b, lt-ltb i (lassoLength l) h)
+    refused-step h = rw (fit, ← position, lt-ltb i (lassoLength l) h)
 
-    module _ (stepped : (i : ℕ) → i < lassoLength l → badStep m l i ≡ false) where
-      steps-done : ltb (first (lassoLength l) (badStep m l)) (lassoLength l) ≡ false
-      steps-done = le-ltb (first (lassoLength l) (badStep m l)) (lassoLength l) (omega (arith, first-none (lassoLength l) (badStep m l) stepped))
+    module _ (past : lassoLength l ≤ i) (k : ℕ) (set : k ≡ first (m .sets) (λ k. noneIn (getD (m .fairness) k 0) (l .loop))) where
+      set-is : k ≡ first (m .sets) (missedSet m l)
+      set-is = set ∙ first-cong (m .sets) _ _ (λ k h. sym (missed-is m l k))
 
-      pub refused-set : (k : ℕ) → k < m .sets → missedSet m l k ≡ true → ((i : ℕ) → i < k → missedSet m l i ≡ false)
-          → lassoValidity m l ≡ refused (refusal unfair-lasso (suc k) 0 0)
+      pub refused-set : k < m .sets → lassoValidity m l ≡ refused (refusal unfair-lasso (suc k) 0 0)
       unfolding lassoValidity
-      refused-set k h e b = rw (fit, steps-done, first-is (m .sets) (missedSet m l) k h e b, lt-ltb k (m .sets) h)
+      refused-set h = rw (fit, ← position, le-ltb i (lassoLength l) past, ← set-is, lt-ltb k (m .sets) h)
 
-      pub not-refused : ((k : ℕ) → k < m .sets → missedSet m l k ≡ false) → lassoValidity m l ≡ valid
+      pub not-refused : m .sets ≤ k → lassoValidity m l ≡ valid
       unfolding lassoValidity
-      not-refused b = rw (fit, steps-done, first-none (m .sets) (missedSet m l) b, le-ltb (m .sets) (m .sets) (omega arith))
+      not-refused h = rw (fit, ← position, le-ltb i (lassoLength l) past, ← set-is, le-ltb k (m .sets) h)

@@ -4,8 +4,9 @@ ghost use mathlib.Core.Bool.{true, cond};
 ghost use mathlib.Core.Path.{_≡_};
 ghost use Prim.Native.Nat.{ℕ, _+_, _*_, _<_, _≤_};
 ghost use lib.Dec.{eqb};
-ghost use lib.ListN.{length};
+ghost use lib.ListN.{length, getD};
 ghost use Rattle.mask.specs.Bits.{hasBit};
+ghost use Rattle.mask.specs.Bounded.{first};
 ghost use Rattle.machine.specs.Machines.{moves, next, nC, nA, setsA};
 ghost use Rattle.machine.specs.Refusals.{testedOf};
 ghost use Rattle.machine.specs.Lassos.{moment};
@@ -228,6 +229,35 @@ fn bad_length(stem: &[u8], cycle: &[u8]) -> bool
     64 < stem.len() + cycle.len()
 }
 
+// The first position at which refusal 14 holds, the count of positions where there is none.
+fn first_bad_step(m: Machine, stem: &[u8], cycle: &[u8]) -> usize
+    requires { ⌜ (0 < length (now cycle)) × (length (now stem) + length (now cycle) ≤ 64) ⌝ }
+    ensures { λ r. ⌜ r ≡ first (length (now (stem .entry)) + length (now (cycle .entry))) (badStep m (given (now (stem .entry)) (now (cycle .entry)))) ⌝ }
+{
+    let whole = stem.len() + cycle.len();
+    for i in 0..whole {
+        if bad_step(m, stem, cycle, i) {
+            return i;
+        }
+    }
+    whole
+}
+
+// The first set without a state of the loop, the count of sets where there is none.
+fn first_missed_set(m: Machine, cycle: &[u8]) -> usize
+    requires { ⌜ m .sets ≤ 8 ⌝ }
+    ensures { λ r. ⌜ r ≡ first (m .sets) (λ k. noneIn (getD (m .fairness) k 0) (now (cycle .entry))) ⌝ }
+{
+    let sets = m.sets;
+    let fairness = m.fairness;
+    for k in 0..sets {
+        if misses(fairness[k], cycle) {
+            return k;
+        }
+    }
+    sets
+}
+
 // Refusals 13 to 15.
 fn lasso_validity(m: Machine, stem: &[u8], cycle: &[u8]) -> Validity
     requires { ⌜ m .sets ≤ 8 ⌝ }
@@ -236,17 +266,13 @@ fn lasso_validity(m: Machine, stem: &[u8], cycle: &[u8]) -> Validity
     if bad_length(stem, cycle) {
         return Validity::Refused(machine::refuse(machine::BAD_LASSO_LENGTH, 0, 0, 0));
     }
-    let whole = stem.len() + cycle.len();
-    for i in 0..whole {
-        if bad_step(m, stem, cycle, i) {
-            return Validity::Refused(machine::refuse(machine::BAD_LASSO_STEP, i, 0, 0));
-        }
+    let i = first_bad_step(m, stem, cycle);
+    if i < stem.len() + cycle.len() {
+        return Validity::Refused(machine::refuse(machine::BAD_LASSO_STEP, i, 0, 0));
     }
-    let fairness = m.fairness;
-    for k in 0..m.sets {
-        if misses(fairness[k], cycle) {
-            return Validity::Refused(machine::refuse(machine::UNFAIR_LASSO, k + 1, 0, 0));
-        }
+    let k = first_missed_set(m, cycle);
+    if k < m.sets {
+        return Validity::Refused(machine::refuse(machine::UNFAIR_LASSO, k + 1, 0, 0));
     }
     Validity::Valid
 }
