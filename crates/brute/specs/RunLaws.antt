@@ -13,12 +13,11 @@ use Rattle.mask.specs.Bounded.{first}
 use Rattle.mask.specs.BoundedLaws.{every-at, every-of}
 use Rattle.mask.specs.Logic.{and, not}
 use Rattle.mask.specs.LogicLaws.{and-false-l, and-false-r, and-i, and-l, and-r, and-true-l, not-f, not-i, or-false, or-false-l, or-l, or-r, refute}
-use Rattle.machine.specs.Lassos.{Lasso, fromStart, isFair, isLasso, isPlay, lassoLength, moment}
+use Rattle.machine.specs.Lassos.{Lasso, fromStart, isFair, isLasso, isPlay, lassoLength, moment, given}
 use Rattle.machine.specs.Machines.{moves, starts}
 use Rattle.machine.specs.Player.{badLength, badStep, lassoValidity, missedSet}
 use Rattle.machine.specs.Refusals.{bad-lasso-length, bad-lasso-step, refusal, refused, unfair-lasso, valid}
 use Rattle.machine.specs.declared.Machine.{Machine}
-use Rattle.brute.specs.Runs.{given}
 
 -- ---- moments
 module _ (stem cycle : List ℕ) where

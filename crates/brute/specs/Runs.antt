@@ -10,10 +10,6 @@ use Rattle.brute.specs.declared.runs.Spot.{Spot}
 use Rattle.brute.specs.declared.runs.Played.{Played}
 use Rattle.brute.specs.declared.runs.Played.the-variants.{Run, Refused}
 
--- the lasso that is given as two slices
-abbrev pub given : List ℕ → List ℕ → Lasso
-given stem cycle = record { stem = stem; loop = cycle }
-
 -- the player's place, as the plain reading holds it
 abbrev pub asPlace : Spot → Place
 asPlace at = record { state = at .state; section = at .section }

@@ -13,11 +13,11 @@ use Rattle.machine.specs.declared.Pair.{Pair}
 use Rattle.machine.specs.declared.Refusal.{Refusal}
 use Rattle.machine.specs.WellFormed.{wellFormed}
 use Rattle.machine.specs.Machines.{observation, sameObservation}
-use Rattle.machine.specs.Lassos.{Lasso, moment, isPlay}
+use Rattle.machine.specs.Lassos.{Lasso, moment, isPlay, given}
 use Rattle.machine.specs.Player.{Played, placeAt, playerAnswer, playerBuffer}
 use Rattle.machine.specs.Refusals.{Result}
 use Rattle.brute.specs.Numbers.{statesOf}
-use Rattle.brute.specs.Runs.{given, playedPlain}
+use Rattle.brute.specs.Runs.{playedPlain}
 use Rattle.comparison.specs.declared.tally.Tally.{Tally}
 use Rattle.comparison.specs.Answers.{playedFour, sameFour}
 use Rattle.comparison.specs.Tallies.{total, ofLasso}

@@ -15,6 +15,10 @@ pub record Lasso : Type 0 where
   pub stem : List ℕ
   pub loop : List ℕ
 
+-- the lasso that is given as two lists
+abbrev pub given : List ℕ → List ℕ → Lasso
+given stem loop = record { stem = stem; loop = loop }
+
 -- how many states stem and loop have together
 abbrev pub lassoLength : Lasso → ℕ
 lassoLength l = length (l .stem) + length (l .loop)

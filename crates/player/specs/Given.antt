@@ -8,10 +8,6 @@ use Rattle.mask.specs.Bits.{hasBit}
 use Rattle.mask.specs.Bounded.{some}
 use Rattle.machine.specs.Lassos.{Lasso}
 
--- a lasso, as two slices
-abbrev pub given : List ℕ → List ℕ → Lasso
-given stem cycle = record { stem = stem; loop = cycle }
-
 -- no state of the loop is in the mask
 unfoldable pub noneIn : ℕ → List ℕ → Bool
 noneIn members cycle = not (some (length cycle) (λ i. hasBit members (getD cycle i 0)))

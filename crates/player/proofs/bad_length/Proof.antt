@@ -2,8 +2,7 @@
 use mathlib.Core.Path.{sym}
 use native.Mathlib.Omega.{arith}
 use borrow.Author.Needs.{needs}
-use Rattle.machine.specs.Lassos.{Lasso}
-use Rattle.player.specs.Given.{given}
+use Rattle.machine.specs.Lassos.{Lasso, given}
 use Rattle.player.specs.LassoLaws.{empty-loop, over-long, whole-length}
 use Rattle.player.proofs.bad_length.Statement.{statement}
 use Rattle.player.proofs.bad_length.Tie as tie

@@ -2,7 +2,7 @@
 use mathlib.Core.Logic.{⊎-elim}
 use native.Mathlib.Omega.{arith}
 use borrow.Author.Needs.{needs}
-use Rattle.player.specs.Given.{given}
+use Rattle.machine.specs.Lassos.{given}
 use Rattle.player.specs.LassoLaws.{Entered, bad-state, bad-start, good-start, bad-entry, good-entry, good-before, closing}
 use Rattle.player.proofs.bad_step.Statement.{statement}
 use Rattle.player.proofs.bad_step.Tie as tie

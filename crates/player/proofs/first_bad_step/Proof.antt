@@ -5,9 +5,9 @@ use Prim.Native.Nat.{ℕ, _-_, _≤_, _<_}
 use native.Mathlib.Omega.{arith}
 use borrow.Author.Count.{below-none, below-more}
 use borrow.Author.Needs.{needs}
+use Rattle.machine.specs.Lassos.{given}
 use Rattle.mask.specs.BoundedLaws.{first-is, first-none}
 use Rattle.machine.specs.Player.{badStep}
-use Rattle.player.specs.Given.{given}
 use Rattle.player.proofs.first_bad_step.Statement.{statement}
 use Rattle.player.proofs.first_bad_step.Tie as tie
 

@@ -7,10 +7,9 @@ use native.Mathlib.Omega.{arith}
 use lib.ListN.{length}
 use borrow.Author.Needs.{needs}
 use Rattle.machine.specs.Refusals.{refused, testedOf, refusal, unfair-lasso}
-use Rattle.machine.specs.Lassos.{Lasso, lassoLength}
+use Rattle.machine.specs.Lassos.{Lasso, lassoLength, given}
 use Rattle.machine.specs.Player.{badLength}
 use Rattle.soundness.specs.PlayerLaws.{good-length}
-use Rattle.player.specs.Given.{given}
 use Rattle.player.specs.LassoLaws.{refused-length, refused-step, refused-set, not-refused}
 use Rattle.player.proofs.lasso_validity.Statement.{statement}
 use Rattle.player.proofs.lasso_validity.Tie as tie

@@ -11,7 +11,7 @@ use Rattle.machine.specs.Refusals.{valid, answer, refused}
 use Rattle.machine.specs.RefusalsLaws.{tested-valid, tested-refused}
 use Rattle.machine.specs.Machines.{starts}
 use Rattle.machine.specs.WellFormedLaws.{WellPair, well-valid}
-use Rattle.machine.specs.Lassos.{Lasso, moment}
+use Rattle.machine.specs.Lassos.{Lasso, moment, given}
 use Rattle.machine.specs.Step.{partner, stateOf}
 use Rattle.machine.specs.Table.{entry}
 use Rattle.machine.specs.Lines.{nonBlank}
@@ -23,7 +23,6 @@ use Rattle.linecheck.specs.Answers.{verdictOf}
 use Rattle.linecheck.proofs.Checked as said
 use Rattle.soundness.specs.PlayerLaws.{GoodLasso, good-lasso, Playable, playable}
 use Rattle.player.specs.Answers.{playedOf}
-use Rattle.player.specs.Given.{given}
 use Rattle.player.specs.AnswerLaws.{Passes, check-passes, stopped-by, short-run, check-stops, lasso-stops, start-stops, play-valid, run-answer, run-buffer}
 use Rattle.player.proofs.play.Statement.{statement}
 use Rattle.player.proofs.play.Tie as tie

@@ -4,8 +4,8 @@ use Prim.Native.Nat.{_-_}
 use native.Mathlib.Omega.{arith}
 use lib.ListN.{length}
 use borrow.Author.Needs.{needs}
+use Rattle.machine.specs.Lassos.{given}
 use Rattle.soundness.specs.PlayLaws.{moment-stem}
-use Rattle.player.specs.Given.{given}
 use Rattle.player.specs.LassoLaws.{moment-cycle}
 use Rattle.player.proofs.state_at.Statement.{statement}
 use Rattle.player.proofs.state_at.Tie as tie

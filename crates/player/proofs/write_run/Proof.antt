@@ -6,11 +6,10 @@ use Prim.Native.Nat.{ℕ, _+_, _-_, _*_, _≤_, _<_}
 use native.Mathlib.Omega.{arith}
 use lib.ListN.{length, getD, set, replicate, length-replicate, getD-replicate}
 use borrow.Author.Needs.{needs}
-use Rattle.machine.specs.Lassos.{Lasso}
+use Rattle.machine.specs.Lassos.{Lasso, given}
 use Rattle.machine.specs.Player.{lastRound, earlierRound, runRoom}
 use Rattle.soundness.specs.PlayerLaws.{Playable}
 use Rattle.player.specs.declared.Place.{Place}
-use Rattle.player.specs.Given.{given}
 use Rattle.player.specs.Places.{numberOf, Playing, NotEnded}
 use Rattle.player.specs.PlaceLaws.{state-lt}
 use Rattle.player.specs.MarkLaws.{number-low}

@@ -5,10 +5,9 @@ use Prim.Native.Nat.{_+_, _<_}
 use native.Mathlib.Omega.{arith}
 use borrow.Author.Needs.{needs}
 use Rattle.mask.specs.LogicLaws.{not-is}
-use Rattle.machine.specs.Lassos.{moment}
+use Rattle.machine.specs.Lassos.{moment, given}
 use Rattle.machine.specs.Machines.{moves, starts}
 use Rattle.brute.specs.RunLaws.{Entered, bad-large, bad-last, bad-move, bad-none, bad-start}
-use Rattle.brute.specs.Runs.{given}
 use borrow.Author.Tests.{not-true, not-false}
 use Rattle.brute.proofs.lassos.bad_step.Statement.{statement}
 use Rattle.brute.proofs.lassos.bad_step.Tie as tie

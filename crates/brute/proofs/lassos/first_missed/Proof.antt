@@ -6,10 +6,10 @@ use Prim.Native.Nat.{_-_, _<_, _≤_, ℕ}
 use native.Mathlib.Omega.{arith}
 use borrow.Author.Count.{below-more, below-none}
 use borrow.Author.Needs.{needs}
+use Rattle.machine.specs.Lassos.{given}
 use Rattle.mask.specs.BoundedLaws.{first-is, first-none}
 use Rattle.mask.specs.LogicLaws.{not-f, not-i}
 use Rattle.machine.specs.Player.{missedSet}
-use Rattle.brute.specs.Runs.{given}
 use borrow.Author.Tests.{not-true, not-false}
 use Rattle.brute.proofs.lassos.first_missed.Statement.{statement}
 use Rattle.brute.proofs.lassos.first_missed.Tie as tie

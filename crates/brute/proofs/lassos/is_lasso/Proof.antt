@@ -6,10 +6,9 @@ use native.Mathlib.Omega.{arith}
 use borrow.Author.Count.{below-more, below-none}
 use borrow.Author.Needs.{needs}
 use Rattle.mask.specs.LogicLaws.{clash}
-use Rattle.machine.specs.Lassos.{moment}
+use Rattle.machine.specs.Lassos.{moment, given}
 use Rattle.machine.specs.Machines.{moves}
 use Rattle.brute.specs.RunLaws.{Goes, lasso-all, lasso-empty, lasso-not}
-use Rattle.brute.specs.Runs.{given}
 use borrow.Author.Tests.{not-true, not-false}
 use Rattle.brute.proofs.lassos.is_lasso.Statement.{statement}
 use Rattle.brute.proofs.lassos.is_lasso.Tie as tie

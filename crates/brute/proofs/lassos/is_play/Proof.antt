@@ -2,10 +2,9 @@
 use mathlib.Core.Bool.{true}
 use mathlib.Core.Path.{_∙_, _≡_, ap, sym}
 use borrow.Author.Needs.{needs}
-use Rattle.machine.specs.Lassos.{isFair, isLasso}
+use Rattle.machine.specs.Lassos.{isFair, isLasso, given}
 use Rattle.machine.specs.Machines.{starts}
 use Rattle.brute.specs.RunLaws.{fair-loop, play-start, play-stuck, play-unfair}
-use Rattle.brute.specs.Runs.{given}
 use borrow.Author.Tests.{not-true, not-false}
 use Rattle.brute.proofs.lassos.is_play.Statement.{statement}
 use Rattle.brute.proofs.lassos.is_play.Tie as tie

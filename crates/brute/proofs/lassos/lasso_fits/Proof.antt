@@ -1,11 +1,11 @@
 -- The tests are made in the order of the definition, and each return is the first that fails.
 use mathlib.Core.Path.{_∙_, _≡_, ap, sym}
 use borrow.Author.Needs.{needs}
+use Rattle.machine.specs.Lassos.{given}
 use Rattle.mask.specs.Bounded.{first}
 use Rattle.machine.specs.Player.{missedSet}
 use Rattle.machine.specs.Refusals.{refused, testedOf}
 use Rattle.brute.specs.RunLaws.{fits-all, fits-empty, fits-long, fits-set, fits-step, missed-loop}
-use Rattle.brute.specs.Runs.{given}
 use Rattle.brute.proofs.lassos.lasso_fits.Statement.{statement}
 use Rattle.brute.proofs.lassos.lasso_fits.Tie as tie
 

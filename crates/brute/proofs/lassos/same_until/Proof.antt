@@ -7,10 +7,9 @@ use native.Mathlib.Omega.{arith}
 use borrow.Author.Count.{below-more, below-none}
 use borrow.Author.Needs.{needs}
 use Rattle.mask.specs.BoundedLaws.{every-not, every-of}
-use Rattle.machine.specs.Lassos.{moment}
+use Rattle.machine.specs.Lassos.{moment, given}
 use Rattle.machine.specs.Machines.{observation, sameObservation}
 use Rattle.machine.specs.declared.Machine.{Machine}
-use Rattle.brute.specs.Runs.{given}
 use borrow.Author.Tests.{not-true, not-false}
 use Rattle.brute.proofs.lassos.same_until.Statement.{statement}
 use Rattle.brute.proofs.lassos.same_until.Tie as tie

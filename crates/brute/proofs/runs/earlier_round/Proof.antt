@@ -5,9 +5,9 @@ use Prim.Native.Nat.{_-_, _<_, _≤_, ℕ}
 use native.Mathlib.Omega.{arith}
 use borrow.Author.Count.{below-more, below-none}
 use borrow.Author.Needs.{needs}
+use Rattle.machine.specs.Lassos.{given}
 use Rattle.mask.specs.BoundedLaws.{first-is, first-none}
 use Rattle.machine.specs.Player.{samePlace}
-use Rattle.brute.specs.Runs.{given}
 use Rattle.brute.proofs.runs.earlier_round.Statement.{statement}
 use Rattle.brute.proofs.runs.earlier_round.Tie as tie
 

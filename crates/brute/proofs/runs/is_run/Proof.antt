@@ -9,6 +9,7 @@ use lib.ListN.{getD}
 use borrow.Author.Count.{below-more, below-none}
 use borrow.Author.Needs.{needs}
 use borrow.Author.Tests.{eq-eqb, ne-eqb}
+use Rattle.machine.specs.Lassos.{given}
 use Rattle.mask.specs.BoundedLaws.{every-not, every-of}
 use Rattle.mask.specs.LogicLaws.{and-false-l, and-false-r, and-i}
 use Rattle.machine.specs.Player.{Place, placeAt}
@@ -16,7 +17,6 @@ use Rattle.machine.specs.RefusalsLaws.{tested-refused, tested-valid}
 use Rattle.machine.specs.WellFormed.{isValid, wellFormed}
 use Rattle.machine.specs.WellFormedLaws.{valid-is-well}
 use Rattle.machine.specs.declared.Pair.{Pair}
-use Rattle.brute.specs.Runs.{given}
 use Rattle.brute.proofs.runs.is_run.Statement.{statement}
 use Rattle.brute.proofs.runs.is_run.Tie as tie
 

@@ -4,9 +4,10 @@ use Prim.Native.Nat.{_-_, _≤_}
 use native.Mathlib.Numerals.{add-one}
 use native.Mathlib.Omega.{arith}
 use borrow.Author.Needs.{needs}
+use Rattle.machine.specs.Lassos.{given}
 use Rattle.machine.specs.Player.{placeAt, startPartner}
 use Rattle.machine.specs.WellFormedLaws.{WellPair, well-pair}
-use Rattle.brute.specs.Runs.{given, asPlace}
+use Rattle.brute.specs.Runs.{asPlace}
 use Rattle.brute.specs.ScanLaws.{Placed, place-next, place-start, placed}
 use Rattle.brute.proofs.runs.place_at.Statement.{statement}
 use Rattle.brute.proofs.runs.place_at.Tie as tie

@@ -5,14 +5,14 @@ use native.Mathlib.Omega.{arith}
 use lib.ListN.{length}
 use borrow.Author.Needs.{needs}
 use Rattle.mask.specs.BoundedLaws.{first-le}
-use Rattle.machine.specs.Lassos.{moment}
+use Rattle.machine.specs.Lassos.{moment, given}
 use Rattle.machine.specs.Lines.{linesValidity}
 use Rattle.machine.specs.Player.{lassoValidity, lastRound, startPartner}
 use Rattle.machine.specs.Refusals.{refused, valid}
 use Rattle.machine.specs.RefusalsLaws.{tested-refused, tested-valid}
 use Rattle.machine.specs.WellFormed.{pairValidity}
 use Rattle.machine.specs.WellFormedLaws.{mul-bound, valid-is-well}
-use Rattle.brute.specs.Runs.{given, playedOf}
+use Rattle.brute.specs.Runs.{playedOf}
 use Rattle.brute.specs.ScanLaws.{played-alone, played-fail, played-ill, played-run, played-unfit, valid-length}
 use Rattle.brute.proofs.runs.plain_play.Statement.{statement}
 use Rattle.brute.proofs.runs.plain_play.Tie as tie

@@ -3,8 +3,8 @@ use mathlib.Core.Path.{sym}
 use Prim.Native.Nat.{_*_, _≤_}
 use native.Mathlib.Omega.{arith}
 use lib.ListN.{length}
+use Rattle.machine.specs.Lassos.{given}
 use Rattle.machine.specs.WellFormedLaws.{mul-bound}
-use Rattle.brute.specs.Runs.{given}
 use Rattle.brute.specs.ScanLaws.{place-other, place-same}
 use Rattle.brute.proofs.runs.same_place.Statement.{statement}
 use Rattle.brute.proofs.runs.same_place.Tie as tie

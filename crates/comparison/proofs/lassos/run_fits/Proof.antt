@@ -6,7 +6,7 @@ use native.Mathlib.Omega.{arith}
 use lib.ListN.{length}
 use lib.Seq.{length-take-le}
 use borrow.Author.Tests.{not-true, not-false}
-use Rattle.brute.specs.Runs.{given}
+use Rattle.machine.specs.Lassos.{given}
 use Rattle.comparison.specs.LassosLaws.{ruled, fits-short, fits-other, fits-no-play, fits-play}
 use borrow.Author.Needs.{needs}
 use Rattle.comparison.proofs.lassos.run_fits.Statement.{statement}

@@ -7,12 +7,11 @@ use lib.Dec.{eqb}
 use lib.ListN.{getD}
 use borrow.Author.Needs.{needs}
 use Rattle.machine.specs.Machines.{nC, nA, setsA, moves, successors, next}
-use Rattle.machine.specs.Lassos.{Lasso, moment}
+use Rattle.machine.specs.Lassos.{Lasso, moment, given}
 use Rattle.machine.specs.Step.{partner, stateOf}
 use Rattle.machine.specs.Table.{tableRoom, entryIndex, entry}
 use Rattle.machine.specs.Lines.{nonBlank}
 use Rattle.player.specs.declared.Place.{Place}
-use Rattle.player.specs.Given.{given}
 use Rattle.player.specs.Places.{onward, Placed}
 use Rattle.player.specs.RowLaws.{index-is, index-lt}
 use Rattle.player.specs.PlaceLaws.{onward-placed, beside-lt, state-lt, section-lt, after-lt, steps-on}
