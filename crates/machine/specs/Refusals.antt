@@ -41,6 +41,7 @@ unfoldable pub bufferAfter : {A : Type 0} → Result A → List ℕ → List ℕ
 bufferAfter (answer a) made buffer = made ++ drop (length made) buffer
 bufferAfter (refused r) made buffer = buffer
 
+-- ---- the numbers
 abbrev pub short-buffer : ℕ
 short-buffer = 1
 
@@ -89,6 +90,7 @@ unfair-lasso = 15
 abbrev pub no-start-partner : ℕ
 no-start-partner = 16
 
+-- ---- refusals
 -- a refusal with its spot; "0 where unused"
 abbrev pub refusal : ℕ → ℕ → ℕ → ℕ → Refusal
 refusal number p q r = record { number = number; first = p; second = q; third = r }

@@ -204,7 +204,7 @@ fn beyond_counts(m: Machine) -> bool
 }
 
 // Refusals 9, 10 and 11 of one machine, which is number `index` of a pair.
-pub fn content_validity(index: usize, m: Machine) -> Validity
+fn content_validity(index: usize, m: Machine) -> Validity
     ensures { λ r. ⌜ testedOf r ≡ contentValidity index m ⌝ }
 {
     if beyond_counts(m) {
@@ -260,7 +260,7 @@ pub fn same_observation(x: u8, y: u8) -> bool
 }
 
 // The mask of the states below n, and below 64, whose observation is o.
-pub fn same_mask(o: u8, n: usize, observations: &[u8; 64]) -> u64
+fn same_mask(o: u8, n: usize, observations: &[u8; 64]) -> u64
     ensures { λ r. ⌜ r ≡ sameMask o n (now (observations .entry)) ⌝ }
 {
     let end = if n < 64 { n } else { 64 };
