@@ -2,7 +2,7 @@
 use mathlib.Core.Bool.{false, true}
 use mathlib.Core.List.{List, []}
 use mathlib.Core.Path.{_∙_, _≡_, refl}
-use Prim.Native.Nat.{_-_, _<_, _≤_, ℕ}
+use Prim.Native.Nat.{_<_, _≤_, ℕ}
 use native.Mathlib.Omega.{arith}
 use lib.ListN.{List·getD-eq-default, length}
 use borrow.Author.Tests.{le-ltb}
