@@ -5,7 +5,6 @@ pub mod Runs
 pub mod Lifting
 pub mod Ranking
 -- laws
-pub mod FillLaws
 pub mod NumbersLaws
 pub mod MachineLaws
 pub mod TargetLaws

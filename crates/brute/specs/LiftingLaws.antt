@@ -1,17 +1,17 @@
 -- Laws of lifting: one turn at a time, and that entries past n × P are neither looked at nor changed.
 use mathlib.Core.Bool.{Bool, cond, false, true}
 use mathlib.Core.List.{List, _++_}
-use mathlib.Core.Logic.{by-cases}
 use mathlib.Core.Path.{_∙_, _≡_, ap, refl, sym}
-use Prim.Native.Nat.{_%_, _*_, _+_, _-_, _/_, _<_, _≤_, suc, zero, ℕ}
-use native.Mathlib.Decide.{decLt}
+use Prim.Native.Nat.{_%_, _*_, _+_, _/_, _<_, _≤_, suc, zero, ℕ}
 use native.Mathlib.Nat.{div-lt-iff-lt-mul, mod-lt}
 use native.Mathlib.Numerals.{add-one}
 use native.Mathlib.Omega.{arith}
-use lib.ListN.{List·getD-append, drop, getD, length, length-append, length-drop, length-replicate, length-set, replicate, set}
-use lib.Seq.{ext-getD, getD-append-add, getD-drop, set-append-left}
+use lib.ListN.{List·getD-append, drop, getD, getD-replicate, length, length-replicate, length-set, replicate, set}
+use lib.Seq.{set-append-left}
 use borrow.Author.Tests.{le-ltb, lt-ltb}
 use Rattle.mask.specs.LogicLaws.{cond-cases, refute}
+use Rattle.mask.specs.Tables.{front}
+use Rattle.mask.specs.TablesLaws.{fill-done}
 use Rattle.machine.specs.EntriesLaws.{each-same, front-same, passes-same}
 use Rattle.machine.specs.Lines.{linesValidity, passes, passesEach}
 use Rattle.machine.specs.LinesLaws.{lines-valid, valid-passes}
@@ -23,7 +23,6 @@ use Rattle.machine.specs.WellFormed.{pairValidity}
 use Rattle.machine.specs.WellFormedLaws.{WellPair, entries-small, mul-bound, ranks-small, some-pairs, well-valid}
 use Rattle.machine.specs.declared.Pair.{Pair}
 use Rattle.machine.specs.declared.Refusal.{Refusal}
-use Rattle.brute.specs.FillLaws.{Overlaying}
 use Rattle.brute.specs.Lifting.{entryPasses, lifted, liftedAt, liftedEntries, liftedTable, raised, swept}
 
 -- ---- one entry
@@ -138,20 +137,10 @@ module _ (p : Pair) where
         rw (each-same p (A ++ R) A (front-same p A R h), swept-front A h (entries p) (omega arith), lifted-front n (swept p (entries p) A) (rw (swept-length (entries p) A) h))
         (cond-front (passesEach p A) A _ R)
 
--- the first n elements of T exchanged for those of F
-pub overlaid-front : {n : ℕ} {T l : List ℕ} {f : ℕ → ℕ} (F : List ℕ) → length F ≡ n → ((k : ℕ) → k < n → getD F k 0 ≡ f k) → Overlaying T f n l
-    → l ≡ F ++ drop n T
-overlaid-front {n} {T} {l} {f} F e g d = ext-getD 0 l (F ++ drop n T)
-    (omega (arith, d .at-most, d .size, length-append F (drop n T), length-drop n T))
-    (λ k h. by-cases (decLt k n)
-    (λ b. d .done k b ∙ sym (List·getD-append F (drop n T) 0 k (rw e b) ∙ g k b))
-    (λ b. d .kept k (omega arith) ∙ sym (past k (omega arith))))
-  where
-    past : (k : ℕ) → n ≤ k → getD (F ++ drop n T) k 0 ≡ getD T k 0
-    past k h =
-        let i : length F + (k - n) ≡ k = omega arith in
-        let j : n + (k - n) ≡ k = omega arith in
-        ap (λ (x : ℕ). getD (F ++ drop n T) x 0) (sym i) ∙ getD-append-add F (drop n T) (k - n) 0 ∙ getD-drop n T (k - n) 0 ∙ ap (λ (x : ℕ). getD T x 0) j
+-- n zeros at the front of T
+pub zeros-front : (n : ℕ) (T : List ℕ) {l : List ℕ} → l ≡ front n (λ k. 0) T → l ≡ replicate n 0 ++ drop n T
+zeros-front n T e =
+    e ∙ ap (λ (F : List ℕ). F ++ drop n T) (sym (fill-done 0 n (replicate n 0) (λ k. 0) (length-replicate n 0) (λ k h. getD-replicate n k 0 0 h)))
 
 -- ---- the answer, case by case
 module _ (p : Pair) (T : List ℕ) where

@@ -7,13 +7,13 @@ use native.Mathlib.Numerals.{add-one}
 use native.Mathlib.Omega.{arith}
 use lib.Dec.{eqb}
 use lib.ListN.{getD, length, set}
-use borrow.Author.Count.{below-more}
 use borrow.Author.Tests.{eq-eqb, ne-eqb}
 use Rattle.mask.specs.Bits.{fullMask, hasBit}
 use Rattle.mask.specs.BoundedLaws.{every-not, every-of, everyIn-at, everyIn-of}
 use Rattle.mask.specs.Logic.{and}
 use Rattle.mask.specs.LogicLaws.{and-false-l, and-false-r, and-i, and-true-l, clash, not-f, not-i, or-false-l, or-l, or-r, refute}
-use Rattle.mask.specs.TablesLaws.{fill-done}
+use Rattle.mask.specs.Tables.{front}
+use Rattle.mask.specs.FrontLaws.{front-all, front-past, front-skip, front-turn}
 use Rattle.machine.specs.Lines.{goalLine}
 use Rattle.machine.specs.Machines.{inFairSet, matched, nA, pairs, setsA, setsC}
 use Rattle.machine.specs.Refusals.{refused}
@@ -22,7 +22,6 @@ use Rattle.machine.specs.Table.{blank}
 use Rattle.machine.specs.WellFormed.{isValid, pairValidity, wellFormed}
 use Rattle.machine.specs.declared.Pair.{Pair}
 use Rattle.machine.specs.declared.Refusal.{Refusal}
-use Rattle.brute.specs.FillLaws.{Overlaying, overlaying-step}
 use Rattle.brute.specs.Lines.{inTarget}
 use Rattle.brute.specs.Numbers.{numberedTable}
 use Rattle.brute.specs.Ranking.{asTable, closed, keeps, largest, marked, rankOf, ranked, sectionRanked, tableRanked, unranked}
@@ -34,29 +33,24 @@ module _ (x r : ℕ) (R : List ℕ) where
   abbrev pub mark-at : ℕ → ℕ
   mark-at e = cond (and (hasBit x e) (eqb (getD R e 0) blank)) r (getD R e 0)
 
-  module _ {i : ℕ} {l : List ℕ} (d : Overlaying R mark-at i l) (h : i < length R) {v : List ℕ} where
-    pub mark-store : v ≡ set l i r → hasBit x i ≡ true → getD l i 0 ≡ blank → Overlaying R mark-at (i + 1) v
+  module _ {i : ℕ} {l : List ℕ} (d : l ≡ front i mark-at R) (h : i < length R) {v : List ℕ} where
+    pub mark-store : v ≡ set l i r → hasBit x i ≡ true → getD l i 0 ≡ blank → v ≡ front (i + 1) mark-at R
     mark-store z t e =
-        let b : and (hasBit x i) (eqb (getD R i 0) blank) ≡ true = and-i t (eq-eqb _ _ (sym (d .kept i (omega arith)) ∙ e)) in
-        rw z (overlaying-step r d h (rw b))
+        let b : and (hasBit x i) (eqb (getD R i 0) blank) ≡ true = and-i t (eq-eqb _ _ (sym (front-past mark-at R d i (omega arith)) ∙ e)) in
+        z ∙ front-turn mark-at R d h (rw b)
 
-    mark-keep : v ≡ l → and (hasBit x i) (eqb (getD R i 0) blank) ≡ false → Overlaying R mark-at (i + 1) v
-    mark-keep z b = rw z (record {
-      at-most = omega arith;
-      size = d .size;
-      done = below-more (λ k. getD l k 0 ≡ mark-at k) i (d .done) (rw b (d .kept i (omega arith)));
-      kept = λ k q. d .kept k (omega arith);
-    })
+    mark-keep : v ≡ l → and (hasBit x i) (eqb (getD R i 0) blank) ≡ false → v ≡ front (i + 1) mark-at R
+    mark-keep z b = z ∙ front-skip mark-at R d h (rw b)
 
-    pub mark-outside : v ≡ l → hasBit x i ≡ false → Overlaying R mark-at (i + 1) v
+    pub mark-outside : v ≡ l → hasBit x i ≡ false → v ≡ front (i + 1) mark-at R
     mark-outside z t = mark-keep z (and-false-l _ t)
 
-    pub mark-ranked : v ≡ l → (getD l i 0 ≡ blank → ⊥) → Overlaying R mark-at (i + 1) v
-    mark-ranked z n = mark-keep z (and-false-r _ (ne-eqb _ _ (λ e. n (d .kept i (omega arith) ∙ e))))
+    pub mark-ranked : v ≡ l → (getD l i 0 ≡ blank → ⊥) → v ≡ front (i + 1) mark-at R
+    mark-ranked z n = mark-keep z (and-false-r _ (ne-eqb _ _ (λ e. n (front-past mark-at R d i (omega arith) ∙ e))))
 
-  pub mark-done : {i : ℕ} {l : List ℕ} → Overlaying R mark-at i l → length R ≤ i → l ≡ marked x r R
+  pub mark-done : {i : ℕ} {l : List ℕ} → l ≡ front i mark-at R → i ≡ length R → l ≡ marked x r R
   unfolding marked
-  mark-done {i} {l} d h = fill-done 0 (length R) l mark-at (d .size) (λ k q. d .done k (omega arith))
+  mark-done d h = front-all mark-at R d h
 
 module _ (p : Pair) (T : List ℕ) (j : ℕ) where
   -- ---- the rule of X(l, k)

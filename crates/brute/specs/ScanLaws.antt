@@ -10,23 +10,21 @@ use native.Mathlib.Numerals.{add-one}
 use native.Mathlib.Omega.{arith}
 use lib.Dec.{eqb}
 use lib.ListN.{getD, length}
-use borrow.Author.Tests.{eq-eqb, le-ltb, lt-ltb, ltb-false, ne-eqb}
+use borrow.Author.Tests.{eq-eqb, ne-eqb}
 use Rattle.mask.specs.Bounded.{first, some}
 use Rattle.mask.specs.BoundedLaws.{first-before, first-has, first-is, first-none, some-none, some-of}
-use Rattle.mask.specs.LogicLaws.{and-false-l, and-true-l, cond-cases, dec, or-none}
-use Rattle.machine.specs.Lassos.{Lasso, lassoLength, moment}
-use Rattle.machine.specs.Lines.{linesValidity, nonBlank}
+use Rattle.mask.specs.LogicLaws.{and-false-l, and-true-l, dec}
+use Rattle.machine.specs.Lassos.{Lasso, moment}
+use Rattle.machine.specs.Lines.{nonBlank}
 use Rattle.machine.specs.LinesLaws.{covers-at}
 use Rattle.machine.specs.Machines.{moves, nA, nC, setsA, successors}
-use Rattle.machine.specs.PartnerLaws.{least-miss, least-step, limitOf, partner-view}
-use Rattle.machine.specs.Player.{Place, badLength, earlierRound, follow, lassoValidity, lastRound, loopLength, loopStart, placeAt, playValidity, played, samePlace, sectionAfter, startPartner, startValidity, stemLength, stepTo}
-use Rattle.machine.specs.Refusals.{answer, no-start-partner, refusal, refused, valid}
-use Rattle.machine.specs.RefusalsLaws.{given-of, then-of, then-refused, valid-next}
-use Rattle.machine.specs.Step.{better, found, least, partner, stateOf}
-use Rattle.machine.specs.StepLaws.{next-lt}
+use Rattle.machine.specs.PartnerLaws.{better-in, better-out, least-miss, least-step, limitOf, partner-view}
+use Rattle.machine.specs.Player.{Place, earlierRound, follow, lastRound, loopLength, loopStart, placeAt, playValidity, played, samePlace, sectionAfter, startPartner, stemLength, stepTo}
+use Rattle.machine.specs.Refusals.{answer, refused, valid}
+use Rattle.machine.specs.RefusalsLaws.{given-of, then-refused}
+use Rattle.machine.specs.Step.{found, least, partner, stateOf}
 use Rattle.machine.specs.Table.{blank, covers, entry, entryIndex}
-use Rattle.machine.specs.WellFormed.{pairValidity}
-use Rattle.machine.specs.declared.Machine.{Machine}
+use Rattle.machine.specs.PlayerLaws.{section-lt}
 use Rattle.machine.specs.declared.Pair.{Pair}
 use Rattle.machine.specs.declared.Partner.{Partner}
 use Rattle.machine.specs.declared.Partner.the-variants.{Nobody, State}
@@ -44,21 +42,11 @@ module _ (q : ℕ → Bool) (key : ℕ → ℕ) where
   unfolding least limitOf
   scan-start = record { best-is = refl; limit-is = refl; limit-le = omega arith }
 
-  better-below : (n : ℕ) (best : Partner) → key n < limitOf key (blank - 1) best → better key n best ≡ true
-  unfolding better limitOf
-  better-below n (State b) h = lt-ltb _ _ h
-  better-below n Nobody h = refl
-
-  better-above : (n : ℕ) (best : Partner) → key n < blank → limitOf key (blank - 1) best ≤ key n → better key n best ≡ false
-  unfolding better limitOf
-  better-above n (State b) s h = le-ltb _ _ h
-  better-above n Nobody s h = absurd (omega arith)
-
   module _ (n : ℕ) (best : Partner) (limit : ℕ) (d : Scanned q key n best limit) where
     pub scan-take : q n ≡ true → key n < limit → Scanned q key (n + 1) (State n) (key n)
     unfolding limitOf
     scan-take t h = record {
-      best-is = rw add-one (least-step q key n best (d .best-is) t ∙ rw (better-below n best (rw (d .limit-is) at h)));
+      best-is = rw add-one (least-step q key n best (d .best-is) t ∙ rw (better-in key (blank - 1) best n (rw (d .limit-is) at h)));
       limit-is = refl;
       limit-le = omega (arith, d .limit-le);
     }
@@ -69,7 +57,7 @@ module _ (q : ℕ → Bool) (key : ℕ → ℕ) where
     pub scan-keep : (q n ≡ true → key n < blank) → limit ≤ key n → Scanned q key (n + 1) best limit
     scan-keep s h = ⊎-elim
         (λ t. record {
-          best-is = rw add-one (least-step q key n best (d .best-is) t ∙ rw (better-above n best (s t) (rw (d .limit-is) at h)));
+          best-is = rw add-one (least-step q key n best (d .best-is) t ∙ rw (better-out key (blank - 1) best n (rw (d .limit-is) at h) (omega (arith, s t))));
           limit-is = d .limit-is;
           limit-le = d .limit-le;
         })
@@ -94,10 +82,6 @@ module _ (p : Pair) (T : List ℕ) where
     pub state-in : at .state ≤ 64
     pub section-in : at .section < setsA p
 
-  pub section-small : (c : ℕ) (at : Place) → at .section < setsA p → sectionAfter p T c at < setsA p
-  unfolding sectionAfter
-  section-small c at h = cond-cases (eqb (entry p T (at .section) c (at .state)) 0) (λ j. j < setsA p) _ _ (λ t. next-lt (setsA p) (at .section) h) (λ t. h)
-
   pub step-is : (c d moves : ℕ) (at : Place) (found : Partner) (j : ℕ) → j ≡ sectionAfter p T c at → moves ≡ successors (p .abstraction) (at .state)
       → found ≡ partner moves (nonBlank p T j d) (entry p T j d) → record { state = stateOf found; section = j } ≡ stepTo p T c at d
   unfolding stepTo follow
@@ -105,7 +89,7 @@ module _ (p : Pair) (T : List ℕ) where
 
   pub step-placed : (c d : ℕ) (at : Place) → Placed at → Placed (stepTo p T c at d)
   unfolding stepTo follow
-  step-placed c d at h = record { state-in = le-of-lt (state-small _ _ _); section-in = section-small c at (h .section-in) }
+  step-placed c d at h = record { state-in = le-of-lt (state-small _ _ _); section-in = section-lt p T c at (h .section-in) }
 
   module _ (l : Lasso) where
     pub place-start : (found : Partner) → found ≡ startPartner p T (moment l 0) → record { state = stateOf found; section = 0 } ≡ placeAt p T l 0
@@ -147,40 +131,13 @@ module _ (p : Pair) (T : List ℕ) (l : Lasso) where
   unfolding lastRound
   last-none b = first-none 449 _ b
 
--- ---- the answer, case by case
-pub valid-length : (m : Machine) (l : Lasso) → lassoValidity m l ≡ valid → lassoLength l ≤ 64
-unfolding lassoValidity badLength
-valid-length m l e = ltb-false 64 _ (or-none _ _ (valid-next _ _ _ e .0) .1)
-
+-- ---- the answer
 module _ (p : Pair) (T : List ℕ) (l : Lasso) where
-  played-refused : (r : Refusal) → playValidity p T l ≡ refused r → playedPlain p T l ≡ refused r
+  pub played-refused : (r : Refusal) → playValidity p T l ≡ refused r → playedPlain p T l ≡ refused r
   unfolding playedPlain
   played-refused r e = then-refused _ _ r e
 
-  pub played-ill : (r : Refusal) → pairValidity p ≡ refused r → playedPlain p T l ≡ refused r
-  unfolding playValidity
-  played-ill r e = played-refused r (then-refused _ _ r e)
-
-  module _ (v : pairValidity p ≡ valid) where
-    pub played-fail : (r : Refusal) → linesValidity p T ≡ refused r → playedPlain p T l ≡ refused r
-    unfolding playValidity
-    played-fail r e = played-refused r (then-of _ _ v ∙ then-refused _ _ r e)
-
-    module _ (t : linesValidity p T ≡ valid) where
-      pub played-unfit : (r : Refusal) → lassoValidity (p .concrete) l ≡ refused r → playedPlain p T l ≡ refused r
-      unfolding playValidity
-      played-unfit r e = played-refused r (then-of _ _ v ∙ then-of _ _ t ∙ then-refused _ _ r e)
-
-      module _ (f : lassoValidity (p .concrete) l ≡ valid) where
-        started : playValidity p T l ≡ startValidity p T l
-        unfolding playValidity
-        started = then-of _ _ v ∙ then-of _ _ t ∙ then-of _ _ f
-
-        pub played-alone : startPartner p T (moment l 0) ≡ Nobody → playedPlain p T l ≡ refused (refusal no-start-partner 0 0 0)
-        unfolding startValidity found
-        played-alone e = played-refused _ (started ∙ rw e)
-
-        pub played-run : (a x y : ℕ) → startPartner p T (moment l 0) ≡ State a → y ≡ lastRound p T l → x ≡ first y (λ x. samePlace p T l x y)
-            → playedPlain p T l ≡ answer (played (loopStart p T l x) ((y - x) * length (l .loop)))
-        unfolding playedPlain startValidity found stemLength loopLength earlierRound
-        played-run a x y e ey ex = given-of _ _ (started ∙ rw e) ∙ rw (← ey, ← ex)
+  pub played-run : playValidity p T l ≡ valid → (x y : ℕ) → y ≡ lastRound p T l → x ≡ first y (λ x. samePlace p T l x y)
+      → playedPlain p T l ≡ answer (played (loopStart p T l x) ((y - x) * length (l .loop)))
+  unfolding playedPlain stemLength loopLength earlierRound
+  played-run v x y ey ex = given-of _ _ v ∙ rw (← ey, ← ex)

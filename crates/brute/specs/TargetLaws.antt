@@ -7,11 +7,10 @@ use native.Mathlib.Nat.{add-mod-right, div-eq-of-lt, div-eq-sub-div, mod-eq-of-l
 use native.Mathlib.Numerals.{add-one}
 use native.Mathlib.Omega.{arith}
 use borrow.Author.Tests.{eq-eqb, le-leb, le-ltb, lt-leb, lt-ltb, ne-eqb}
-use Rattle.mask.specs.Bits.{hasBit}
 use Rattle.mask.specs.Bounded.{every, first, someIn}
-use Rattle.mask.specs.BoundedLaws.{every-not, every-of, everyIn-at, everyIn-of, first-before, first-has, someIn-at, someIn-of}
+use Rattle.mask.specs.BoundedLaws.{everyIn-at, everyIn-of, someIn-none, someIn-of}
 use Rattle.mask.specs.Logic.{not}
-use Rattle.mask.specs.LogicLaws.{and-false-l, and-true-l, clash, not-e, not-f, not-false, refute}
+use Rattle.mask.specs.LogicLaws.{and-false-l, and-true-l, clash, not-f, refute}
 use Rattle.machine.specs.Lines.{atMost, goalLine, linesValidity, lower, nonBlank, passes, rankLine}
 use Rattle.machine.specs.Machines.{inFairSet, matched, moves, nA, nC, next, pairs, setsA, setsC, starts, successors}
 use Rattle.machine.specs.Ranks.{levelOf, setOf}
@@ -78,17 +77,7 @@ module _ (p : Pair) (T : List ℕ) where
   unfolding inTarget
   target-out t j c a m = and-false-l _ m
 
--- ---- the first that fails
-pub first-some : (n : ℕ) (q : ℕ → Bool) → first n (λ i. not (q i)) < n → every n q ≡ false
-first-some n q h = every-not n q _ h (not-e _ (first-has n (λ i. not (q i)) h))
-
-pub first-all : (n : ℕ) (q : ℕ → Bool) → n ≤ first n (λ i. not (q i)) → every n q ≡ true
-first-all n q h = every-of n q (λ i l. not-false _ (first-before n (λ i. not (q i)) i (omega arith)))
-
 -- ---- searches among successors and start states, as a loop over all states goes
-pub someIn-none : (w m : ℕ) (q : ℕ → Bool) → ((k : ℕ) → k < w → hasBit m k ≡ true → q k ≡ false) → someIn w m q ≡ false
-someIn-none w m q h = refute _ (λ t. let r = someIn-at w m q t in clash (h (r .0) (r .1) (r .2)) (r .3))
-
 module _ (p : Pair) where
   module _ (S : ℕ → Bool) (a : ℕ) where
     pub partner-some : (b : ℕ) → b < nA p → moves (p .abstraction) a b ≡ true → S b ≡ true → someIn (nA p) (successors (p .abstraction) a) S ≡ true

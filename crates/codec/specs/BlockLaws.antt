@@ -10,7 +10,7 @@ use lib.Seq.{paste}
 use Rattle.mask.specs.Bounded.{sum}
 use Rattle.codec.specs.Format.{checkAt}
 use Rattle.codec.specs.Reader.{payloadByte}
-use Rattle.codec.specs.Loading.{front}
+use Rattle.mask.specs.Tables.{front}
 use Rattle.codec.specs.FrontLaws.{front-block}
 
 -- ---- the check, one byte a turn

@@ -2,34 +2,21 @@
 use mathlib.Core.Path.{_≡_, refl, sym, ap, ap₂, _∙_}
 use mathlib.Core.Logic.{by-cases}
 use mathlib.Core.List.{List, [], _∷_, _++_}
-use Prim.Native.Nat.{ℕ, zero, suc, _+_, _-_, _*_, _/_, _%_, _≤_, _<_}
-use native.Mathlib.Nat.{zero-add, add-zero, suc-add, add-suc}
+use Prim.Native.Nat.{ℕ, suc, _+_, _-_, _*_, _/_, _%_, _≤_, _<_}
+use native.Mathlib.Nat.{add-zero, suc-add, add-suc}
 use native.Mathlib.Decide.{decLt}
 use native.Mathlib.Numerals.{add-one}
 use native.Mathlib.Omega.{arith}
 use lib.Arith.{digits-div, digits-mod}
 use lib.ListN.{length, getD, set, take, drop, length-append, length-drop, List·getD-append, List·getD-eq-default}
-use lib.Seq.{paste, paste-suc, sets, sets-eq, getD-take, ext-getD, getD-append-add, getD-drop, length-take-le}
+use lib.Seq.{paste, paste-suc, sets, sets-eq, getD-take, getD-append-add, getD-drop, length-take-le}
 use Rattle.mask.specs.Tables.{table}
-use Rattle.mask.specs.TablesLaws.{table-length, table-at, table-cong}
+use Rattle.mask.specs.TablesLaws.{table-length, table-cong, table-append, table-snoc, fill-done}
 
 module _ {A : Type 0} where
-  -- ---- a table in two parts
-  pub table-append : (m n : ℕ) (f : ℕ → A) → table (m + n) f ≡ table m f ++ table n (λ i. f (m + i))
-  unfolding table
-  table-append zero n f = rw zero-add (table-cong n f (λ i. f (0 + i)) (λ i h. ap f (sym (zero-add i))))
-  table-append (suc m) n f =
-      rw suc-add (ap (λ (l : List A). f 0 ∷ l) (table-append m n (λ i. f (suc i)) ∙ ap (λ (l : List A). table m (λ i. f (suc i)) ++ l) (table-cong n _ _ (λ i h. ap f (sym (suc-add m i))))))
-
-  pub table-snoc : (n : ℕ) (f : ℕ → A) → table (n + 1) f ≡ table n f ++ (f n ∷ [])
-  unfolding table
-  table-snoc n f = table-append n 1 f ∙ ap (λ (x : A). table n f ++ (x ∷ [])) (ap f (add-zero n))
-
   -- a list is the table of its own elements
   pub table-of : (d : A) (n : ℕ) (l : List A) → length l ≡ n → table n (λ i. getD l i d) ≡ l
-  table-of d n l e =
-      ext-getD d (table n (λ i. getD l i d)) l (table-length n (λ i. getD l i d) ∙ sym e)
-      (λ i h. table-at n (λ i. getD l i d) i d (omega (arith, table-length n (λ i. getD l i d))))
+  table-of d n l e = sym (fill-done d n l (λ i. getD l i d) e (λ i h. refl))
 
   -- a table of rows of n, one row more
   pub rows-more : (n count : ℕ) (f : ℕ → ℕ → A) → 0 < n
@@ -83,8 +70,7 @@ module _ {A : Type 0} where
 pub part-table : (s : List ℕ) (at m : ℕ) (g : ℕ → ℕ) → at + m ≤ length s → ((k : ℕ) → k < m → getD s (at + k) 0 ≡ g k) → take m (drop at s) ≡ table m g
 part-table s at m g h e =
     let long : length (take m (drop at s)) ≡ m = length-take-le m (drop at s) (rw (length-drop at s) (omega arith)) in
-    ext-getD 0 (take m (drop at s)) (table m g) (long ∙ sym (table-length m g))
-    (λ k l. let q : k < m = omega arith in getD-take m (drop at s) k 0 q ∙ getD-drop at s k 0 ∙ e k q ∙ sym (table-at m g k 0 q))
+    fill-done 0 m (take m (drop at s)) g long (λ k q. getD-take m (drop at s) k 0 q ∙ getD-drop at s k 0 ∙ e k q)
 
 -- one store of a copy
 pub copy-turn : (d s l : List ℕ) (from to i : ℕ) → to + i < length d → from + i < length s → l ≡ paste d to (drop from s) i

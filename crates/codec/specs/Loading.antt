@@ -1,10 +1,10 @@
 -- Names that the contracts of the reader's own parts cite.
-use mathlib.Core.List.{List, _++_}
+use mathlib.Core.List.{List}
 use mathlib.Core.Bool.{true, false}
 use mathlib.Core.Path.{_≡_}
 use Prim.Native.Nat.{ℕ, _*_, _/_, _≤_}
-use lib.ListN.{length, getD, drop}
-use Rattle.mask.specs.Tables.{table}
+use lib.ListN.{length, getD}
+pub use Rattle.mask.specs.Tables.{front}
 use Rattle.codec.specs.Format.{payloadLength}
 use Rattle.codec.specs.Reader.{headerByte, countsHold, payloadDemanded, payloadOf}
 
@@ -14,10 +14,6 @@ entriesPlace f = payloadLength (headerByte f 4) (headerByte f 5) (headerByte f 6
 
 abbrev pub entriesCount : List ℕ → ℕ
 entriesCount f = headerByte f 7 * (headerByte f 4 * headerByte f 5)
-
--- a list whose first n elements are g 0, .., g (n - 1), and whose others are those of l
-abbrev pub front : ℕ → (ℕ → ℕ) → List ℕ → List ℕ
-front n g l = table n g ++ drop n l
 
 -- Q holds the joined payloads of the file f, and zeros after them
 pub record Loaded (f Q : List ℕ) : Type 0 where

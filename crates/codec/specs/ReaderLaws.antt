@@ -24,10 +24,10 @@ use Rattle.machine.specs.Table.{tableRoom}
 use Rattle.codec.specs.Format.{numberAt, payloadMost, payloadLength, fileLength, blocksFor}
 use Rattle.codec.specs.Reader.{blockHolds, headerByte, noteOf, headerHolds, countsHold, firstValidity, payloadDemanded, demanded, badBlock, paddingHolds, blocksValidity, payloadByte, payloadOf, machineAt, pairOf, entriesOf, readValidity, tableOf}
 use Rattle.codec.specs.Loading.{entriesPlace, entriesCount, Loaded}
-use Rattle.codec.specs.Loading.{front}
+use Rattle.mask.specs.Tables.{front}
 use Rattle.codec.specs.NumberLaws.{number-cong}
 use Rattle.codec.specs.FormatLaws.{entries-most, payload-most}
-use Rattle.codec.specs.FrontLaws.{front-length, front-zeros, front-padded}
+use Rattle.mask.specs.FrontLaws.{front-length, front-zeros, front-padded}
 
 -- ---- the first block
 -- the six zeros, as they stand in the file
@@ -143,9 +143,9 @@ unfolding machineAt
 machine-is Q at n sets start observations successors fairness h k a b c d =
     rw (
       a,
-      b ∙ front-zeros n 64 (λ s. getD Q (at + s) 0) h,
-      c ∙ front-zeros n 64 (λ s. numberAt 8 Q (at + n + 8 + 8 * s)) h,
-      d ∙ front-zeros sets 8 (λ k. numberAt 8 Q (at + 9 * n + 8 + 8 * k)) k,
+      front-zeros (λ s. getD Q (at + s) 0) b refl h,
+      front-zeros (λ s. numberAt 8 Q (at + n + 8 + 8 * s)) c refl h,
+      front-zeros (λ k. numberAt 8 Q (at + 9 * n + 8 + 8 * k)) d refl k,
     )
 
 pub machine-cong : (Q R : List ℕ) → ((k : ℕ) → getD Q k 0 ≡ getD R k 0) → (at n sets : ℕ) → machineAt Q at n sets ≡ machineAt R at n sets
@@ -245,8 +245,8 @@ unfolding payloadOf
 loaded f Q w v e h q =
     let n = 508 * (length f / 512) in
     let fit = fitting f e in
-    let long : length Q ≡ w = ap length q ∙ front-length (payloadByte f) (replicate w 0) n (rw (length-replicate {A = ℕ} w 0) h) ∙ length-replicate w 0 in
-    record { long = v .long; counts = v .counts; room = omega arith; same = λ k. ap (λ (l : List ℕ). getD l k 0) q ∙ front-padded n w (payloadByte f) k }
+    let long : length Q ≡ w = front-length (payloadByte f) (replicate w 0) q (rw (length-replicate {A = ℕ} w 0) h) ∙ length-replicate w 0 in
+    record { long = v .long; counts = v .counts; room = omega arith; same = front-padded (payloadByte f) w n q }
 
 -- ---- the lent table, and all the tests in their order
 -- the lent table of a reading that is not refused

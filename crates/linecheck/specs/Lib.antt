@@ -4,4 +4,3 @@ pub mod Bounds
 -- laws
 pub mod BoundsLaws
 pub mod StartsLaws
-pub mod AnswersLaws

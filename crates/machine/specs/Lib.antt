@@ -19,8 +19,10 @@ pub mod WellFormedLaws
 pub mod BeyondLaws
 pub mod PartnerLaws
 pub mod ObservedLaws
+pub mod LassosLaws
 pub mod LevelLaws
 pub mod LinesLaws
 pub mod VerdictLaws
+pub mod PlayerLaws
 pub mod RowLaws
 pub mod EntriesLaws

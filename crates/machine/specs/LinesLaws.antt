@@ -1,7 +1,7 @@
 -- Laws of the lines: a passing entry as sentences, and the first that fails.
 use mathlib.Core.Bool.{Bool, true, false, cond}
 use mathlib.Core.List.{List}
-use mathlib.Core.Logic.{_⊎_, ⊎-elim, by-cases}
+use mathlib.Core.Logic.{⊎-elim, by-cases}
 use mathlib.Core.Path.{_≡_, sym, ap, _∙_}
 use Prim.Native.Nat.{ℕ, suc, _+_, _-_, _*_, _/_, _≤_, _<_}
 use native.Mathlib.Nat.{div-lt-iff-lt-mul}

@@ -314,6 +314,16 @@ unfoldable pub limitOf : (ℕ → ℕ) → ℕ → Partner → ℕ
 limitOf key bound (State b) = key b
 limitOf key bound Nobody = bound + 1
 
+pub better-in : (key : ℕ → ℕ) (bound : ℕ) (best : Partner) (a : ℕ) → key a < limitOf key bound best → better key a best ≡ true
+unfolding limitOf better
+better-in key bound (State b) a h = lt-ltb (key a) (key b) h
+better-in key bound Nobody a h = refl
+
+pub better-out : (key : ℕ → ℕ) (bound : ℕ) (best : Partner) (a : ℕ) → limitOf key bound best ≤ key a → key a ≤ bound → better key a best ≡ false
+unfolding limitOf better
+better-out key bound (State b) a h k = le-ltb (key a) (key b) h
+better-out key bound Nobody a h k = absurd (omega arith)
+
 pub record Walked (row : List ℕ) (bound moves m : ℕ) (best : Partner) (limit : ℕ) : Type 0 where
   pub passed : Passed (within row bound) (λ a. getD row a 0) moves m best
   pub limit-is : limit ≡ limitOf (λ a. getD row a 0) bound best
@@ -330,22 +340,12 @@ module _ (row : List ℕ) (bound moves : ℕ) where
   pub walked-done : (best : Partner) (limit : ℕ) → Walked row bound moves 0 best limit → best ≡ partner moves (within row bound) Key
   walked-done best limit d = passed-done (within row bound) Key moves best (d .passed)
 
-  better-in : (best : Partner) (a : ℕ) → Key a < limitOf Key bound best → better Key a best ≡ true
-  unfolding limitOf better
-  better-in (State b) a h = lt-ltb (Key a) (Key b) h
-  better-in Nobody a h = refl
-
-  better-out : (best : Partner) (a : ℕ) → limitOf Key bound best ≤ Key a → Key a ≤ bound → better Key a best ≡ false
-  unfolding limitOf better
-  better-out (State b) a h k = le-ltb (Key a) (Key b) h
-  better-out Nobody a h k = absurd (omega arith)
-
   module _ (m : ℕ) (best : Partner) (limit a : ℕ) (p : 0 < m) (low : a ≡ lowestOf 64 m) (d : Walked row bound moves m best limit) where
     pub walked-take : a < length row → Key a < limit → Walked row bound moves (restOf m) (State a) (Key a)
     unfolding limitOf
     walked-take h k =
         let t : and (within row bound a) (better Key a best) ≡ true =
-        and-i (within-hit row bound a h (omega (arith, d .limit-le))) (better-in best a (rw (d .limit-is) at k)) in
+        and-i (within-hit row bound a h (omega (arith, d .limit-le))) (better-in Key bound best a (rw (d .limit-is) at k)) in
         record {
           passed = rw t at (passed-turn (within row bound) Key moves m best a p low (d .passed));
           limit-is = refl;
@@ -357,7 +357,7 @@ module _ (row : List ℕ) (bound moves : ℕ) where
         let t : and (within row bound a) (better Key a best) ≡ false = refute _ (λ u.
         let i : a < length row = within-index row bound a (and-l _ _ u) in
         let l : limitOf Key bound best ≤ Key a = omega (arith, d .limit-is, h i) in
-        clash (better-out best a l (within-entry row bound a (and-l _ _ u))) (and-r _ _ u)) in
+        clash (better-out Key bound best a l (within-entry row bound a (and-l _ _ u))) (and-r _ _ u)) in
         record {
           passed = rw t at (passed-turn (within row bound) Key moves m best a p low (d .passed));
           limit-is = d .limit-is;

@@ -1,5 +1,5 @@
 -- Laws of the check's answer: which test tells it, and what an answer tells of the tests.
-use mathlib.Core.Bool.{true}
+use mathlib.Core.Bool.{Bool, true, false}
 use mathlib.Core.List.{List}
 use mathlib.Core.Logic.{⊎-elim}
 use mathlib.Core.Path.{_≡_, _∙_}
@@ -7,19 +7,20 @@ use Prim.Native.Nat.{ℕ, _≤_, _<_}
 use native.Mathlib.Omega.{arith}
 use lib.Dec.{ltb}
 use lib.ListN.{length}
-use borrow.Author.Tests.{ltb-false}
-use Rattle.mask.specs.LogicLaws.{dec, clash, cond-cases, and-i, not-i}
-use Rattle.mask.specs.BoundedLaws.{first-before}
+use borrow.Author.Tests.{lt-ltb, le-ltb, ltb-false}
+use Rattle.mask.specs.Logic.{and, not}
+use Rattle.mask.specs.LogicLaws.{dec, clash, cond-cases, and-i, and-false-l, and-false-r, not-i, not-f}
+use Rattle.mask.specs.BoundedLaws.{first-is, first-none, first-before}
 use Rattle.machine.specs.declared.Pair.{Pair}
 use Rattle.machine.specs.declared.Refusal.{Refusal}
 use Rattle.machine.specs.Refusals.{valid, answer, refused, refusal, short-buffer}
 use Rattle.machine.specs.RefusalsLaws.{then-of, then-refused, then-answer, answer-is, buffer-valid, buffer-short}
 use Rattle.machine.specs.Machines.{starts, nC}
 use Rattle.machine.specs.WellFormed.{pairValidity}
-use Rattle.machine.specs.Table.{tableRoom}
+use Rattle.machine.specs.Table.{tableRoom, coveredCount}
 use Rattle.machine.specs.Lines.{passesEach, linesValidity}
 use Rattle.machine.specs.LinesLaws.{valid-passes}
-use Rattle.machine.specs.Verdict.{Verdict, carried, startCovered, lackingStart, startVerdict, linesVerdict, checkVerdict}
+use Rattle.machine.specs.Verdict.{Verdict, carried, notCarried, startCovered, lackingStart, startVerdict, linesVerdict, checkVerdict}
 
 module _ (p : Pair) (T : List ℕ) where
   -- ---- which test tells the answer
@@ -56,6 +57,41 @@ module _ (p : Pair) (T : List ℕ) where
   pub check-said : (v : Verdict) → checkVerdict p T ≡ answer v → linesVerdict p T ≡ answer v
   unfolding checkVerdict
   check-said v e = then-answer _ _ e .1
+
+  -- ---- the lowest start state without a partner
+  -- c is one
+  unfoldable pub lacks : ℕ → Bool
+  lacks c = and (starts (p .concrete) c) (not (startCovered p T c))
+
+  pub lacks-not : (c : ℕ) → starts (p .concrete) c ≡ false → lacks c ≡ false
+  unfolding lacks
+  lacks-not c t = and-false-l _ t
+
+  pub lacks-covered : (c : ℕ) → startCovered p T c ≡ true → lacks c ≡ false
+  unfolding lacks
+  lacks-covered c t = and-false-r _ (not-f t)
+
+  pub lacks-is : (c : ℕ) → starts (p .concrete) c ≡ true → startCovered p T c ≡ false → lacks c ≡ true
+  unfolding lacks
+  lacks-is c t u = and-i t (not-i u)
+
+  pub lacking-is : (c : ℕ) → c < nC p → lacks c ≡ true → ((k : ℕ) → k < c → lacks k ≡ false) → lackingStart p T ≡ c
+  unfolding lackingStart lacks
+  lacking-is c h t b = first-is (nC p) _ c h t b
+
+  pub lacking-none : ((k : ℕ) → k < nC p → lacks k ≡ false) → lackingStart p T ≡ nC p
+  unfolding lackingStart lacks
+  lacking-none b = first-none (nC p) _ b
+
+  -- it and the count tell the answer
+  module _ (n c : ℕ) (counted : n ≡ coveredCount p T) (lowest : c ≡ lackingStart p T) where
+    pub start-lacking : c < nC p → startVerdict p T ≡ notCarried c n
+    unfolding startVerdict
+    start-lacking h = rw (← lowest, ← counted, lt-ltb c (nC p) h)
+
+    pub start-carried : nC p ≤ c → startVerdict p T ≡ carried n
+    unfolding startVerdict
+    start-carried h = rw (← lowest, ← counted, le-ltb c (nC p) h)
 
   -- below the lowest state that lacks one, each start state has a partner
   pub before-lacking : (c : ℕ) → c < lackingStart p T → starts (p .concrete) c ≡ true → startCovered p T c ≡ true

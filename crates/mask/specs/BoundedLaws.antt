@@ -7,7 +7,7 @@ use native.Mathlib.Nat.{not-suc-le-zero}
 use native.Mathlib.Decide.{decLt, ℕ-discrete}
 use native.Mathlib.Omega.{arith}
 use Rattle.mask.specs.Logic.{not, and, or}
-use Rattle.mask.specs.LogicLaws.{dec, clash, refute, both, cond-cases, below-suc, and-l, and-r, and-i, and-false-l, or-l, or-r, or-e, not-e, not-i, not-or, not-not}
+use Rattle.mask.specs.LogicLaws.{dec, clash, refute, both, cond-cases, below-suc, and-l, and-r, and-i, and-false-l, or-l, or-r, or-e, not-e, not-i, not-false, not-or, not-not}
 use Rattle.mask.specs.Bits.{hasBit}
 use Rattle.mask.specs.BitsLaws.{has-lt, has-none}
 use Rattle.mask.specs.Bounded.{every, some, first, sum, count, everyIn, someIn}
@@ -124,6 +124,13 @@ first-failing (suc n) p t = go (first-failing n p) (dec (every n p))
 pub first-most : (n : ℕ) (p : ℕ → Bool) (i : ℕ) → p i ≡ true → first n p ≤ i
 first-most n p i t = by-cases (decLt i (first n p)) (λ l. absurd (clash (first-before n p i l) t)) (λ l. omega arith)
 
+-- the first that fails lies below the bound exactly if one does
+pub first-some : (n : ℕ) (p : ℕ → Bool) → first n (λ i. not (p i)) < n → every n p ≡ false
+first-some n p h = every-not n p _ h (not-e _ (first-has n (λ i. not (p i)) h))
+
+pub first-all : (n : ℕ) (p : ℕ → Bool) → n ≤ first n (λ i. not (p i)) → every n p ≡ true
+first-all n p h = every-of n p (λ i l. not-false _ (first-before n (λ i. not (p i)) i (omega arith)))
+
 -- ---- sums and counts
 pub sum-le : (n : ℕ) (f g : ℕ → ℕ) → ((i : ℕ) → i < n → f i ≤ g i) → sum n f ≤ sum n g
 unfolding sum
@@ -217,6 +224,9 @@ someIn-at w m p t = let q = some-at w _ t in (q .0, q .1, and-l _ _ (q .2), and-
 pub someIn-of : (w m : ℕ) (p : ℕ → Bool) (i : ℕ) → i < w → hasBit m i ≡ true → p i ≡ true → someIn w m p ≡ true
 unfolding someIn
 someIn-of w m p i h e t = some-of w _ i h (and-i e t)
+
+pub someIn-none : (w m : ℕ) (p : ℕ → Bool) → ((i : ℕ) → i < w → hasBit m i ≡ true → p i ≡ false) → someIn w m p ≡ false
+someIn-none w m p h = refute _ (λ t. let r = someIn-at w m p t in clash (h (r .0) (r .1) (r .2)) (r .3))
 
 pub everyIn-cong : (w m : ℕ) (p q : ℕ → Bool) → ((i : ℕ) → i < w → hasBit m i ≡ true → p i ≡ q i) → everyIn w m p ≡ everyIn w m q
 everyIn-cong w m p q h = both _ _

@@ -9,16 +9,16 @@ use lib.ListN.{length}
 use Rattle.machine.specs.declared.Pair.{Pair}
 use Rattle.machine.specs.declared.Partner.the-variants.{State, Nobody}
 use Rattle.machine.specs.declared.Refusal.{Refusal}
-use Rattle.machine.specs.Refusals.{valid, answer, refused, refusal, andThen, short-buffer, no-start-partner}
+use Rattle.machine.specs.Refusals.{valid, answer, refused, refusal, short-buffer, no-start-partner}
 use Rattle.machine.specs.RefusalsLaws.{then-of, then-refused, then-answer, then-cases, given-of, given-refused, buffer-valid, buffer-short, buffer-room, buffer-made, buffer-kept}
 use Rattle.machine.specs.WellFormed.{pairValidity}
 use Rattle.machine.specs.Lassos.{Lasso, moment}
-use Rattle.machine.specs.Step.{found}
 use Rattle.machine.specs.Table.{tableRoom}
 use Rattle.machine.specs.Lines.{linesValidity}
 use Rattle.machine.specs.Verdict.{Verdict, linesVerdict, checkVerdict}
 use Rattle.machine.specs.VerdictLaws.{lines-said}
-use Rattle.machine.specs.Player.{lassoValidity, startPartner, startValidity, playValidity, runRoom, allValidity, playerAnswer, playerBuffer}
+use Rattle.machine.specs.Player.{lassoValidity, startPartner, playValidity, runRoom, allValidity, playerAnswer, playerBuffer}
+use Rattle.machine.specs.PlayerLaws.{play-ill, play-fails, play-unfit, play-alone, play-valid}
 use Rattle.player.specs.declared.Played.the-variants.{Refused as NotPlayed}
 use Rattle.player.specs.Answers.{playedOf, runOf}
 use Rattle.player.specs.Places.{written}
@@ -52,41 +52,32 @@ module _ (p : Pair) (T : List ℕ) where
         (λ b. then-of _ _ (buffer-valid tableRoom (length T) (omega arith)) ∙ then-refused _ _ _ (buffer-short runRoom (length buffer) h))
 
     module _ (room : runRoom ≤ length buffer) where
+      -- where both lent buffers are long enough, the other tests tell
+      left : tableRoom ≤ length T → allValidity p T l buffer ≡ playValidity p T l
+      unfolding allValidity
+      left h = then-of _ _ (buffer-valid tableRoom (length T) h) ∙ then-of _ _ (buffer-valid runRoom (length buffer) room)
+
       pub check-stops : (r : Refusal) → checkVerdict p T ≡ refused r → allValidity p T l buffer ≡ refused r
-      unfolding checkVerdict linesVerdict allValidity playValidity
+      unfolding checkVerdict linesVerdict allValidity
       check-stops r e = ⊎-elim
           (λ q. then-refused _ _ r q)
-          (λ q. then-of _ _ (q .0) ∙ then-of _ _ (buffer-valid runRoom (length buffer) room) ∙ ⊎-elim
-          (λ z. then-refused _ _ r z)
-          (λ z. then-of _ _ (z .0) ∙ then-refused _ _ r (given-refused (linesValidity p T) _ (z .1)))
+          (λ q. left (buffer-room tableRoom (length T) (q .0)) ∙ ⊎-elim
+          (λ z. play-ill p T l r z)
+          (λ z. play-fails p T l (z .0) r (given-refused (linesValidity p T) _ (z .1)))
           (then-cases (pairValidity p) _ r (q .1)))
           (then-cases _ (linesVerdict p T) r e)
 
       module _ (h : Passes) where
-        all-left : allValidity p T l buffer ≡ andThen (lassoValidity (p .concrete) l) (startValidity p T l)
-        unfolding allValidity playValidity
-        all-left =
-            then-of _ _ (buffer-valid tableRoom (length T) (h .long)) ∙ then-of _ _ (buffer-valid runRoom (length buffer) room) ∙ then-of _ _ (h .pair) ∙ then-of _ _ (h .lines)
-
         pub lasso-stops : (r : Refusal) → lassoValidity (p .concrete) l ≡ refused r → allValidity p T l buffer ≡ refused r
-        lasso-stops r e = all-left ∙ then-refused _ _ r e
+        lasso-stops r e = left (h .long) ∙ play-unfit p T l (h .pair) (h .lines) r e
 
         module _ (tested : lassoValidity (p .concrete) l ≡ valid) where
           pub start-stops : startPartner p T (moment l 0) ≡ Nobody → allValidity p T l buffer ≡ refused (refusal no-start-partner 0 0 0)
-          unfolding startValidity found
-          start-stops e = all-left ∙ then-of _ _ tested ∙ rw e
+          start-stops e = left (h .long) ∙ play-alone p T l (h .pair) (h .lines) tested e
 
           module _ (a : ℕ) (e : startPartner p T (moment l 0) ≡ State a) where
-            start-valid : startValidity p T l ≡ valid
-            unfolding startValidity found
-            start-valid = rw e
-
-            pub play-valid : playValidity p T l ≡ valid
-            unfolding playValidity
-            play-valid = then-of _ _ (h .pair) ∙ then-of _ _ (h .lines) ∙ then-of _ _ tested ∙ start-valid
-
             all-valid : allValidity p T l buffer ≡ valid
-            all-valid = all-left ∙ then-of _ _ tested ∙ start-valid
+            all-valid = left (h .long) ∙ play-valid p T l (h .pair) (h .lines) tested a e
 
             -- ---- the run
             pub run-answer : playedOf (runOf p T l) ≡ playerAnswer p T l buffer

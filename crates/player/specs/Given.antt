@@ -6,7 +6,6 @@ use lib.ListN.{length, getD}
 use Rattle.mask.specs.Logic.{not}
 use Rattle.mask.specs.Bits.{hasBit}
 use Rattle.mask.specs.Bounded.{some}
-use Rattle.machine.specs.Lassos.{Lasso}
 
 -- no state of the loop is in the mask
 unfoldable pub noneIn : ℕ → List ℕ → Bool

@@ -15,7 +15,6 @@ use Rattle.machine.specs.declared.Pair.{Pair}
 use Rattle.machine.specs.Machines.{nC, nA, setsA, successors, next}
 use Rattle.machine.specs.Lassos.{Lasso, lassoLength, moment}
 use Rattle.machine.specs.Step.{partner, stateOf}
-use Rattle.machine.specs.StepLaws.{next-lt}
 use Rattle.machine.specs.Table.{entry}
 use Rattle.machine.specs.Lines.{nonBlank}
 use Rattle.machine.specs.Player.{startPartner, sectionAfter, follow, stepTo, placeAt}
@@ -105,10 +104,6 @@ module _ {p : Pair} {T : List ℕ} {l : Lasso} {at to : Place} (s : Stepped p T 
       (λ b. rw (le-ltb start (suc (at .position)) (omega arith), le-ltb start (at .position) (omega arith))))
 
 -- ---- the rule
--- the section after a place is one of n
-pub after-lt : (n j e : ℕ) → j < n → cond (eqb e 0) (next n j) j < n
-after-lt n j e h = cond-cases (eqb e 0) (λ (i : ℕ). i < n) (next n j) j (λ t. next-lt n j h) (λ t. h)
-
 module _ (p : Pair) (T : List ℕ) (l : Lasso) (t : ℕ) where
   rule-section : (c j a : ℕ) → moment l t ≡ c → j ≡ placeAt p T l t .section → a ≡ placeAt p T l t .state
       → cond (eqb (entry p T j c a) 0) (next (setsA p) j) j ≡ placeAt p T l (suc t) .section

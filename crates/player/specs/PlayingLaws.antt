@@ -114,6 +114,6 @@ module _ {p : Pair} {T : List ℕ} {l : Lasso} (k : Playable p T l) where
         marked = n .marked to s;
         bytes =
             ap₂ (λ (r : List ℕ) (a : ℕ). set r t a) (h .bytes) (h .on .state ∙ ap (λ (t : ℕ). placeAt p T l t .state) (sym (h .now)))
-            ∙ written-more p T l t buffer (omega (arith, room)) ∙ ap (λ (n : ℕ). writtenTo p T l n buffer) (sym (add-one t));
+            ∙ written-more p T l t buffer (omega (arith, room));
         long = length-set run t (at .a) ∙ h .long;
       }

@@ -1,12 +1,12 @@
 -- Laws of the run as it is written, one byte a moment.
-use mathlib.Core.List.{List, [], _∷_, _++_}
-use mathlib.Core.Path.{_≡_, refl, sym, ap}
-use Prim.Native.Nat.{ℕ, zero, suc, _+_, _-_, _*_, _≤_, _<_}
+use mathlib.Core.List.{List}
+use mathlib.Core.Path.{_≡_, refl}
+use Prim.Native.Nat.{ℕ, _+_, _-_, _*_, _≤_, _<_}
 use native.Mathlib.Omega.{arith}
-use lib.ListN.{length, drop, set}
-use lib.Seq.{drop-cons, append-snoc, set-at}
+use lib.ListN.{length, set}
 use Rattle.mask.specs.Tables.{table}
 use Rattle.mask.specs.TablesLaws.{table-length}
+use Rattle.mask.specs.FrontLaws.{front-turn}
 use Rattle.machine.specs.declared.Pair.{Pair}
 use Rattle.machine.specs.WellFormedLaws.{mul-bound}
 use Rattle.machine.specs.Lassos.{Lasso}
@@ -17,21 +17,14 @@ use Rattle.player.specs.declared.Played.the-variants.{Run}
 use Rattle.player.specs.Answers.{runOf}
 use Rattle.player.specs.Places.{momentOf, Placed, writtenTo, written}
 
-table-snoc : (n : ℕ) (f : ℕ → ℕ) → table (suc n) f ≡ table n f ++ f n ∷ []
-unfolding table
-table-snoc zero f = refl
-table-snoc (suc n) f = ap (λ (r : List ℕ). f 0 ∷ r) (table-snoc n (λ i. f (suc i)))
-
 module _ (p : Pair) (T : List ℕ) (l : Lasso) where
   pub written-none : (buffer : List ℕ) → buffer ≡ writtenTo p T l 0 buffer
   unfolding writtenTo table
   written-none buffer = refl
 
-  pub written-more : (t : ℕ) (buffer : List ℕ) → t < length buffer → set (writtenTo p T l t buffer) t (placeAt p T l t .state) ≡ writtenTo p T l (suc t) buffer
+  pub written-more : (t : ℕ) (buffer : List ℕ) → t < length buffer → set (writtenTo p T l t buffer) t (placeAt p T l t .state) ≡ writtenTo p T l (t + 1) buffer
   unfolding writtenTo
-  written-more t buffer h =
-      let f : ℕ → ℕ = λ t. placeAt p T l t .state in
-      rw (drop-cons buffer t 0 h, set-at (table t f) _ (drop (suc t) buffer) (f t) t (table-length t f), table-snoc t f) (sym (append-snoc (table t f) (f t) (drop (suc t) buffer)))
+  written-more t buffer h = front-turn (λ t. placeAt p T l t .state) buffer refl h refl
 
   -- the run is whole at the later of the two loop starts
   pub written-whole : (n : ℕ) (buffer : List ℕ) → lastRound p T l ≡ n → writtenTo p T l (loopStart p T l n) buffer ≡ written p T l buffer

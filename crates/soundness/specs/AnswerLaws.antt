@@ -16,7 +16,7 @@ use Rattle.machine.specs.declared.Partner.{Partner}
 use Rattle.machine.specs.declared.Partner.the-variants.{State, Nobody}
 use Rattle.machine.specs.Machines.{nC, nA, setsC, setsA, successors, moves, starts, inFairSet, next}
 use Rattle.machine.specs.Step.{partner, found, stateOf}
-use Rattle.machine.specs.StepLaws.{Steps, next-lt}
+use Rattle.machine.specs.StepLaws.{Steps}
 use Rattle.machine.specs.PartnerLaws.{Best, partner-found, partner-at, partner-same}
 use Rattle.machine.specs.Table.{entry}
 use Rattle.machine.specs.Ranks.{levelOf, setOf}
@@ -26,6 +26,7 @@ use Rattle.machine.specs.LinesLaws.{Passing, passes-at, each-at, covers-of, non
 use Rattle.machine.specs.Verdict.{startCovered}
 use Rattle.machine.specs.WellFormedLaws.{WellPair, ranks-small}
 use Rattle.machine.specs.Player.{Place, startPartner, sectionAfter, follow, stepTo}
+use Rattle.machine.specs.PlayerLaws.{section-lt}
 
 -- the partner that a single step names
 best-named : (moves : ℕ) (S : ℕ → Bool) (key : ℕ → ℕ) → found (partner moves S key) ≡ true → Best moves S key (stateOf (partner moves S key))
@@ -152,11 +153,6 @@ module _ (p : Pair) (T : List ℕ) where
             let b = line .inside z i d hd m in
             (b .0, b .1, b .2, rw (lower-atMost p T (at .section) (levelOf (setsC p) r) d (b .0) (w .concrete .sets-low) (level-low (setsC p) r)) at (b .3))
 
-    section-lt : (c : ℕ) (at : Place) → at .section < setsA p → sectionAfter p T c at < setsA p
-    section-lt c at h = by-cases (ℕ-discrete (entryAt c at) 0)
-        (λ e. rw (section-goal c at e) (next-lt (setsA p) (at .section) h))
-        (λ e. rw (section-stays c at e) h)
-
     -- any partner of least entry is an answer
     pub answer-of : (c d : ℕ) (at : Place) → c < nC p → Covered c at → d < nC p → moves (p .concrete) c d ≡ true → (b : ℕ) → LeastPartner c d at b
         → Answer c d at (record { state = b; section = sectionAfter p T c at })
@@ -164,7 +160,7 @@ module _ (p : Pair) (T : List ℕ) where
         let k = candidate c d at hc h hd m in
         let least = x .least (k .who) (k .low) (k .moved) (k .covered) in
         record {
-          again = record { bound = x .low; section-bound = section-lt c at (h .section-bound); covered = x .covered };
+          again = record { bound = x .low; section-bound = section-lt p T c at (h .section-bound); covered = x .covered };
           moved = x .moved;
           stays = λ z. omega (arith, k .stays z, least);
           falls = λ z i. omega (arith, k .falls z i, least);

@@ -2,19 +2,19 @@
 use mathlib.Core.Bool.{true}
 use mathlib.Core.Path.{_≡_, sym, ap, subst, _∙_}
 use Prim.Native.Nat.{ℕ, zero, suc, _+_, _-_, _*_, _/_, _%_, _≤_, _<_}
-use native.Mathlib.Nat.{add-mod-right, mod-lt, mod-eq-of-lt, div-add-mod', mul-pos}
+use native.Mathlib.Nat.{add-mod-right, mod-lt, div-add-mod', mul-pos}
 use native.Mathlib.Decide.{decLt}
 use native.Mathlib.Omega.{arith}
 use lib.ListN.{length, getD, take, drop, length-take, length-drop}
 use lib.Seq.{ext-getD, getD-take, getD-drop}
-use borrow.Author.Tests.{ltb-true, lt-ltb, le-ltb}
 use Rattle.mask.specs.LogicLaws.{and-l, and-r, and-i}
 use Rattle.mask.specs.BoundedLaws.{every-at, every-of, some-at, some-of}
 use Rattle.mask.specs.Tables.{table}
 use Rattle.mask.specs.TablesLaws.{table-length, table-at}
 use Rattle.machine.specs.declared.Machine.{Machine}
 use Rattle.machine.specs.Machines.{moves, starts, inFairSet}
-use Rattle.machine.specs.Lassos.{Lasso, lassoLength, moment, isLasso, isFair, fromStart, isPlay, SameObservations}
+use Rattle.machine.specs.Lassos.{Lasso, moment, isLasso, isFair, fromStart, isPlay, SameObservations}
+use Rattle.machine.specs.LassosLaws.{moment-stem, moment-round, moment-loop, Goes, lasso-loop, lasso-goes, lasso-of}
 use Rattle.machine.specs.StepLaws.{same-refl, same-sym, same-trans}
 use Rattle.soundness.specs.Plays.{Again, lassoOf, unrolled, SamePlay, Play}
 
@@ -37,27 +37,13 @@ each-round P p q h base more t = go (decLt t p)
     go (no l) = subst P (omega (arith, div-add-mod' (t - p) q)) (rounds ((t - p) / q) ((t - p) % q) (mod-lt (t - p) h))
 
 -- ---- moments
-pub moment-stem : (l : Lasso) (t : ℕ) → t < length (l .stem) → moment l t ≡ getD (l .stem) t 0
-unfolding moment
-moment-stem l t h = rw (lt-ltb t (length (l .stem)) h)
-
-moment-round : (l : Lasso) (i : ℕ) → moment l (length (l .stem) + i) ≡ getD (l .loop) (i % length (l .loop)) 0
-unfolding moment
-moment-round l i =
-    let p = length (l .stem) in
-    let e : p + i - p ≡ i = omega arith in
-    rw (le-ltb (p + i) p (omega arith), e)
-
-pub moment-loop : (l : Lasso) (i : ℕ) → i < length (l .loop) → moment l (length (l .stem) + i) ≡ getD (l .loop) i 0
-moment-loop l i h = moment-round l i ∙ ap (λ (x : ℕ). getD (l .loop) x 0) (mod-eq-of-lt h)
-
 -- "Endless play is the stem, then the loop again and again."
 pub moment-again : (l : Lasso) → Again (length (l .stem)) (length (l .loop)) (moment l)
 moment-again l t h =
     let p = length (l .stem) in
     let q = length (l .loop) in
-    let i = t - p in
-    ap (moment l) (omega arith) ∙ moment-round l (i + q) ∙ ap (λ (x : ℕ). getD (l .loop) x 0) (add-mod-right i q) ∙ sym (moment-round l i) ∙ ap (moment l) (omega arith)
+    let e : t + q - p ≡ t - p + q = omega arith in
+    moment-round l (t + q) (omega arith) ∙ ap (λ (x : ℕ). getD (l .loop) x 0) (ap (λ (x : ℕ). x % q) e ∙ add-mod-right (t - p) q) ∙ sym (moment-round l t h)
 
 -- ---- the lasso of a sequence
 pub lassoOf-stem : (p q : ℕ) (f : ℕ → ℕ) → length (lassoOf p q f .stem) ≡ p
@@ -123,33 +109,14 @@ table-cut p q f = λ i. record { stem = front i; loop = back i }
 
 -- ---- what the tests of a lasso say of its endless play
 module _ (m : Machine) (l : Lasso) where
-  pub lasso-loop : isLasso m l ≡ true → 0 < length (l .loop)
-  unfolding isLasso
-  lasso-loop t = ltb-true _ _ (and-l _ _ t)
-
   -- each state is one of the machine's, and moves to the next, at every moment
-  Moves : ℕ → Type 0
-  Moves t = (moment l t < m .states) × (moves m (moment l t) (moment l (suc t)) ≡ true)
-
-  lasso-round : isLasso m l ≡ true → (t : ℕ) → t < lassoLength l → Moves t
-  unfolding isLasso Moves
-  lasso-round h t b =
-      let x = every-at _ _ (and-r _ _ h) t b in
-      (ltb-true _ _ (and-l _ _ x), and-r _ _ x)
-
-  pub lasso-at : isLasso m l ≡ true → (t : ℕ) → (moment l t < m .states) × (moves m (moment l t) (moment l (suc t)) ≡ true)
-  unfolding Moves
-  lasso-at h = each-round Moves (length (l .stem)) (length (l .loop)) (lasso-loop h) (lasso-round h) more
+  pub lasso-at : isLasso m l ≡ true → (t : ℕ) → Goes m l t
+  lasso-at h = each-round (Goes m l) (length (l .stem)) (length (l .loop)) (lasso-loop m l h) (lasso-goes m l h) more
     where
-      more : (t : ℕ) → length (l .stem) ≤ t → Moves t → Moves (t + length (l .loop))
+      more : (t : ℕ) → length (l .stem) ≤ t → Goes m l t → Goes m l (t + length (l .loop))
       more t b x =
           let e : moment l (suc (t + length (l .loop))) ≡ moment l (suc t) = ap (moment l) (omega arith) ∙ moment-again l (suc t) (omega arith) in
           rw (moment-again l t b, e) x
-
-  pub lasso-of : 0 < length (l .loop) → ((t : ℕ) → t < lassoLength l → moment l t < m .states)
-      → ((t : ℕ) → t < lassoLength l → moves m (moment l t) (moment l (suc t)) ≡ true) → isLasso m l ≡ true
-  unfolding isLasso
-  lasso-of h b s = and-i (lt-ltb _ _ h) (every-of _ _ (λ t q. and-i (lt-ltb _ _ (b t q)) (s t q)))
 
   pub fair-at : isFair m l ≡ true → (k : ℕ) → k < m .sets → (i : ℕ) × (i < length (l .loop)) × (inFairSet m k (moment l (length (l .stem) + i)) ≡ true)
   unfolding isFair
@@ -195,7 +162,7 @@ module _ (m : Machine) (l : Lasso) where
   pub play-at : isPlay m l ≡ true → Play m l
   unfolding isPlay
   play-at h = record {
-    some-loop = lasso-loop (and-l _ _ h);
+    some-loop = lasso-loop m l (and-l _ _ h);
     bound = λ t. lasso-at (and-l _ _ h) t .0;
     step = λ t. lasso-at (and-l _ _ h) t .1;
     fair = fair-at (and-l _ _ (and-r _ _ h));
@@ -207,7 +174,7 @@ module _ (m : Machine) (l : Lasso) where
   play-parts h f s = and-i h (and-i f s)
 
   pub play-of : Play m l → isPlay m l ≡ true
-  play-of y = play-parts (lasso-of (y .some-loop) (λ t b. y .bound t) (λ t b. y .step t)) (fair-of (y .fair)) (start-of (y .start))
+  play-of y = play-parts (lasso-of m l (y .some-loop) (λ t b. (y .bound t, y .step t))) (fair-of (y .fair)) (start-of (y .start))
 
   -- each set is met in each round
   pub fair-round : Play m l → (x k : ℕ) → k < m .sets
@@ -225,7 +192,7 @@ module _ (m : Machine) (p q : ℕ) (f : ℕ → ℕ) (pos : 0 < q) (again : Agai
   lassoOf-some = rw (lassoOf-loop p q f) pos
 
   pub lassoOf-lasso : ((t : ℕ) → f t < m .states) → ((t : ℕ) → moves m (f t) (f (suc t)) ≡ true) → isLasso m (lassoOf p q f) ≡ true
-  lassoOf-lasso b s = lasso-of m (lassoOf p q f) lassoOf-some (λ t h. rw (at t) (b t)) (λ t h. rw (at t, at (suc t)) (s t))
+  lassoOf-lasso b s = lasso-of m (lassoOf p q f) lassoOf-some (λ t h. rw (at t, at (suc t)) (b t, s t))
     where
       at : (t : ℕ) → moment (lassoOf p q f) t ≡ f t
       at = lassoOf-moment p q f pos again
@@ -245,7 +212,7 @@ module _ (m : Machine) (p q : ℕ) (f : ℕ → ℕ) (pos : 0 < q) (again : Agai
 -- ---- what is true of a lasso is true of each lasso with the same endless play
 module _ (m : Machine) (l k : Lasso) (pos : 0 < length (k .loop)) (same : SamePlay l k) where
   pub same-lasso : isLasso m l ≡ true → isLasso m k ≡ true
-  same-lasso h = lasso-of m k pos (λ t b. rw (same t) at (lasso-at m l h t .0)) (λ t b. rw (same t, same (suc t)) at (lasso-at m l h t .1))
+  same-lasso h = lasso-of m k pos (λ t b. rw (same t, same (suc t)) at (lasso-at m l h t))
 
   pub same-fair : isFair m l ≡ true → isFair m k ≡ true
   same-fair h = fair-once m k pos (λ s b.

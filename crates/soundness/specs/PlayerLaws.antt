@@ -8,7 +8,7 @@ use native.Mathlib.Nat.{le-trans, mul-le-mul-left, mul-le-mul-right}
 use native.Mathlib.Decide.{decLt}
 use native.Mathlib.Omega.{arith}
 use lib.ListN.{length, take, drop}
-use borrow.Author.Tests.{eqb-true, eqb-false, eq-eqb, ne-eqb, ltb-false, leb-false}
+use borrow.Author.Tests.{eqb-true, eq-eqb, ne-eqb, ltb-false, leb-false}
 use Rattle.mask.specs.LogicLaws.{dec, clash, and-l, and-r, and-i, or-none, not-i, not-false}
 use Rattle.mask.specs.Bounded.{first, some}
 use Rattle.mask.specs.BoundedLaws.{first-before, first-has, first-most, some-of, some-at, every-of}
@@ -16,33 +16,27 @@ use Rattle.mask.specs.TablesLaws.{table-length}
 use Rattle.machine.specs.declared.Machine.{Machine}
 use Rattle.machine.specs.declared.Pair.{Pair}
 use Rattle.machine.specs.Refusals.{valid}
-use Rattle.machine.specs.Machines.{nA, setsA, moves, starts}
+use Rattle.machine.specs.Machines.{nA, setsA, moves}
 use Rattle.machine.specs.Lassos.{Lasso, lassoLength, moment, isFair, isPlay}
 use Rattle.machine.specs.Step.{found}
 use Rattle.machine.specs.Lines.{passesEach}
 use Rattle.machine.specs.LinesLaws.{valid-passes}
 use Rattle.machine.specs.WellFormedLaws.{WellPair, well-valid}
-use Rattle.machine.specs.Player.{badLength, badStep, missedSet, lassoValidity, startPartner, startValidity, placeAt, loopStart, samePlace, lastRound, earlierRound, stemLength, loopLength, run, runRoom, playValidity}
+use Rattle.machine.specs.Player.{badStep, missedSet, lassoValidity, startPartner, startValidity, placeAt, loopStart, samePlace, lastRound, earlierRound, stemLength, loopLength, run, runRoom, playValidity}
+use Rattle.machine.specs.LassosLaws.{lasso-of}
+use Rattle.machine.specs.PlayerLaws.{good-length, Entered}
 use Rattle.machine.specs.RefusalsLaws.{valid-next, valid-if, then-answer}
 use Rattle.soundness.specs.Statements.{IsRun}
 use Rattle.soundness.specs.Plays.{runBetween}
-use Rattle.soundness.specs.PlayLaws.{play-at, play-parts, lasso-of, start-of, table-cut}
+use Rattle.soundness.specs.PlayLaws.{play-at, play-parts, start-of, table-cut}
 use Rattle.soundness.specs.SoundLaws.{rounds-between, place-eq, returns, closes, agrees}
 
 -- ---- a lasso that is not refused is a play of at most 64 states
 module _ (m : Machine) (l : Lasso) where
-  pub good-length : badLength l ≡ false → (0 < length (l .loop)) × (lassoLength l ≤ 64)
-  unfolding badLength
-  good-length t =
-      let q = or-none _ _ t in
-      let some-loop : length (l .loop) ≡ 0 → ⊥ = eqb-false _ _ (q .0) in
-      (omega arith, ltb-false _ _ (q .1))
-
   -- what is right at position i
   pub record GoodStep (i : ℕ) : Type 0 where
     pub bound : moment l i < m .states
-    pub start : i ≡ 0 → starts m (moment l 0) ≡ true
-    pub entered : (i ≡ 0 → ⊥) → moves m (moment l (i - 1)) (moment l i) ≡ true
+    pub entry : Entered m l i
     pub closing : suc i ≡ lassoLength l → moves m (moment l i) (moment l (suc i)) ≡ true
 
   good-step : (i : ℕ) → badStep m l i ≡ false → GoodStep i
@@ -52,8 +46,7 @@ module _ (m : Machine) (l : Lasso) where
       let b = or-none _ _ (a .1) in
       record {
         bound = leb-false _ _ (a .0);
-        start = λ e. not-false _ (rw (eq-eqb i 0 e) at (b .0));
-        entered = λ e. not-false _ (rw (ne-eqb i 0 e) at (b .0));
+        entry = record { start = λ e. not-false _ (rw (eq-eqb i 0 e) at (b .0)); entered = λ e. not-false _ (rw (ne-eqb i 0 e) at (b .0)) };
         closing = λ e. ⊎-elim (λ u. u) (λ u. absurd (clash (b .1) (and-i (eq-eqb _ _ e) (not-i u)))) (dec (moves m (moment l i) (moment l (suc i))));
       }
 
@@ -74,7 +67,7 @@ module _ (m : Machine) (l : Lasso) where
       let a = valid-next _ _ _ e in
       let b = valid-next _ _ _ (a .1) in
       let c = valid-next _ _ _ (b .1) in
-      let long = good-length (a .0) in
+      let long = good-length l (a .0) in
       let steps : lassoLength l ≤ first (lassoLength l) (badStep m l) = ltb-false _ _ (b .0) in
       let sets : m .sets ≤ first (m .sets) (missedSet m l) = ltb-false _ _ (c .0) in
       record {
@@ -85,12 +78,12 @@ module _ (m : Machine) (l : Lasso) where
       }
 
   pub good-play : GoodLasso → isPlay m l ≡ true
-  good-play g = play-parts m l (lasso-of m l (g .some-loop) (λ t h. g .right t h .bound) moved) (g .fair)
-      (start-of m l (g .right 0 (omega (arith, g .some-loop)) .start refl))
+  good-play g = play-parts m l (lasso-of m l (g .some-loop) (λ t h. (g .right t h .bound, moved t h))) (g .fair)
+      (start-of m l (g .right 0 (omega (arith, g .some-loop)) .entry .start refl))
     where
       moved : (t : ℕ) → t < lassoLength l → moves m (moment l t) (moment l (suc t)) ≡ true
       moved t h = by-cases (decLt (suc t) (lassoLength l))
-          (λ q. let e : suc t - 1 ≡ t = omega arith in rw e at (g .right (suc t) q .entered (λ z. omega arith)))
+          (λ q. let e : suc t - 1 ≡ t = omega arith in rw e at (g .right (suc t) q .entry .entered (λ z. omega arith)))
           (λ q. g .right t h .closing (omega arith))
 
 module _ (p : Pair) (T : List ℕ) (l : Lasso) where

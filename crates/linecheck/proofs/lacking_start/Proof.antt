@@ -8,13 +8,14 @@ use lib.ListN.{length, getD}
 use borrow.Author.Count.{below-more, below-none}
 use borrow.Author.Needs.{needs}
 use borrow.Author.Tests.{not-true, not-false}
-use Rattle.machine.specs.Machines.{nC, nA}
+use Rattle.machine.specs.Machines.{starts, nC, nA}
 use Rattle.machine.specs.WellFormedLaws.{WellPair, well-pair}
 use Rattle.machine.specs.Table.{blank, entryIndex}
 use Rattle.machine.specs.RowLaws.{row-room}
 use Rattle.machine.specs.Verdict.{startCovered}
+use Rattle.machine.specs.VerdictLaws.{lacks, lacks-not, lacks-covered, lacks-is, lacking-is, lacking-none}
 use Rattle.linecheck.specs.BoundsLaws.{pairOf, place-at}
-use Rattle.linecheck.specs.StartsLaws.{lacks, lacks-not, lacks-covered, lacks-is, lacking-is, lacking-none, start-found}
+use Rattle.linecheck.specs.StartsLaws.{start-found}
 use Rattle.linecheck.proofs.lacking_start.Statement.{statement}
 use Rattle.linecheck.proofs.lacking_start.Tie as tie
 
@@ -98,6 +99,7 @@ has-partner-requires : tie.Need-has-partner-requires Inv-loop μ-loop
 has-partner-requires c κs = search needs
 
 returns : tie.Need-returns Inv-loop μ-loop
+unfolding starts
 returns c =
     let h = c .before .before .before .before .before in
     let l = h .before .before in
@@ -113,6 +115,7 @@ loop-less : tie.Need-loop-less Inv-loop μ-loop
 loop-less c = search needs
 
 loop-again : tie.Need-loop-again Inv-loop μ-loop
+unfolding starts
 loop-again c =
     let l = c .before .before .before in
     let x = top l .args in (

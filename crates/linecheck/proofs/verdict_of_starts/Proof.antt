@@ -4,8 +4,9 @@ use native.Mathlib.Omega.{arith}
 use borrow.Author.Needs.{needs}
 use Rattle.machine.specs.WellFormedLaws.{WellPair, well-pair, pairs-small, entries-small}
 use Rattle.machine.specs.Refusals.{answer}
+use Rattle.machine.specs.Table.{coveredCount}
+use Rattle.machine.specs.VerdictLaws.{start-lacking, start-carried}
 use Rattle.linecheck.specs.Answers.{verdictOf}
-use Rattle.linecheck.specs.AnswersLaws.{start-lacking, start-carried}
 use Rattle.linecheck.proofs.verdict_of_starts.Statement.{statement}
 use Rattle.linecheck.proofs.verdict_of_starts.Tie as tie
 
@@ -25,13 +26,13 @@ lacking-start-requires : tie.Need-lacking-start-requires
 lacking-start-requires c κs = search needs
 
 returns : tie.Need-returns
-unfolding verdictOf
+unfolding verdictOf coveredCount
 returns c =
     let x = c .before .before .before .before .before .before .args in
     sym (ap answer (start-lacking (x .p) (x .table .now) _ _ (c .before .before .covered-count .ensures) (c .before .lacking-start .ensures) (omega arith)))
 
 returns-2 : tie.Need-returns-2
-unfolding verdictOf
+unfolding verdictOf coveredCount
 returns-2 c =
     let x = c .before .before .before .before .before .before .args in
     sym (ap answer (start-carried (x .p) (x .table .now) _ _ (c .before .before .covered-count .ensures) (c .before .lacking-start .ensures) (omega arith)))

@@ -1,16 +1,15 @@
 -- The three tests are made in the order of the definition, and each return is the first that fails.
 use mathlib.Core.Bool.{false}
 use mathlib.Core.Path.{_≡_, sym, ap, _∙_}
-use Prim.Native.Nat.{ℕ, _≤_, _<_}
-use native.Mathlib.Numerals.{add-one}
+use Prim.Native.Nat.{_≤_, _<_}
 use native.Mathlib.Omega.{arith}
 use lib.ListN.{length}
 use borrow.Author.Needs.{needs}
-use Rattle.machine.specs.Refusals.{refused, testedOf, refusal, unfair-lasso}
+use Rattle.machine.specs.Refusals.{refused, testedOf}
 use Rattle.machine.specs.Lassos.{Lasso, lassoLength, given}
 use Rattle.machine.specs.Player.{badLength}
-use Rattle.soundness.specs.PlayerLaws.{good-length}
-use Rattle.player.specs.LassoLaws.{refused-length, refused-step, refused-set, not-refused}
+use Rattle.machine.specs.PlayerLaws.{good-length, refused-length, refused-step, refused-set, not-refused}
+use Rattle.player.specs.LassoLaws.{first-missed}
 use Rattle.player.proofs.lasso_validity.Statement.{statement}
 use Rattle.player.proofs.lasso_validity.Tie as tie
 
@@ -38,7 +37,7 @@ fit : (c : tie.Else1) → badLength (lasso (c .before)) ≡ false
 fit c = sym (c .before .bad-length .ensures) ∙ c .if1 .left
 
 sized : (c : tie.Else1) → (0 < length (lasso (c .before) .loop)) × (lassoLength (lasso (c .before)) ≤ 64)
-sized c = good-length (top (c .before) .args .m) (lasso (c .before)) (fit c)
+sized c = good-length (lasso (c .before)) (fit c)
 
 first-bad-step-requires : tie.Need-first-bad-step-requires
 first-bad-step-requires c κs = sized c
@@ -71,8 +70,8 @@ returns-3 c =
     let k = c .before .before .before in
     let s = k .before .before in
     let b = s .before .before in
-    ap refused (c .refuse3 .ensures ∙ ap (λ (k : ℕ). refusal unfair-lasso k 0 0) (add-one (k .first-missed-set .result)))
-    ∙ sym (refused-set (top b .args .m) (lasso b) (fit (s .before)) _ (s .first-bad-step .ensures) (k .before .if2 .left) _ (k .first-missed-set .ensures) (c .before .if3 .taken))
+    ap refused (c .refuse3 .ensures)
+    ∙ sym (refused-set (top b .args .m) (lasso b) (fit (s .before)) _ (s .first-bad-step .ensures) (k .before .if2 .left) _ (k .first-missed-set .ensures ∙ first-missed (top b .args .m) (lasso b)) (c .before .if3 .taken))
 
 returns-4 : tie.Need-returns-4
 unfolding testedOf
@@ -80,7 +79,7 @@ returns-4 c =
     let k = c .before .before in
     let s = k .before .before in
     let b = s .before .before in
-    sym (not-refused (top b .args .m) (lasso b) (fit (s .before)) _ (s .first-bad-step .ensures) (k .before .if2 .left) _ (k .first-missed-set .ensures) (c .if3 .left))
+    sym (not-refused (top b .args .m) (lasso b) (fit (s .before)) _ (s .first-bad-step .ensures) (k .before .if2 .left) _ (k .first-missed-set .ensures ∙ first-missed (top b .args .m) (lasso b)) (c .if3 .left))
 
 pub lasso-validity-spec : {M : Type 1} → statement M
 lasso-validity-spec =

@@ -17,13 +17,14 @@ use Rattle.machine.specs.Table.{entry}
 use Rattle.machine.specs.Lines.{nonBlank}
 use Rattle.machine.specs.Verdict.{Verdict, carried, notCarried}
 use Rattle.machine.specs.Player.{lassoValidity, startPartner}
+use Rattle.machine.specs.PlayerLaws.{play-valid}
 use Rattle.linecheck.specs.declared.Checked.{Checked}
 use Rattle.linecheck.specs.declared.Checked.the-variants.{Carried, NotCarried, Refused}
 use Rattle.linecheck.specs.Answers.{verdictOf}
 use Rattle.linecheck.proofs.Checked as said
 use Rattle.soundness.specs.PlayerLaws.{GoodLasso, good-lasso, Playable, playable}
 use Rattle.player.specs.Answers.{playedOf}
-use Rattle.player.specs.AnswerLaws.{Passes, check-passes, stopped-by, short-run, check-stops, lasso-stops, start-stops, play-valid, run-answer, run-buffer}
+use Rattle.player.specs.AnswerLaws.{Passes, check-passes, stopped-by, short-run, check-stops, lasso-stops, start-stops, run-answer, run-buffer}
 use Rattle.player.proofs.play.Statement.{statement}
 use Rattle.player.proofs.play.Tie as tie
 
@@ -168,7 +169,7 @@ can-play c a e =
     let d = m .before .before in
     let x = top d .args in
     playable (x .p) (x .table .now) (lasso d)
-    (play-valid (x .p) (x .table .now) (lasso d) (x .run .now) (d .if1 .left) (passes m) (tested (begun c)) a (named c a e))
+    (play-valid (x .p) (x .table .now) (lasso d) (passes m .pair) (passes m .lines) (tested (begun c)) a (named c a e))
 
 write-run-requires : tie.Need-write-run-requires
 unfolding stateOf

@@ -5,7 +5,7 @@ use native.Mathlib.Omega.{arith}
 use lib.ListN.{length}
 use borrow.Author.Needs.{needs}
 use Rattle.machine.specs.Lassos.{given}
-use Rattle.soundness.specs.PlayLaws.{moment-stem}
+use Rattle.machine.specs.LassosLaws.{moment-stem}
 use Rattle.player.specs.LassoLaws.{moment-cycle}
 use Rattle.player.proofs.state_at.Statement.{statement}
 use Rattle.player.proofs.state_at.Tie as tie

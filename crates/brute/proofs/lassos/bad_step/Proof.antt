@@ -1,28 +1,19 @@
 -- The parts of 14 are asked in order: the state's number, how it is entered, and the closing step at the last position.
-use mathlib.Core.Logic.{inl, inr, ⊎-elim}
-use mathlib.Core.Path.{_∙_, _≡_, ap, ap₂, sym}
-use Prim.Native.Nat.{_+_, _<_}
+use mathlib.Core.Logic.{⊎-elim}
+use mathlib.Core.Path.{_∙_, ap}
+use native.Mathlib.Numerals.{add-one}
 use native.Mathlib.Omega.{arith}
 use borrow.Author.Needs.{needs}
-use Rattle.mask.specs.LogicLaws.{not-is}
-use Rattle.machine.specs.Lassos.{moment, given}
-use Rattle.machine.specs.Machines.{moves, starts}
-use Rattle.brute.specs.RunLaws.{Entered, bad-large, bad-last, bad-move, bad-none, bad-start}
-use borrow.Author.Tests.{not-true, not-false}
+use Rattle.machine.specs.Lassos.{given, moment}
+use Rattle.machine.specs.PlayerLaws.{Entered, bad-entry, bad-start, bad-state, closing, good-before, good-entry, good-start}
 use Rattle.brute.proofs.lassos.bad_step.Statement.{statement}
 use Rattle.brute.proofs.lassos.bad_step.Tie as tie
 
-here : (c : tie.After-moment-at) → let x = c .before .before .before .args in c .moment-at .result ≡ moment (given (x .stem .now) (x .cycle .now)) (x .i)
-here c = c .moment-at .ensures
-
 entered : (c : tie.Joined2) → let x = c .before .before .before .before .before .before .args in Entered (x .m) (given (x .stem .now) (x .cycle .now)) (x .i)
 entered c = ⊎-elim
-    (λ w. inl (w .0 .taken, ap (starts (c .before .before .before .before .before .before .args .m)) (sym (here (c .before .before .before))) ∙ sym (w .1 .ensures) ∙ not-false _ (w .2 .left)))
-    (λ w. inr (w .0 .left, ap₂ (moves (c .before .before .before .before .before .before .args .m)) (sym (w .1 .ensures)) (sym (here (c .before .before .before))) ∙ sym (w .2 .ensures) ∙ not-false _ (w .3 .left)))
+    (λ w. good-start _ _ _ _ (c .before .before .before .moment-at .ensures) (w .0 .taken) _ (w .1 .ensures) (w .2 .left))
+    (λ w. good-entry _ _ _ _ (c .before .before .before .moment-at .ensures) (w .0 .left) _ (w .1 .ensures) _ (w .2 .ensures) (w .3 .left))
     (c .if2 .came)
-
-small : (c : tie.Else1) → let x = c .before .before .before .before .before .args in moment (given (x .stem .now) (x .cycle .now)) (x .i) < x .m .states
-small c = omega (arith, here (c .before .before))
 
 moment-at-requires : tie.Need-moment-at-requires
 moment-at-requires c κs = search needs
@@ -31,18 +22,14 @@ cast-s : tie.Need-cast-s
 cast-s c = search needs
 
 returns : tie.Need-returns
-returns c =
-    let x = c .before .before .before .before .before .args in
-    sym (bad-large (x .m) (given (x .stem .now) (x .cycle .now)) (x .i) (omega (arith, here (c .before .before))))
+returns c = bad-state _ _ _ _ (c .before .before .moment-at .ensures) (c .if1 .taken)
 
 has-start-requires : tie.Need-has-start-requires
 has-start-requires c κs = search needs
 
 returns-2 : tie.Need-returns-2
 returns-2 c =
-    let x = c .before .before .before .before .before .before .before .before .args in
-    sym (bad-start (x .m) (given (x .stem .now) (x .cycle .now)) (x .i) (c .before .before .if2 .taken)
-    (ap (starts (x .m)) (sym (here (c .before .before .before .before .before))) ∙ sym (c .before .has-start .ensures) ∙ not-true _ (c .if3 .taken)))
+    bad-start _ _ _ _ (c .before .before .before .before .before .moment-at .ensures) (c .before .before .if2 .taken) _ (c .before .has-start .ensures) (c .if3 .taken)
 
 sub-moment-at : tie.Need-sub-moment-at
 sub-moment-at c = search needs
@@ -58,9 +45,8 @@ has-move-requires c κs = search needs
 
 returns-3 : tie.Need-returns-3
 returns-3 c =
-    let x = c .before .before .before .before .before .before .before .before .before .args in
-    sym (bad-move (x .m) (given (x .stem .now) (x .cycle .now)) (x .i) (c .before .before .before .if2 .left)
-    (ap₂ (moves (x .m)) (sym (c .before .before .moment-at2 .ensures)) (sym (here (c .before .before .before .before .before .before))) ∙ sym (c .before .has-move .ensures) ∙ not-true _ (c .if4 .taken)))
+    bad-entry _ _ _ _ (c .before .before .before .before .before .before .moment-at .ensures) (c .before .before .before .if2 .left)
+    _ (c .before .before .moment-at2 .ensures) _ (c .before .has-move .ensures) (c .if4 .taken)
 
 add-if5 : tie.Need-add-if5
 add-if5 c = search needs
@@ -85,20 +71,19 @@ has-move-requires-2 c κs = search needs
 
 returns-4 : tie.Need-returns-4
 returns-4 c =
-    let x = c .before .before .before .before .before .before .before .before .before .before .args in
-    let l = given (x .stem .now) (x .cycle .now) in
-    let e : c .has-move2 .result ≡ moves (x .m) (moment l (x .i)) (moment l (x .i + 1)) = c .has-move2 .ensures ∙ ap₂ (moves (x .m)) (here (c .before .before .before .before .before .before .before)) (c .before .moment-at3 .ensures) in
-    rw e (sym (not-is _)) ∙ sym (bad-last (x .m) l (x .i) (small (c .before .before .before .before .before)) (entered (c .before .before .before .before)) (c .before .before .if6 .taken))
+    let d = c .before .before .before .before in
+    closing _ _ _ _ (d .before .before .before .moment-at .ensures) (d .before .if1 .left) (entered d) (omega arith)
+    _ (c .before .moment-at3 .ensures ∙ ap (moment _) (add-one _)) _ (c .has-move2 .ensures)
 
 returns-5 : tie.Need-returns-5
 returns-5 c =
-    let x = c .before .before .before .before .before .before .before .before .args in
-    sym (bad-none (x .m) (given (x .stem .now) (x .cycle .now)) (x .i) (small (c .before .before .before)) (entered (c .before .before)) (λ e. c .if6 .left (omega arith)))
+    let d = c .before .before in
+    good-before _ _ _ _ (d .before .before .before .moment-at .ensures) (d .before .if1 .left) (entered d) (λ e. c .if6 .left (omega arith))
 
 returns-6 : tie.Need-returns-6
 returns-6 c =
-    let x = c .before .before .before .before .before .before .before .args in
-    sym (bad-none (x .m) (given (x .stem .now) (x .cycle .now)) (x .i) (small (c .before .before)) (entered (c .before)) (λ e. omega arith))
+    let d = c .before in
+    good-before _ _ _ _ (d .before .before .before .moment-at .ensures) (d .before .if1 .left) (entered d) (λ e. omega arith)
 
 pub bad-step-spec : {M : Type 1} → statement M
 bad-step-spec =

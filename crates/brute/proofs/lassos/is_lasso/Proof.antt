@@ -8,7 +8,8 @@ use borrow.Author.Needs.{needs}
 use Rattle.mask.specs.LogicLaws.{clash}
 use Rattle.machine.specs.Lassos.{moment, given}
 use Rattle.machine.specs.Machines.{moves}
-use Rattle.brute.specs.RunLaws.{Goes, lasso-all, lasso-empty, lasso-not}
+use Rattle.machine.specs.LassosLaws.{Goes, lasso-of}
+use Rattle.brute.specs.RunLaws.{lasso-empty, lasso-not}
 use borrow.Author.Tests.{not-true, not-false}
 use Rattle.brute.proofs.lassos.is_lasso.Statement.{statement}
 use Rattle.brute.proofs.lassos.is_lasso.Tie as tie
@@ -78,7 +79,7 @@ loop-again c =
 returns-4 : tie.Need-returns-4 Inv-loop μ-loop
 returns-4 c =
     let x = c .before .before .before .before .before .args in
-    sym (lasso-all (x .m) (given (x .stem .now) (x .cycle .now)) (c .before .before .if1 .left) (λ k h. c .before .loop .inv .1 k (omega arith)))
+    sym (lasso-of (x .m) (given (x .stem .now) (x .cycle .now)) (omega arith) (λ k h. c .before .loop .inv .1 k (omega arith)))
 
 pub is-lasso-spec : {M : Type 1} → statement M
 is-lasso-spec =

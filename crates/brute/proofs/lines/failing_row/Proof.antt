@@ -6,13 +6,12 @@ use native.Mathlib.Omega.{arith}
 use borrow.Author.Count.{below-more, below-none}
 use borrow.Author.Needs.{needs}
 use Rattle.mask.specs.Bounded.{every}
-use Rattle.mask.specs.BoundedLaws.{first-is, first-none}
+use Rattle.mask.specs.BoundedLaws.{first-all, first-is, first-none, first-some}
 use Rattle.mask.specs.Logic.{not}
 use Rattle.mask.specs.LogicLaws.{not-f, not-i}
 use Rattle.machine.specs.Lines.{passes}
 use Rattle.machine.specs.Machines.{nA}
 use Rattle.machine.specs.WellFormedLaws.{WellPair, well-pair}
-use Rattle.brute.specs.TargetLaws.{first-all, first-some}
 use Rattle.brute.proofs.lines.failing_row.Statement.{statement}
 use Rattle.brute.proofs.lines.failing_row.Tie as tie
 

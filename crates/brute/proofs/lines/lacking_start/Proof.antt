@@ -6,18 +6,14 @@ use Prim.Native.Nat.{_-_, _<_, _≤_, ℕ}
 use native.Mathlib.Omega.{arith}
 use borrow.Author.Count.{below-more, below-none}
 use borrow.Author.Needs.{needs}
-use Rattle.mask.specs.BoundedLaws.{first-is, first-none}
-use Rattle.mask.specs.Logic.{and, not}
-use Rattle.mask.specs.LogicLaws.{and-false-l, and-false-r, and-i, not-f, not-i}
-use Rattle.machine.specs.Machines.{starts}
-use Rattle.machine.specs.Verdict.{lackingStart, startCovered}
+use Rattle.machine.specs.VerdictLaws.{lacking-is, lacking-none, lacks, lacks-covered, lacks-is, lacks-not}
 use Rattle.machine.specs.WellFormedLaws.{WellPair, well-pair}
 use borrow.Author.Tests.{not-true, not-false}
 use Rattle.brute.proofs.lines.lacking_start.Statement.{statement}
 use Rattle.brute.proofs.lines.lacking_start.Tie as tie
 
 abbrev Inv-loop : tie.InvT-loop
-Inv-loop p table concrete c₀ c-end c = (c ≤ c-end) × ((k : ℕ) → k < c → and (starts (p .concrete) k) (not (startCovered p table k)) ≡ false)
+Inv-loop p table concrete c₀ c-end c = (c ≤ c-end) × ((k : ℕ) → k < c → lacks p table k ≡ false)
 
 abbrev μ-loop : tie.MeasureT-loop
 μ-loop p table concrete c₀ c-end c = c-end - c
@@ -35,11 +31,12 @@ start-covered-requires : tie.Need-start-covered-requires Inv-loop μ-loop
 start-covered-requires c κs = let w = well (c .before .before .before .before .before .before) in (c .before .before .before .before .before .before .pre, omega (arith, w .concrete .states-high))
 
 returns : tie.Need-returns Inv-loop μ-loop
-unfolding lackingStart
 returns c =
-    let x = c .before .before .before .before .before .before .before .before .args in
-    sym (first-is _ _ (c .before .before .before .before .before .loop .c) (omega arith)
-    (and-i (sym (c .before .before .before .has-start .ensures) ∙ c .before .before .if1 .taken) (not-i (sym (c .before .start-covered .ensures) ∙ not-true _ (c .if2 .taken)))) (c .before .before .before .before .before .loop .inv .1))
+    let l = c .before .before .before .before .before in
+    let x = l .before .before .before .args in
+    sym (lacking-is (x .p) (x .table .now) (l .loop .c) (omega arith)
+    (lacks-is (x .p) (x .table .now) (l .loop .c) (sym (c .before .before .before .has-start .ensures) ∙ c .before .before .if1 .taken) (sym (c .before .start-covered .ensures) ∙ not-true _ (c .if2 .taken)))
+    (l .loop .inv .1))
 
 add-c : tie.Need-add-c Inv-loop μ-loop
 add-c c = let w = well (c .before .before .before .before .before .before) in omega (arith, w .concrete .states-high)
@@ -48,17 +45,20 @@ loop-less : tie.Need-loop-less Inv-loop μ-loop
 loop-less c = search needs
 
 loop-again : tie.Need-loop-again Inv-loop μ-loop
-loop-again c = (
-  search needs,
-  below-more _ _ (c .before .before .before .loop .inv .1) (⊎-elim
-      (λ w. and-false-r _ (not-f (sym (w .1 .ensures) ∙ not-false _ (w .2 .left))))
-      (λ w. and-false-l _ (sym (c .before .has-start .ensures) ∙ w .left))
-      (c .if1 .came)),
-)
+loop-again c =
+    let l = c .before .before .before in
+    let x = l .before .before .before .args in (
+      search needs,
+      below-more _ _ (l .loop .inv .1) (⊎-elim
+          (λ w. lacks-covered (x .p) (x .table .now) (l .loop .c) (sym (w .1 .ensures) ∙ not-false _ (w .2 .left)))
+          (λ w. lacks-not (x .p) (x .table .now) (l .loop .c) (sym (c .before .has-start .ensures) ∙ w .left))
+          (c .if1 .came)),
+    )
 
 returns-2 : tie.Need-returns-2 Inv-loop μ-loop
-unfolding lackingStart
-returns-2 c = sym (first-none _ _ (λ k h. c .before .loop .inv .1 k (omega arith)))
+returns-2 c =
+    let x = c .before .before .before .before .args in
+    sym (lacking-none (x .p) (x .table .now) (λ k h. c .before .loop .inv .1 k (omega arith)))
 
 pub lacking-start-spec : {M : Type 1} → statement M
 lacking-start-spec =

@@ -2,17 +2,18 @@
 use mathlib.Core.Bool.{cond}
 use mathlib.Core.Logic.{⊎-elim}
 use mathlib.Core.Path.{_∙_, _≡_, sym}
-use Prim.Native.Nat.{_-_}
+use Prim.Native.Nat.{_-_, _≤_}
 use native.Mathlib.Omega.{arith}
 use lib.ListN.{length}
 use borrow.Author.Needs.{needs}
 use Rattle.mask.specs.Bits.{hasBit}
-use Rattle.brute.specs.FillLaws.{Filling, filling-done, filling-start, filling-step}
+use Rattle.mask.specs.Tables.{front}
+use Rattle.mask.specs.FrontLaws.{front-all, front-length, front-none, front-turn}
 use Rattle.brute.proofs.numbers.put_bits.Statement.{statement}
 use Rattle.brute.proofs.numbers.put_bits.Tie as tie
 
 abbrev Inv-loop : tie.InvT-loop
-Inv-loop m out₀ s₀ s-end out s = Filling (length out₀) (λ k. cond (hasBit m k) 1 0) s out
+Inv-loop m out₀ s₀ s-end out s = (s ≤ length out₀) × (out ≡ front s (λ k. cond (hasBit m k) 1 0) out₀)
 
 abbrev μ-loop : tie.MeasureT-loop
 μ-loop m out₀ s₀ s-end out s = s-end - s
@@ -26,13 +27,13 @@ bit c =
     ⊎-elim (λ w. w .1 ∙ rw (e ∙ w .0 .taken)) (λ w. w .1 ∙ rw (e ∙ w .0 .left)) (c .if1 .came)
 
 loop-holds : tie.Need-loop-holds Inv-loop μ-loop
-loop-holds c = filling-start _ _
+loop-holds c = (search needs, front-none _ _)
 
 has-requires : tie.Need-has-requires Inv-loop μ-loop
 has-requires c κs = search needs
 
 slice-write-out : tie.Need-slice-write-out Inv-loop μ-loop
-slice-write-out c = omega (arith, c .before .before .before .loop .inv .size)
+slice-write-out c = let d = c .before .before .before .loop .inv in omega (arith, front-length _ _ (d .1) (d .0))
 
 add-s : tie.Need-add-s Inv-loop μ-loop
 add-s c = search needs
@@ -41,13 +42,13 @@ loop-less : tie.Need-loop-less Inv-loop μ-loop
 loop-less c = search needs
 
 loop-again : tie.Need-loop-again Inv-loop μ-loop
-loop-again c = filling-step _ (c .before .before .before .loop .inv) (omega arith) (bit c)
+loop-again c = (omega arith, front-turn _ _ (c .before .before .before .loop .inv .1) (omega arith) (bit c))
 
 same-length : tie.Need-same-length Inv-loop μ-loop
-same-length c = c .before .loop .inv .size
+same-length c = let d = c .before .loop .inv in front-length _ _ (d .1) (d .0)
 
 returns : tie.Need-returns Inv-loop μ-loop
-returns c = filling-done (c .before .loop .inv) (omega arith)
+returns c = let d = c .before .loop .inv in front-all _ _ (d .1) (omega (arith, d .0))
 
 pub put-bits-spec : {M : Type 1} → statement M
 put-bits-spec =

@@ -5,14 +5,15 @@ use Prim.Native.Nat.{_-_, _≤_, min}
 use native.Mathlib.Omega.{arith}
 use lib.ListN.{length}
 use borrow.Author.Needs.{needs}
-use Rattle.brute.specs.FillLaws.{Overlaying, overlaying-done, overlaying-start, overlaying-step}
+use Rattle.mask.specs.Tables.{front}
+use Rattle.mask.specs.FrontLaws.{front-length, front-none, front-over, front-turn}
 use Rattle.brute.specs.Numbers.{digitOf, entryOf, numberedTable}
 use Rattle.brute.specs.NumbersLaws.{digit-le}
 use Rattle.brute.proofs.numbers.put_entries.Statement.{statement}
 use Rattle.brute.proofs.numbers.put_entries.Tie as tie
 
 abbrev Inv-loop : tie.InvT-loop
-Inv-loop x top n table₀ end e₀ table e = (e ≤ end) × (end ≡ min n (length table₀)) × Overlaying table₀ (λ k. entryOf (digitOf top x k)) e table
+Inv-loop x top n table₀ end e₀ table e = (e ≤ end) × (end ≡ min n (length table₀)) × (table ≡ front e (λ k. entryOf (digitOf top x k)) table₀)
 
 abbrev μ-loop : tie.MeasureT-loop
 μ-loop x top n table₀ end e₀ table e = end - e
@@ -24,7 +25,7 @@ small c =
     rw (c .digit .ensures) (digit-le (x .top) (x .x) (l .loop .e))
 
 loop-holds : tie.Need-loop-holds Inv-loop μ-loop
-loop-holds c = (search needs, ⊎-elim (λ w. omega arith) (λ w. omega arith) (c .if1 .came), overlaying-start _ _)
+loop-holds c = (search needs, ⊎-elim (λ w. omega arith) (λ w. omega arith) (c .if1 .came), front-none _ _)
 
 digit-requires : tie.Need-digit-requires Inv-loop μ-loop
 digit-requires c κs = search needs
@@ -36,10 +37,10 @@ entry-of-requires : tie.Need-entry-of-requires Inv-loop μ-loop
 entry-of-requires c κs = search needs
 
 mul-table : tie.Need-mul-table Inv-loop μ-loop
-mul-table c = let l = c .before .before .before in omega (arith, l .loop .inv .1, l .loop .inv .2 .size)
+mul-table c = let d = c .before .before .before .loop .inv in omega (arith, d .1, front-length _ _ (d .2) (omega arith))
 
 slice-write-table : tie.Need-slice-write-table Inv-loop μ-loop
-slice-write-table c = let l = c .before .before .before in omega (arith, l .loop .inv .1, l .loop .inv .2 .size)
+slice-write-table c = let d = c .before .before .before .loop .inv in omega (arith, d .1, front-length _ _ (d .2) (omega arith))
 
 add-e : tie.Need-add-e Inv-loop μ-loop
 add-e c = search needs
@@ -50,14 +51,14 @@ loop-less c = search needs
 loop-again : tie.Need-loop-again Inv-loop μ-loop
 loop-again c =
     let l = c .before .before .before in
-    (search needs, l .loop .inv .1, overlaying-step _ (l .loop .inv .2) (omega (arith, l .loop .inv .1)) (c .entry-of .ensures ∙ ap entryOf (c .before .digit .ensures)))
+    (search needs, l .loop .inv .1, front-turn _ _ (l .loop .inv .2) (omega (arith, l .loop .inv .1)) (c .entry-of .ensures ∙ ap entryOf (c .before .digit .ensures)))
 
 same-length : tie.Need-same-length Inv-loop μ-loop
-same-length c = c .before .loop .inv .2 .size
+same-length c = let d = c .before .loop .inv in front-length _ _ (d .2) (omega arith)
 
 returns : tie.Need-returns Inv-loop μ-loop
 unfolding numberedTable
-returns c = let l = c .before .loop in overlaying-done _ (l .inv .2) (omega (arith, l .inv .1))
+returns c = let l = c .before .loop in front-over _ _ (l .inv .2) _ (omega (arith, l .inv .1))
 
 pub put-entries-spec : {M : Type 1} → statement M
 put-entries-spec =

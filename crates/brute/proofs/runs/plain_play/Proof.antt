@@ -13,7 +13,8 @@ use Rattle.machine.specs.RefusalsLaws.{tested-refused, tested-valid}
 use Rattle.machine.specs.WellFormed.{pairValidity}
 use Rattle.machine.specs.WellFormedLaws.{mul-bound, valid-is-well}
 use Rattle.brute.specs.Runs.{playedOf}
-use Rattle.brute.specs.ScanLaws.{played-alone, played-fail, played-ill, played-run, played-unfit, valid-length}
+use Rattle.machine.specs.PlayerLaws.{lasso-length, play-alone, play-fails, play-ill, play-unfit, play-valid}
+use Rattle.brute.specs.ScanLaws.{played-refused, played-run}
 use Rattle.brute.proofs.runs.plain_play.Statement.{statement}
 use Rattle.brute.proofs.runs.plain_play.Tie as tie
 
@@ -44,7 +45,7 @@ room c =
     let x = c .before .before .before .before .before .before .before .before .before .before .before .before .before .before .before .before .before .before .before .args in
     let a : c .before .last-round .result ≤ 449 = rw (c .before .last-round .ensures) (first-le 449 _) in
     let b : c .earlier-round .result ≤ c .before .last-round .result = rw (c .earlier-round .ensures) (first-le _ _) in
-    let n = valid-length _ _ (fits (c .before .before .before .before .before .before)) in
+    let n = lasso-length _ _ (fits (c .before .before .before .before .before .before)) .1 in
     (a, b, n, mul-bound _ _ 449 64 (omega arith) (omega arith), mul-bound _ _ 449 64 (omega arith) (omega arith))
 
 validity-requires : tie.Need-validity-requires
@@ -57,7 +58,7 @@ returns : tie.Need-returns
 unfolding playedOf
 returns c =
     let x = c .before .before .before .before .before .before .before .before .args in
-    sym (played-ill (x .p) (x .table .now) (given (x .stem .now) (x .cycle .now)) _ (tested-refused (c .before .before .before .validity .ensures) (c .before .valid .given .1)))
+    sym (played-refused (x .p) (x .table .now) (given (x .stem .now) (x .cycle .now)) _ (play-ill (x .p) (x .table .now) (given (x .stem .now) (x .cycle .now)) _ (tested-refused (c .before .before .before .validity .ensures) (c .before .valid .given .1))))
 
 enum-told : tie.Need-enum-told
 enum-told c = search needs
@@ -72,7 +73,7 @@ returns-2 : tie.Need-returns-2
 unfolding playedOf
 returns-2 c =
     let x = c .before .before .before .before .before .before .before .before .before .before .before .args in
-    sym (played-fail (x .p) (x .table .now) (given (x .stem .now) (x .cycle .now)) (formed (c .before .before .before .before)) _ (tested-refused (c .before .before .before .lines .ensures) (c .before .passed .given .1)))
+    sym (played-refused (x .p) (x .table .now) (given (x .stem .now) (x .cycle .now)) _ (play-fails (x .p) (x .table .now) (given (x .stem .now) (x .cycle .now)) (formed (c .before .before .before .before)) _ (tested-refused (c .before .before .before .lines .ensures) (c .before .passed .given .1))))
 
 enum-told-2 : tie.Need-enum-told-2
 enum-told-2 c = search needs
@@ -87,7 +88,7 @@ returns-3 : tie.Need-returns-3
 unfolding playedOf
 returns-3 c =
     let x = c .before .before .before .before .before .before .before .before .before .before .before .before .before .before .args in
-    sym (played-unfit (x .p) (x .table .now) (given (x .stem .now) (x .cycle .now)) (formed (c .before .before .before .before .before .before .before)) (passed (c .before .before .before .before)) _ (tested-refused (c .before .before .before .lasso-fits .ensures) (c .before .fits2 .given .1)))
+    sym (played-refused (x .p) (x .table .now) (given (x .stem .now) (x .cycle .now)) _ (play-unfit (x .p) (x .table .now) (given (x .stem .now) (x .cycle .now)) (formed (c .before .before .before .before .before .before .before)) (passed (c .before .before .before .before)) _ (tested-refused (c .before .before .before .lasso-fits .ensures) (c .before .fits2 .given .1))))
 
 enum-told-3 : tie.Need-enum-told-3
 enum-told-3 c = search needs
@@ -113,17 +114,17 @@ returns-4 c =
     let alone = c .before in
     let x = alone .before .before .before .before .before .before .before .before .before .before .before .before .before .before .before .before .before .args in
     ap refused (c .refuse .ensures)
-    ∙ sym (played-alone (x .p) (x .table .now) (given (x .stem .now) (x .cycle .now)) (formed (alone .before .before .before .before .before .before .before .before .before .before)) (passed (alone .before .before .before .before .before .before .before)) (fits (alone .before .before .before .before)) (sym (start (alone .before .before)) ∙ alone .enum-told4 .given .1))
+    ∙ sym (played-refused (x .p) (x .table .now) (given (x .stem .now) (x .cycle .now)) _ (play-alone (x .p) (x .table .now) (given (x .stem .now) (x .cycle .now)) (formed (alone .before .before .before .before .before .before .before .before .before .before)) (passed (alone .before .before .before .before .before .before .before)) (fits (alone .before .before .before .before)) (sym (start (alone .before .before)) ∙ alone .enum-told4 .given .1)))
 
 enum-told-5 : tie.Need-enum-told-5
 enum-told-5 c = search needs
 
 last-round-requires : tie.Need-last-round-requires
-last-round-requires c κs = (valid-is-well _ (formed (c .before .before .before .before .before .before .before .before .before .before)), valid-length _ _ (fits (c .before .before .before .before)))
+last-round-requires c κs = (valid-is-well _ (formed (c .before .before .before .before .before .before .before .before .before .before)), lasso-length _ _ (fits (c .before .before .before .before)) .1)
 
 earlier-round-requires : tie.Need-earlier-round-requires
 unfolding lastRound
-earlier-round-requires c κs = (valid-is-well _ (formed (c .before .before .before .before .before .before .before .before .before .before .before)), (valid-length _ _ (fits (c .before .before .before .before .before)), rw (c .last-round .ensures) (first-le 449 _)))
+earlier-round-requires c κs = (valid-is-well _ (formed (c .before .before .before .before .before .before .before .before .before .before .before)), (lasso-length _ _ (fits (c .before .before .before .before .before)) .1, rw (c .last-round .ensures) (first-le 449 _)))
 
 mul-t19 : tie.Need-mul-t19
 mul-t19 c = omega (arith, room c)
@@ -141,7 +142,7 @@ returns-5 : tie.Need-returns-5
 unfolding playedOf
 returns-5 c =
     let x = c .before .before .before .before .before .before .before .before .before .before .before .before .before .before .before .before .before .before .before .args in
-    sym (played-run (x .p) (x .table .now) (given (x .stem .now) (x .cycle .now)) (formed (c .before .before .before .before .before .before .before .before .before .before .before .before)) (passed (c .before .before .before .before .before .before .before .before .before)) (fits (c .before .before .before .before .before .before)) _ _ _ (sym (start (c .before .before .before .before)) ∙ c .before .before .enum-told5 .given .1) (c .before .last-round .ensures) (c .earlier-round .ensures))
+    sym (played-run (x .p) (x .table .now) (given (x .stem .now) (x .cycle .now)) (play-valid (x .p) (x .table .now) (given (x .stem .now) (x .cycle .now)) (formed (c .before .before .before .before .before .before .before .before .before .before .before .before)) (passed (c .before .before .before .before .before .before .before .before .before)) (fits (c .before .before .before .before .before .before)) _ (sym (start (c .before .before .before .before)) ∙ c .before .before .enum-told5 .given .1)) _ _ (c .before .last-round .ensures) (c .earlier-round .ensures))
 
 pub plain-play-spec : {M : Type 1} → statement M
 plain-play-spec =

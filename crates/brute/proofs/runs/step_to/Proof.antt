@@ -3,7 +3,8 @@ use native.Mathlib.Omega.{arith}
 use borrow.Author.Needs.{needs}
 use Rattle.machine.specs.WellFormedLaws.{WellPair, well-pair}
 use Rattle.brute.specs.Runs.{asPlace}
-use Rattle.brute.specs.ScanLaws.{section-small, step-is}
+use Rattle.machine.specs.PlayerLaws.{section-lt}
+use Rattle.brute.specs.ScanLaws.{step-is}
 use Rattle.brute.proofs.runs.step_to.Statement.{statement}
 use Rattle.brute.proofs.runs.step_to.Tie as tie
 
@@ -20,7 +21,7 @@ least-partner-requires : tie.Need-least-partner-requires
 least-partner-requires c κs =
     let x = c .before .before .before .args in
     let w = well (c .before .before .before) in
-    (c .before .before .before .pre .0, omega (arith, c .before .section-after .ensures, section-small (x .p) (x .table .now) (x .c) (asPlace (x .at)) (c .before .before .before .pre .1 .1 .1 .1), w .abstraction .sets-high))
+    (c .before .before .before .pre .0, omega (arith, c .before .section-after .ensures, section-lt (x .p) (x .table .now) (x .c) (asPlace (x .at)) (c .before .before .before .pre .1 .1 .1 .1), w .abstraction .sets-high))
 
 state-of-requires : tie.Need-state-of-requires
 state-of-requires c κs = search needs

@@ -7,8 +7,8 @@ use lib.ListN.{length, drop}
 use lib.Seq.{paste}
 use borrow.Author.Needs.{needs}
 use Rattle.codec.specs.Reader.{payloadByte}
-use Rattle.codec.specs.Loading.{front}
-use Rattle.codec.specs.FrontLaws.{front-none}
+use Rattle.mask.specs.Tables.{front}
+use Rattle.mask.specs.FrontLaws.{front-none, front-end}
 use Rattle.codec.specs.BlockLaws.{join-turn}
 use Rattle.codec.proofs.reader.join.Statement.{statement}
 use Rattle.codec.proofs.reader.join.Tie as tie
@@ -58,7 +58,7 @@ returns : tie.Need-returns Inv-loop μ-loop
 returns c =
     let a = c .before .before .before .before .args in
     let e : c .before .loop .i ≡ length (a .bytes .now) / 512 = omega arith in
-    c .before .loop .inv .2 ∙ ap (λ (n : ℕ). front (508 * n) (payloadByte (a .bytes .now)) (a .payload .now)) e
+    front-end _ _ (c .before .loop .inv .2) (ap (λ (n : ℕ). 508 * n) e)
 
 pub join-spec : {M : Type 1} → statement M
 join-spec =

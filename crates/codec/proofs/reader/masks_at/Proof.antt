@@ -1,13 +1,12 @@
 -- After k turns the first k masks are written, and those behind are as they were.
-use Prim.Native.Nat.{ℕ, _+_, _-_, _*_, _≤_}
-use mathlib.Core.Path.{_≡_, refl, ap, _∙_}
+use Prim.Native.Nat.{_+_, _-_, _*_, _≤_}
+use mathlib.Core.Path.{_≡_, refl, _∙_}
 use native.Mathlib.Omega.{arith}
-use lib.ListN.{length, set, length-set}
-use mathlib.Core.List.{List}
+use lib.ListN.{length, length-set}
 use borrow.Author.Needs.{needs}
 use Rattle.codec.specs.Format.{numberAt}
-use Rattle.codec.specs.Loading.{front}
-use Rattle.codec.specs.FrontLaws.{front-none, front-turn}
+use Rattle.mask.specs.Tables.{front}
+use Rattle.mask.specs.FrontLaws.{front-none, front-turn, front-end}
 use Rattle.codec.proofs.reader.masks_at.Statement.{statement}
 use Rattle.codec.proofs.reader.masks_at.Tie as tie
 
@@ -43,22 +42,17 @@ loop-less c = search needs
 
 loop-again : tie.Need-loop-again Inv-loop μ-loop
 loop-again c =
-    let l = c .before .before .loop in
-    let a = c .before .before .before .before .before .args in
-    let g : ℕ → ℕ = λ i. numberAt 8 (a .q .now) (a .at + 8 * i) in (
+    let l = c .before .before .loop in (
       omega arith,
       length-set (l .out) (l .k) (c .number-at .result) ∙ l .inv .1,
-      ap (λ (m : List ℕ). set m (l .k) (c .number-at .result)) (l .inv .2)
-          ∙ front-turn g (a .out .now) (l .k) (c .number-at .result) (omega arith) (c .number-at .ensures .0),
+      front-turn _ _ (l .inv .2) (omega arith) (c .number-at .ensures .0),
     )
 
 same-length : tie.Need-same-length Inv-loop μ-loop
 same-length c = c .before .loop .inv .1
 
 returns : tie.Need-returns Inv-loop μ-loop
-returns c =
-    let a = c .before .before .before .before .args in
-    c .before .loop .inv .2 ∙ ap (λ (n : ℕ). front n (λ i. numberAt 8 (a .q .now) (a .at + 8 * i)) (a .out .now)) (omega arith)
+returns c = front-end _ _ (c .before .loop .inv .2) (omega arith)
 
 pub masks-at-spec : {M : Type 1} → statement M
 masks-at-spec =

@@ -1,12 +1,11 @@
 -- After s turns the first s observations are written over the zeros.
 use Prim.Native.Nat.{ℕ, _+_, _-_, _≤_}
-use mathlib.Core.Path.{_≡_, refl, ap, _∙_}
+use mathlib.Core.Path.{_≡_, refl, _∙_}
 use native.Mathlib.Omega.{arith}
-use mathlib.Core.List.{List}
-use lib.ListN.{getD, set, length, length-set, replicate, length-replicate}
+use lib.ListN.{getD, length, length-set, replicate, length-replicate}
 use borrow.Author.Needs.{needs}
-use Rattle.codec.specs.Loading.{front}
-use Rattle.codec.specs.FrontLaws.{front-none, front-turn}
+use Rattle.mask.specs.Tables.{front}
+use Rattle.mask.specs.FrontLaws.{front-none, front-turn, front-end}
 use Rattle.codec.proofs.reader.observations_at.Statement.{statement}
 use Rattle.codec.proofs.reader.observations_at.Tie as tie
 
@@ -41,13 +40,11 @@ loop-again c =
     let v = getD (a .q .now) (a .at + l .s) 0 in (
       omega arith,
       length-set (l .out) (l .s) v ∙ l .inv .1,
-      ap (λ (m : List ℕ). set m (l .s) v) (l .inv .2) ∙ front-turn (λ k. getD (a .q .now) (a .at + k) 0) (replicate 64 0) (l .s) v (omega (arith, length-replicate {A = ℕ} 64 0)) refl,
+      front-turn _ _ (l .inv .2) (omega (arith, length-replicate {A = ℕ} 64 0)) refl,
     )
 
 returns : tie.Need-returns Inv-loop μ-loop
-returns c =
-    let a = c .before .before .args in
-    c .before .loop .inv .2 ∙ ap (λ (n : ℕ). front n (λ k. getD (a .q .now) (a .at + k) 0) (replicate 64 0)) (omega arith)
+returns c = front-end _ _ (c .before .loop .inv .2) (omega arith)
 
 pub observations-at-spec : {M : Type 1} → statement M
 observations-at-spec =

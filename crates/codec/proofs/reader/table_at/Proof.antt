@@ -4,7 +4,7 @@ use mathlib.Core.Path.{_≡_, ap₂, _∙_}
 use native.Mathlib.Omega.{arith}
 use Rattle.codec.specs.Format.{numberAt}
 use Rattle.codec.specs.Loading.{entriesPlace, entriesCount}
-use Rattle.codec.specs.Loading.{front}
+use Rattle.mask.specs.Tables.{front}
 use Rattle.codec.specs.ReaderLaws.{pairs-room, entries-fit, entries-end, table-is}
 use borrow.Author.Needs.{needs}
 use Rattle.codec.proofs.reader.table_at.Statement.{statement}

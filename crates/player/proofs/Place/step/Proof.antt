@@ -11,10 +11,11 @@ use Rattle.machine.specs.Lassos.{Lasso, moment, given}
 use Rattle.machine.specs.Step.{partner, stateOf}
 use Rattle.machine.specs.Table.{tableRoom, entryIndex, entry}
 use Rattle.machine.specs.Lines.{nonBlank}
+use Rattle.machine.specs.PlayerLaws.{after-lt}
 use Rattle.player.specs.declared.Place.{Place}
-use Rattle.player.specs.Places.{onward, Placed}
+use Rattle.player.specs.Places.{Placed}
 use Rattle.player.specs.RowLaws.{index-is, index-lt}
-use Rattle.player.specs.PlaceLaws.{onward-placed, beside-lt, state-lt, section-lt, after-lt, steps-on}
+use Rattle.player.specs.PlaceLaws.{onward-placed, beside-lt, state-lt, section-lt, steps-on}
 use Rattle.player.proofs.Place.step.Statement.{statement}
 use Rattle.player.proofs.Place.step.Tie as tie
 
