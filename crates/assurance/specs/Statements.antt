@@ -17,9 +17,9 @@ use Rattle.machine.specs.Lassos.{Lasso, isPlay, SameObservations}
 use Rattle.machine.specs.Table.{tableRoom, entry, covers, entries, IsTable}
 use Rattle.machine.specs.Ranks.{solverTable}
 use Rattle.machine.specs.Lines.{passesEach}
-use Rattle.machine.specs.Verdict.{carried, checkVerdict}
+use Rattle.machine.specs.Verdict.{carried, HasStarts, checkVerdict}
 use Rattle.theory.specs.Figure2.{figure2, FigureGoal}
-use Rattle.theory.specs.Statements.{IsRank, HasStarts}
+use Rattle.theory.specs.Statements.{IsRank}
 use Rattle.codec.specs.Reader.{taken, readAnswer, readTable}
 use Rattle.codec.specs.Writer.{fileRoom}
 use Rattle.codec.specs.Statements.{AreBytes, WriteRead, ReadWrite, WrittenReads, ReadWrites, FirstBlockTellsSize, EntriesUnread}

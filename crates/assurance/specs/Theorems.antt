@@ -1,5 +1,5 @@
 -- A proof of each statement of demands 2 and 3, by name.
-use mathlib.Core.Bool.{Bool, true}
+use mathlib.Core.Bool.{true}
 use mathlib.Core.List.{List, _++_}
 use mathlib.Core.Path.{_≡_, refl, sym, ap, _∙_}
 use Prim.Native.Nat.{ℕ, _+_, _-_, _≤_, _<_}
@@ -74,7 +74,7 @@ solver-takes-machines p T well room = solve-takes p T well room
 -- ---- what the solver leaves in a table with room, of well-formed machines
 module _ (p : Pair) (T : List ℕ) (well : wellFormed p ≡ true) (room : tableRoom ≤ length T) where
   said-same : checkVerdict p (solvedTable p T) ≡ linesVerdict p (solverTable p)
-  said-same = check-lines p _ (solved-room p T well room) ∙ verdict-same p _ _ (solved-same p T well room) (well-pair p well .abstraction .sets-low)
+  said-same = check-lines p _ (solved-room p T well room) ∙ verdict-same p _ _ (solved-same p T well room)
 
   entry-rank : (j c a : ℕ) → j < setsA p → c < nC p → a < nA p → entry p (solvedTable p T) j c a ≡ rank p j c a
   entry-rank j c a hj hc ha = entry-same p _ _ (solved-same p T well room) j c a hj hc ha ∙ table-holds-ranks p j c a hj hc ha

@@ -16,7 +16,7 @@ use Rattle.mask.specs.TablesLaws.{table-length}
 use Rattle.machine.specs.declared.Machine.{Machine}
 use Rattle.machine.specs.declared.Pair.{Pair}
 use Rattle.machine.specs.declared.Refusal.{Refusal}
-use Rattle.machine.specs.Refusals.{Tested, valid, answer, refused, refusal, andThen, bufferAfter, bad-block, bad-padding, beyond-counts, no-start, no-successor, bufferValidity}
+use Rattle.machine.specs.Refusals.{Tested, valid, answer, refused, refusal, andThen, passOn, bufferAfter, bad-block, bad-padding, beyond-counts, no-start, no-successor, bufferValidity}
 use Rattle.machine.specs.RefusalsLaws.{refused-not-answer, refused-is, then-of, then-refused, then-answer, then-cases, given-of, given-at, given-refused, buffer-room, buffer-made}
 use Rattle.machine.specs.Machines.{nC, nA, setsC, setsA}
 use Rattle.machine.specs.Table.{entries, tableRoom}
@@ -224,7 +224,7 @@ late-cond n true v w p q = p
 late-cond n false v w p q = q
 
 late-then : (n : ℕ) (v w : Tested) → Late n v → Late n w → Late n (andThen v w)
-unfolding andThen
+unfolding andThen passOn
 late-then n (answer t) w p q = q
 late-then n (refused s) w p q = p
 

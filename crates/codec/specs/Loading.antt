@@ -4,7 +4,6 @@ use mathlib.Core.Bool.{true, false}
 use mathlib.Core.Path.{_≡_}
 use Prim.Native.Nat.{ℕ, _*_, _/_, _≤_}
 use lib.ListN.{length, getD}
-pub use Rattle.mask.specs.Tables.{front}
 use Rattle.codec.specs.Format.{payloadLength}
 use Rattle.codec.specs.Reader.{headerByte, countsHold, payloadDemanded, payloadOf}
 

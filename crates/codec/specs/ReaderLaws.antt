@@ -268,8 +268,8 @@ module _ (f : List ℕ) (room : ℕ) (h : tableRoom ≤ room) where
   unfolding readValidity
   grouped = then-of _ _ (buffer-valid tableRoom room h) ∙ sym (then-then (firstValidity f) (blocksValidity f) (pairValidity (pairOf f)))
 
-  pub read-refused : (r : Refusal) → andThen (firstValidity f) (blocksValidity f) ≡ refused r → readValidity f room ≡ refused r
-  read-refused r e = grouped ∙ then-refused _ _ r e
+  pub tests-refused : (r : Refusal) → andThen (firstValidity f) (blocksValidity f) ≡ refused r → readValidity f room ≡ refused r
+  tests-refused r e = grouped ∙ then-refused _ _ r e
 
   pub read-pair : andThen (firstValidity f) (blocksValidity f) ≡ valid → readValidity f room ≡ pairValidity (pairOf f)
   read-pair e = grouped ∙ then-of _ _ e

@@ -15,7 +15,7 @@ use Rattle.mask.specs.BoundedLaws.{every-of, first-none}
 use Rattle.mask.specs.Tables.{table}
 use Rattle.mask.specs.TablesLaws.{table-length, table-at, table-past, table-cong}
 use Rattle.machine.specs.declared.Pair.{Pair}
-use Rattle.machine.specs.Refusals.{valid, answer, andThen}
+use Rattle.machine.specs.Refusals.{valid, answer, andThen, passOn}
 use Rattle.machine.specs.RefusalsLaws.{given-of, buffer-valid}
 use Rattle.machine.specs.Machines.{nC, nA, setsC, setsA}
 use Rattle.machine.specs.Table.{entries, tableRoom, AreEntries}
@@ -192,7 +192,7 @@ module _ (p : Pair) (note : Bool) (T : List ℕ) (w : WellPair p) where
       ∙ table-cong (entries p) _ (λ e. getD T e 0) (λ e h. numbers-read 2 (entries p) (λ e. getD T e 0) P at e h (b e) stands)
 
   read-valid : Representable p → pairValidity p ≡ valid → (len : ℕ) → tableRoom ≤ len → readValidity (fileOf p note T) len ≡ valid
-  unfolding readValidity andThen
+  unfolding readValidity andThen passOn
   read-valid r v len h = rw (buffer-valid tableRoom len h, first-valid, blocks-valid, pair-is r, v)
 
 pub write-read : WriteRead

@@ -23,7 +23,7 @@ ghost use Rattle.codec.specs.Format.{letters, numberAt, payloadLength};
 ghost use Rattle.codec.specs.Reader.{checkHolds, numberHolds, blockHolds, payloadByte, headerByte, noteOf, headerHolds, countsHold, firstValidity, payloadDemanded, demanded, badBlock, paddingHolds, blocksValidity, machineAt, pairOf, entriesOf, taken, readAnswer, tableOf, readTable, zeroMachine, zeroPair, sizeOf};
 ghost use Rattle.codec.specs.Answers.{readOf, pairGiven, sizedOf, refusalOf};
 ghost use Rattle.codec.specs.Loading.{Loaded};
-ghost use Rattle.codec.specs.Loading.{front};
+ghost use Rattle.mask.specs.Tables.{front};
 
 // ---- Numbers and blocks
 

@@ -17,7 +17,7 @@ use Rattle.comparison.specs.declared.pairs.Series.{Series}
 use Rattle.comparison.specs.declared.tally.Tally.{Tally}
 use Rattle.comparison.specs.Answers.{testedFour, sameFour}
 use Rattle.comparison.specs.Tallies.{plus, total, ofPair, ofSolution}
-use Rattle.comparison.specs.Tables.{zeros, within, tableTally, tableOf}
+use Rattle.comparison.specs.Tables.{zeros, within, tableTally, triedTable}
 use Rattle.comparison.specs.Lassos.{lassosTally}
 
 -- the solver's table passes, and where every table was tried, it is Carried exactly if some table is
@@ -38,7 +38,7 @@ solutionTally p n every carrying S =
 module _ (s : Series) where
   -- the tables of a pair, S being the solver's
   unfoldable pub tablesTally : Pair → List ℕ → Tally
-  tablesTally p S = total (s .tables) (λ x. tableTally p (entries p) S (tableOf (s .every) (setsC p * pairs p + 2) (entries p) S x zeros))
+  tablesTally p S = total (s .tables) (λ x. tableTally p (entries p) S (triedTable (s .every) (setsC p * pairs p + 2) (entries p) S x zeros))
 
   -- a well-formed pair
   unfoldable pub formedTally : Pair → List ℕ → Tally

@@ -25,7 +25,7 @@ use Rattle.comparison.specs.declared.tally.Tally.{Tally}
 use Rattle.brute.specs.Lifting.{liftedTable}
 use Rattle.brute.specs.Ranking.{tableRanked}
 use Rattle.comparison.specs.Pairs.{verdictFits, solutionAgrees, solutionTally, tablesTally, formedTally, pairTally, rowTally, seriesTally}
-use Rattle.comparison.specs.Tables.{zeros, within, tableTally, tableOf}
+use Rattle.comparison.specs.Tables.{zeros, within, tableTally, triedTable}
 use Rattle.comparison.specs.Tallies.{plus, total, ofPair, ofSolution}
 
 module _ (own : Tally) (every : Bool) (carrying : ℕ) where
@@ -74,7 +74,7 @@ module _ (p : Pair) (n : ℕ) (every : Bool) (carrying : ℕ) (S : List ℕ) whe
 
 module _ (s : Series) (p : Pair) (S : List ℕ) where
   pub formed-is : (tables solution lassos first r : Tally)
-      → tables ≡ total (s .tables) (λ x. tableTally p (entries p) S (tableOf (s .every) (setsC p * pairs p + 2) (entries p) S x zeros))
+      → tables ≡ total (s .tables) (λ x. tableTally p (entries p) S (triedTable (s .every) (setsC p * pairs p + 2) (entries p) S x zeros))
       → solution ≡ solutionTally p (entries p) (s .every) (tables .carrying) S → lassos ≡ lassosTally p S (nC p) (s .stem)
       → first ≡ plus tables solution → r ≡ plus first lassos → r ≡ formedTally s p S
   unfolding formedTally tablesTally

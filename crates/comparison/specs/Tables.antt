@@ -38,5 +38,5 @@ altered top x n S T =
     table (length T) (λ e. cond (ltb e n) (cond (eqb e (x / (top + 1))) (entryOf (x % (top + 1))) (getD S e 0)) (getD T e 0))
 
 -- table number x: one of all tables, or S with one entry changed
-unfoldable pub tableOf : Bool → ℕ → ℕ → List ℕ → ℕ → List ℕ → List ℕ
-tableOf every top n S x T = cond every (numberedTable top x n T) (altered top x n S T)
+unfoldable pub triedTable : Bool → ℕ → ℕ → List ℕ → ℕ → List ℕ → List ℕ
+triedTable every top n S x T = cond every (numberedTable top x n T) (altered top x n S T)

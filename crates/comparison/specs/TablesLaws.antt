@@ -17,7 +17,7 @@ use Rattle.machine.specs.declared.Pair.{Pair}
 use Rattle.machine.specs.declared.Refusal.{Refusal}
 use Rattle.brute.specs.Numbers.{numberedTable}
 use Rattle.comparison.specs.Answers.{sameFour, verdictFour}
-use Rattle.comparison.specs.Tables.{altered, tableAgrees, tableOf, tableTally, within}
+use Rattle.comparison.specs.Tables.{altered, tableAgrees, triedTable, tableTally, within}
 use Rattle.comparison.specs.Tallies.{ofTable}
 use Rattle.comparison.specs.declared.tally.Tally.{Tally}
 
@@ -83,38 +83,38 @@ module _ (e q w s v : ℕ) where
 
 -- ---- table number x
 module _ (every : Bool) (top n : ℕ) (S : List ℕ) (x : ℕ) (T r : List ℕ) where
-  pub table-of-all : every ≡ true → r ≡ numberedTable top x n T → r ≡ tableOf every top n S x T
-  unfolding tableOf
+  pub table-of-all : every ≡ true → r ≡ numberedTable top x n T → r ≡ triedTable every top n S x T
+  unfolding triedTable
   table-of-all h e = rw h e
 
-  pub table-of-near : every ≡ false → r ≡ altered top x n S T → r ≡ tableOf every top n S x T
-  unfolding tableOf
+  pub table-of-near : every ≡ false → r ≡ altered top x n S T → r ≡ triedTable every top n S x T
+  unfolding triedTable
   table-of-near h e = rw h e
 
 table-of-twice : (every : Bool) (top n : ℕ) (S : List ℕ) (x y : ℕ) (T : List ℕ)
-    → tableOf every top n S x (tableOf every top n S y T) ≡ tableOf every top n S x T
-unfolding tableOf numberedTable altered
+    → triedTable every top n S x (triedTable every top n S y T) ≡ triedTable every top n S x T
+unfolding triedTable numberedTable altered
 table-of-twice true top n S x y T = overlaid-twice n _ _ T
 table-of-twice false top n S x y T = overlaid-twice n _ _ T
 
-table-of-length : (every : Bool) (top n : ℕ) (S : List ℕ) (x : ℕ) (T : List ℕ) → length (tableOf every top n S x T) ≡ length T
-unfolding tableOf numberedTable altered
+table-of-length : (every : Bool) (top n : ℕ) (S : List ℕ) (x : ℕ) (T : List ℕ) → length (triedTable every top n S x T) ≡ length T
+unfolding triedTable numberedTable altered
 table-of-length true top n S x T = table-length _ _
 table-of-length false top n S x T = table-length _ _
 
 -- laid over B, each table is what it is laid over A
 pub record Reused (every : Bool) (top n : ℕ) (S A B : List ℕ) : Type 0 where
   pub size : length B ≡ length A
-  pub alike : (x : ℕ) → tableOf every top n S x B ≡ tableOf every top n S x A
+  pub alike : (x : ℕ) → triedTable every top n S x B ≡ triedTable every top n S x A
 
 pub reused-start : (every : Bool) (top n : ℕ) (S A : List ℕ) → Reused every top n S A A
 reused-start every top n S A = record { size = refl; alike = λ x. refl }
 
-pub reused-turn : {every : Bool} {top n : ℕ} {S A B : List ℕ} (y : ℕ) (C : List ℕ) → Reused every top n S A B → C ≡ tableOf every top n S y B
+pub reused-turn : {every : Bool} {top n : ℕ} {S A B : List ℕ} (y : ℕ) (C : List ℕ) → Reused every top n S A B → C ≡ triedTable every top n S y B
     → Reused every top n S A C
 reused-turn {every} {top} {n} {S} {A} {B} y C b e = record {
   size = ap length e ∙ table-of-length every top n S y B ∙ b .size;
-  alike = λ x. ap (tableOf every top n S x) e ∙ table-of-twice every top n S x y B ∙ b .alike x;
+  alike = λ x. ap (triedTable every top n S x) e ∙ table-of-twice every top n S x y B ∙ b .alike x;
 }
 
 -- ---- one table's counts, from two answers x and y about it
@@ -126,5 +126,5 @@ table-tally-is p n S T x y agrees r ex ey ea er = rw (er, ea, ex, ey)
 
 -- and from a buffer that was used before
 pub reused-tally : {every : Bool} {top n : ℕ} {S A B : List ℕ} (p : Pair) (x : ℕ) (C : List ℕ) (r : Tally) → Reused every top n S A B
-    → C ≡ tableOf every top n S x B → r ≡ tableTally p n S C → r ≡ tableTally p n S (tableOf every top n S x A)
+    → C ≡ triedTable every top n S x B → r ≡ tableTally p n S C → r ≡ tableTally p n S (triedTable every top n S x A)
 reused-tally {n} {S} p x C r b e t = t ∙ ap (tableTally p n S) (e ∙ b .alike x)

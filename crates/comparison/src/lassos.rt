@@ -68,7 +68,7 @@ fn lasso_agrees(
 fn compare_lasso(p: Pair, table: &[u16], stem: &[u8], cycle: &[u8]) -> Tally
     ensures { λ r. ⌜ r ≡ lassoTally p (now (table .entry)) (given (now (stem .entry)) (now (cycle .entry))) ⌝ }
 {
-    let mut run = [0u8; machine::TABLE_ROOM];
+    let mut run = [0u8; player::RUN_ROOM];
     let answer = played_four(player::play(p, table, stem, cycle, &mut run));
     let plain = played_four(as_played(brute::plain_play(p, table, stem, cycle)));
     of_lasso(

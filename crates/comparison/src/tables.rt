@@ -1,7 +1,7 @@
 // The check beside the plain reading: on every table, or on the solver's table with one entry changed.
 ghost use mathlib.Core.Path.{_≡_};
 ghost use Rattle.comparison.specs.Tallies.{total};
-ghost use Rattle.comparison.specs.Tables.{zeros, within, tableAgrees, tableTally, altered, tableOf};
+ghost use Rattle.comparison.specs.Tables.{zeros, within, tableAgrees, tableTally, altered, triedTable};
 use crate::answers::as_checked;
 use crate::answers::same_four;
 use crate::answers::verdict_four;
@@ -72,7 +72,7 @@ fn put_altered(x: u64, top: u16, n: usize, solved: &[u16], table: &mut [u16])
 
 // Puts table number x into `table`: one of all tables, or the solver's with one entry changed.
 fn put_table(every: bool, x: u64, top: u16, n: usize, solved: &[u16], table: &mut [u16])
-    ensures { λ _. ⌜ now (table .exit) ≡ tableOf every top n (now (solved .entry)) x (now (table .entry)) ⌝ }
+    ensures { λ _. ⌜ now (table .exit) ≡ triedTable every top n (now (solved .entry)) x (now (table .entry)) ⌝ }
 {
     if every {
         brute::put_entries(x, top, n, table);
@@ -83,7 +83,7 @@ fn put_table(every: bool, x: u64, top: u16, n: usize, solved: &[u16], table: &mu
 
 // The first `count` tables.
 pub fn compare_tables(p: Pair, every: bool, top: u16, n: usize, count: u64, solved: &[u16]) -> Tally
-    ensures { λ r. ⌜ r ≡ total count (λ x. tableTally p n (now (solved .entry)) (tableOf every top n (now (solved .entry)) x zeros)) ⌝ }
+    ensures { λ r. ⌜ r ≡ total count (λ x. tableTally p n (now (solved .entry)) (triedTable every top n (now (solved .entry)) x zeros)) ⌝ }
 {
     let mut table = [0u16; machine::TABLE_ROOM];
     let mut sum = none();

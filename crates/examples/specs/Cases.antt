@@ -11,7 +11,7 @@ use Rattle.mask.specs.Tables.{maskOf, table}
 use Rattle.machine.specs.declared.Machine.{Machine}
 use Rattle.machine.specs.declared.Pair.{Pair}
 use Rattle.machine.specs.Machines.{observation, successors, moves, starts, fairSet, inFairSet, sameObservation, matched, next}
-use Rattle.machine.specs.Refusals.{Result, answer, refused, refusal, andThen}
+use Rattle.machine.specs.Refusals.{Result, answer, refused, refusal, andThen, passOn}
 use Rattle.machine.specs.WellFormed.{countsOk, beyond, stateBeyond, setBeyond, beyondCounts, stuckState, contentValidity, pairValidity}
 use Rattle.machine.specs.Lassos.{Lasso, moment}
 use Rattle.machine.specs.Step.{steps, better, least, partner, found, stateOf}
@@ -110,7 +110,7 @@ answered =
     ∷ []
 
 cases : asked ≡ answered
-unfolding machineOf _by_ K S Late Early solve check solveAndCheck play asked answered not and or hasBit every some first sum count everyIn someIn maskOf table observation successors moves starts fairSet inFairSet sameObservation matched next andThen countsOk beyond stateBeyond setBeyond beyondCounts stuckState contentValidity pairValidity moment steps better least partner found stateOf iterate settle pairSet mem sameSet none allMatched goals inX roundX xOver xsOver union levelOver levels turn firstFamily sameFamily family levelOf setOf towerOver tower rankIn solverTable entryIndex entry covers coveredCount nonBlank lower atMost goalLine rankLine passes linesValidity startCovered lackingStart startVerdict linesVerdict badLength badStep missedSet lassoValidity startPartner startValidity sectionAfter follow stepTo placeAt samePlace lastRound earlierRound stemLength loopLength run playValidity
+unfolding machineOf _by_ K S Late Early solve check solveAndCheck play asked answered not and or hasBit every some first sum count everyIn someIn maskOf table observation successors moves starts fairSet inFairSet sameObservation matched next andThen passOn countsOk beyond stateBeyond setBeyond beyondCounts stuckState contentValidity pairValidity moment steps better least partner found stateOf iterate settle pairSet mem sameSet none allMatched goals inX roundX xOver xsOver union levelOver levels turn firstFamily sameFamily family levelOf setOf towerOver tower rankIn solverTable entryIndex entry covers coveredCount nonBlank lower atMost goalLine rankLine passes linesValidity startCovered lackingStart startVerdict linesVerdict badLength badStep missedSet lassoValidity startPartner startValidity sectionAfter follow stepTo placeAt samePlace lastRound earlierRound stemLength loopLength run playValidity
 cases = refl
 
 -- a concrete machine of two states, 0 to 0 and 1 to 0, one observation
@@ -141,5 +141,5 @@ answeredMore =
     ∷ []
 
 casesMore : askedMore ≡ answeredMore
-unfolding machineOf _by_ K S Late Early solve check solveAndCheck play askedMore answeredMore Two not and or hasBit every some first sum count everyIn someIn maskOf table observation successors moves starts fairSet inFairSet sameObservation matched next andThen countsOk beyond stateBeyond setBeyond beyondCounts stuckState contentValidity pairValidity moment steps better least partner found stateOf iterate settle pairSet mem sameSet none allMatched goals inX roundX xOver xsOver union levelOver levels turn firstFamily sameFamily family levelOf setOf towerOver tower rankIn solverTable entryIndex entry covers coveredCount nonBlank lower atMost goalLine rankLine passes linesValidity startCovered lackingStart startVerdict linesVerdict badLength badStep missedSet lassoValidity startPartner startValidity sectionAfter follow stepTo placeAt samePlace lastRound earlierRound stemLength loopLength run playValidity
+unfolding machineOf _by_ K S Late Early solve check solveAndCheck play askedMore answeredMore Two not and or hasBit every some first sum count everyIn someIn maskOf table observation successors moves starts fairSet inFairSet sameObservation matched next andThen passOn countsOk beyond stateBeyond setBeyond beyondCounts stuckState contentValidity pairValidity moment steps better least partner found stateOf iterate settle pairSet mem sameSet none allMatched goals inX roundX xOver xsOver union levelOver levels turn firstFamily sameFamily family levelOf setOf towerOver tower rankIn solverTable entryIndex entry covers coveredCount nonBlank lower atMost goalLine rankLine passes linesValidity startCovered lackingStart startVerdict linesVerdict badLength badStep missedSet lassoValidity startPartner startValidity sectionAfter follow stepTo placeAt samePlace lastRound earlierRound stemLength loopLength run playValidity
 casesMore = refl

@@ -30,8 +30,8 @@ use Rattle.linecheck.specs.declared.Line.{Line}
 use Rattle.linecheck.specs.Bounds.{lineOf}
 
 -- a pair from its machines, as the loops of the check hold it
-abbrev pub pairOf : Machine → Machine → Pair
-pairOf concrete abstraction = record { concrete = concrete; abstraction = abstraction }
+abbrev pub asPair : Machine → Machine → Pair
+asPair concrete abstraction = record { concrete = concrete; abstraction = abstraction }
 
 -- ---- the cases of a line
 abbrev pub fails : Line

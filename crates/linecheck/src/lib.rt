@@ -3,7 +3,7 @@
 // at the first that serves: at most n x nC x nA x nC x nA looks at an entry, and on passing tables far fewer.
 ghost use mathlib.Core.Bool.{true};
 ghost use mathlib.Core.Path.{_≡_};
-ghost use Prim.Native.Nat.{_+_, _*_, _<_, _≤_};
+ghost use Prim.Native.Nat.{_<_, _≤_};
 ghost use lib.ListN.{length, getD};
 ghost use lib.Dec.{eqb};
 ghost use Rattle.mask.specs.Logic.{not};

@@ -2,7 +2,7 @@
 use mathlib.Core.Bool.{Bool, cond}
 use mathlib.Core.List.{List, _++_}
 use mathlib.Core.Logic.{⊎-elim}
-use mathlib.Core.Path.{_≡_, sym, ap, ap₂, _∙_}
+use mathlib.Core.Path.{_≡_, refl, sym, ap, ap₂, _∙_}
 use Prim.Native.Nat.{ℕ, _≤_, _<_}
 use native.Mathlib.Nat.{mul-assoc}
 use native.Mathlib.Omega.{arith}
@@ -16,10 +16,13 @@ use Rattle.machine.specs.declared.Pair.{Pair}
 use Rattle.machine.specs.Machines.{inFairSet, matched, next, nC, nA, setsC, setsA}
 use Rattle.machine.specs.StepLaws.{steps-cong, next-lt}
 use Rattle.machine.specs.Ranks.{setOf}
-use Rattle.machine.specs.Table.{entryIndex, entry, covers, entries, coveredCount, SameEntries}
+use Rattle.machine.specs.Table.{entryIndex, entry, covers, entries, coveredCount, tableRoom, SameEntries}
 use Rattle.machine.specs.Lines.{nonBlank, lower, atMost, goalLine, rankLine, passes, passesEach, linesValidity}
 use Rattle.machine.specs.LinesLaws.{lines-valid, lines-fail}
-use Rattle.machine.specs.Verdict.{startCovered, lackingStart, startVerdict, linesVerdict}
+use Rattle.machine.specs.RefusalsLaws.{then-same}
+use Rattle.machine.specs.WellFormedLaws.{well-valid}
+use Rattle.machine.specs.Verdict.{startCovered, lackingStart, startVerdict, linesVerdict, checkVerdict}
+use Rattle.machine.specs.VerdictLaws.{check-lines}
 
 pub index-entries : (p : Pair) (j c a : ℕ) → j < setsA p → c < nC p → a < nA p → entryIndex (nC p) (nA p) j c a < entries p
 unfolding entryIndex
@@ -87,9 +90,13 @@ module _ (p : Pair) (T R : List ℕ) (same : SameEntries p T R) where
   unfolding coveredCount
   count-same = count-cong _ _ _ (λ e l. rw (same e l))
 
-  pub verdict-same : 0 < setsA p → linesVerdict p T ≡ linesVerdict p R
+  -- ill-formed machines are refused before the table is looked at
+  pub verdict-same : linesVerdict p T ≡ linesVerdict p R
   unfolding linesVerdict startVerdict
-  verdict-same pos = rw (lines-same, lacking-same pos, count-same)
+  verdict-same = then-same _ _ _ _ refl (λ v. rw (lines-same, lacking-same (well-valid p v .abstraction .sets-low), count-same))
+
+  pub check-same : tableRoom ≤ length T → tableRoom ≤ length R → checkVerdict p T ≡ checkVerdict p R
+  check-same long long′ = check-lines p T long ∙ verdict-same ∙ sym (check-lines p R long′)
 
 -- a table with anything after it has the same n × P entries
 pub front-same : (p : Pair) (T U : List ℕ) → entries p ≤ length T → SameEntries p (T ++ U) T

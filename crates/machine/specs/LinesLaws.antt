@@ -66,7 +66,7 @@ module _ (p : Pair) (T : List ℕ) where
   unfolding atMost
   atMost-of j r c a t l = and-i t (le-leb _ _ l)
 
-  -- each line is "entry at most a bound"
+  -- each line asks for entries at most a bound
   pub lower-atMost : (j l c a : ℕ) → 0 < setsC p → 0 < l → lower p T j l c a ≡ atMost p T j ((l - 1) * setsC p) c a
   unfolding lower atMost
   lower-atMost j l c a hm hl = ap (and (matched p c a)) (lower-is (setsC p) l (entry p T j c a) hm hl)

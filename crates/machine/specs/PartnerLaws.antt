@@ -363,3 +363,10 @@ module _ (row : List ℕ) (bound moves : ℕ) where
           limit-is = d .limit-is;
           limit-le = d .limit-le;
         }
+
+-- among moves to numbers below n only what the set and the keys are there counts
+pub partner-below : (moves n : ℕ) (S R : ℕ → Bool) (key rank : ℕ → ℕ) → ((i : ℕ) → i < 64 → hasBit moves i ≡ true → i < n)
+    → ((i : ℕ) → i < n → S i ≡ R i) → ((i : ℕ) → i < n → key i ≡ rank i) → partner moves S key ≡ partner moves R rank
+partner-below moves n S R key rank moved set keys = partner-same moves moves S R key rank
+    (λ i h. ⊎-elim (λ m. ap (and (hasBit moves i)) (set i (moved i h m))) (λ m. and-false-l _ m ∙ sym (and-false-l _ m)) (dec (hasBit moves i)))
+    (λ i h t. keys i (moved i h (and-l _ _ t)))

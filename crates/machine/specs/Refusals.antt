@@ -26,15 +26,14 @@ unfoldable pub testedOf : Validity → Tested
 testedOf Valid = valid
 testedOf (Refused r) = refused r
 
--- "Tested in this order": the first refusal of two counts. The second is another test, or the answer that is given unless the first refuses.
-unfoldable pub andThen : {A : Type 0} → Tested → Result A → Result A
-andThen (answer t) w = w
-andThen (refused r) w = refused r
-
--- what is said of an answer is said unless there was a refusal, which is passed on
+-- what comes after an answer is said of it; a refusal is passed on
 unfoldable pub passOn : {A B : Type 0} → Result A → (A → Result B) → Result B
 passOn (answer a) f = f a
 passOn (refused r) f = refused r
+
+-- "Tested in this order": the first refusal of two counts. The second is another test, or the answer that is given unless the first refuses.
+unfoldable pub andThen : {A : Type 0} → Tested → Result A → Result A
+andThen v w = passOn v (λ t. w)
 
 -- a lent buffer's final content: what was made at its front, and the rest as it was. A refusal "changes no lent buffer".
 unfoldable pub bufferAfter : {A : Type 0} → Result A → List ℕ → List ℕ → List ℕ

@@ -46,27 +46,27 @@ valid-if false v r e = absurd (refused-not-answer e)
 -- ---- the first refusal of two
 module _ {A : Type 0} where
   pub then-of : (v : Tested) (w : Result A) → v ≡ valid → andThen v w ≡ w
-  unfolding andThen
+  unfolding andThen passOn
   then-of v w e = rw e
 
   pub then-refused : (v : Tested) (w : Result A) (r : Refusal) → v ≡ refused r → andThen v w ≡ refused r
-  unfolding andThen
+  unfolding andThen passOn
   then-refused v w r e = rw e
 
   -- an answer is given only where nothing is refused
   pub then-answer : (v : Tested) (w : Result A) {a : A} → andThen v w ≡ answer a → (v ≡ valid) × (w ≡ answer a)
-  unfolding andThen
+  unfolding andThen passOn
   then-answer (answer t) w e = (refl, e)
   then-answer (refused r) w e = absurd (refused-not-answer e)
 
   -- a refusal is the first test's, or the first tells nothing
   pub then-cases : (v : Tested) (w : Result A) (r : Refusal) → andThen v w ≡ refused r → (v ≡ refused r) ⊎ ((v ≡ valid) × (w ≡ refused r))
-  unfolding andThen
+  unfolding andThen passOn
   then-cases (answer t) w r e = inr (refl, e)
   then-cases (refused s) w r e = inl (ap refused (refused-is e))
 
   pub then-then : (u v : Tested) (w : Result A) → andThen (andThen u v) w ≡ andThen u (andThen v w)
-  unfolding andThen
+  unfolding andThen passOn
   then-then (answer t) v w = refl
   then-then (refused r) v w = refl
 
@@ -78,7 +78,7 @@ module _ {A : Type 0} where
   given-at v a e = let q = then-answer v (answer a) e in (q .0, answer-is (q .1))
 
   pub given-refused : (v : Tested) (a : A) {r : Refusal} → andThen v (answer a) ≡ refused r → v ≡ refused r
-  unfolding andThen
+  unfolding andThen passOn
   given-refused (answer t) a e = absurd (refused-not-answer (sym e))
   given-refused (refused s) a e = ap refused (refused-is e)
 
@@ -124,3 +124,20 @@ module _ {A : Type 0} where
   unfolding bufferAfter
   buffer-length (answer a) made buffer h = omega (arith, length-append made (drop (length made) buffer), length-drop (length made) buffer)
   buffer-length (refused r) made buffer h = refl
+
+-- ---- tests that say the same, with what is said and written where they refuse nothing
+pub then-same : {A : Type 0} (v u : Tested) (w x : Result A) → v ≡ u → (v ≡ valid → w ≡ x) → andThen v w ≡ andThen u x
+unfolding andThen passOn
+then-same v u w x e h = go v h ∙ ap (λ (v : Tested). andThen v x) e
+  where
+    go : (v : Tested) → (v ≡ valid → w ≡ x) → andThen v w ≡ andThen v x
+    go (answer t) h = h refl
+    go (refused r) h = refl
+
+pub after-same : (v u : Tested) (made other buffer : List ℕ) → v ≡ u → (v ≡ valid → made ≡ other) → bufferAfter v made buffer ≡ bufferAfter u other buffer
+unfolding bufferAfter
+after-same v u made other buffer e h = go v h ∙ ap (λ (v : Tested). bufferAfter v other buffer) e
+  where
+    go : (v : Tested) → (v ≡ valid → made ≡ other) → bufferAfter v made buffer ≡ bufferAfter v other buffer
+    go (answer t) h = rw (h refl)
+    go (refused r) h = refl

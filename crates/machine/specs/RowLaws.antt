@@ -19,7 +19,7 @@ use Rattle.machine.specs.Machines.{nC, nA}
 use Rattle.machine.specs.WellFormedLaws.{mul-bound}
 use Rattle.machine.specs.Step.{partner, inRow, found}
 use Rattle.machine.specs.PartnerLaws.{partner-found}
-use Rattle.machine.specs.Table.{entryIndex, placeOf, entry}
+use Rattle.machine.specs.Table.{tableRoom, entryIndex, placeOf, entry}
 
 -- ---- where an entry lies
 -- an entry's place is its row's, and its state
@@ -36,17 +36,17 @@ module _ (nC nA j c : ℕ) (hj : j < 7) (hC : nC ≤ 64) (hA : nA ≤ 64) where
   pub section-room : j * nC ≤ 384
   section-room = mul-bound j nC 6 64 (omega arith) hC
 
-  pub place-room : c ≤ nC → (j * nC + c) * nA ≤ 28672
+  pub place-room : c ≤ nC → (j * nC + c) * nA ≤ tableRoom
   place-room h = mul-bound (j * nC + c) nA 448 64 (omega (arith, section-room)) hA
 
   -- a whole row lies within a lent table
-  pub row-room : c < nC → entryIndex nC nA j c 0 + nA ≤ 28672
+  pub row-room : c < nC → entryIndex nC nA j c 0 + nA ≤ tableRoom
   unfolding entryIndex
   row-room h =
       let e : suc (j * nC + c) * nA ≡ (j * nC + c) * nA + nA = suc-mul (j * nC + c) nA in
       omega (arith, mul-bound (suc (j * nC + c)) nA 448 64 (omega (arith, section-room)) hA)
 
-  pub entry-room : (a : ℕ) → c < nC → a < nA → entryIndex nC nA j c a < 28672
+  pub entry-room : (a : ℕ) → c < nC → a < nA → entryIndex nC nA j c a < tableRoom
   entry-room a h l = omega (arith, index-row nC nA j c a, row-room h)
 
 -- ---- a row as a set

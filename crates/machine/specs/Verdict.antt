@@ -1,7 +1,8 @@
 -- Document 01, "Line check": the answer, as document 01 tells it.
-use mathlib.Core.Bool.{Bool, cond}
+use mathlib.Core.Bool.{Bool, true, cond}
 use mathlib.Core.List.{List}
-use Prim.Native.Nat.{ℕ, _+_}
+use mathlib.Core.Path.{_≡_}
+use Prim.Native.Nat.{ℕ, _+_, _<_}
 use lib.ListN.{length}
 use lib.Dec.{ltb}
 use Rattle.mask.specs.Logic.{not, and}
@@ -26,6 +27,10 @@ verdictNumber (notCarried c count) = 200 + c
 -- the concrete start state c has an abstract start state a, with (c, a) non-blank in section 1
 unfoldable pub startCovered : Pair → List ℕ → ℕ → Bool
 startCovered p T c = someIn (nA p) (p .abstraction .start) (covers p T 0 c)
+
+-- each concrete start state has one
+abbrev pub HasStarts : Pair → List ℕ → Type 0
+HasStarts p T = (c : ℕ) → c < nC p → starts (p .concrete) c ≡ true → startCovered p T c ≡ true
 
 -- "the lowest c that lacks one", nC where none does
 unfoldable pub lackingStart : Pair → List ℕ → ℕ

@@ -20,7 +20,7 @@ use Rattle.machine.specs.WellFormed.{pairValidity}
 use Rattle.machine.specs.Table.{tableRoom, coveredCount}
 use Rattle.machine.specs.Lines.{passesEach, linesValidity}
 use Rattle.machine.specs.LinesLaws.{valid-passes}
-use Rattle.machine.specs.Verdict.{Verdict, carried, notCarried, startCovered, lackingStart, startVerdict, linesVerdict, checkVerdict}
+use Rattle.machine.specs.Verdict.{HasStarts, Verdict, carried, notCarried, startCovered, lackingStart, startVerdict, linesVerdict, checkVerdict}
 
 module _ (p : Pair) (T : List ℕ) where
   -- ---- which test tells the answer
@@ -102,12 +102,12 @@ module _ (p : Pair) (T : List ℕ) where
   pub record IsCarried : Type 0 where
     pub well : pairValidity p ≡ valid
     pub passing : passesEach p T ≡ true
-    pub start : (c : ℕ) → c < nC p → starts (p .concrete) c ≡ true → startCovered p T c ≡ true
+    pub start : HasStarts p T
 
-  carried-starts : (n : ℕ) → startVerdict p T ≡ carried n → (c : ℕ) → c < nC p → starts (p .concrete) c ≡ true → startCovered p T c ≡ true
+  carried-starts : (n : ℕ) → startVerdict p T ≡ carried n → HasStarts p T
   unfolding startVerdict
   carried-starts n = cond-cases (ltb (lackingStart p T) (nC p))
-      (λ v. v ≡ carried n → (c : ℕ) → c < nC p → starts (p .concrete) c ≡ true → startCovered p T c ≡ true) _ _
+      (λ v. v ≡ carried n → HasStarts p T) _ _
       (λ u e. let z : _≡_ {A = ℕ} 0 1 = cc in absurd (omega arith))
       (λ u e c h. before-lacking c (omega (arith, ltb-false (lackingStart p T) (nC p) u)))
 

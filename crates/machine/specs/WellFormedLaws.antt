@@ -20,6 +20,7 @@ use Rattle.machine.specs.declared.Pair.{Pair}
 use Rattle.machine.specs.Refusals.{Tested, valid, answer, refused}
 use Rattle.machine.specs.RefusalsLaws.{valid-next, valid-if, then-answer}
 use Rattle.machine.specs.Machines.{observation, successors, moves, starts, fairSet, inFairSet, nC, nA, setsC, setsA, pairs}
+use Rattle.machine.specs.Table.{tableRoom}
 use Rattle.machine.specs.WellFormed.{countsOk, beyond, stateBeyond, setBeyond, beyondCounts, stuckState, contentValidity, pairValidity, isValid, wellFormed}
 
 -- ---- validity
@@ -176,9 +177,9 @@ pairs-small p w = mul-bound (nC p) (nA p) 64 64 (w .concrete .states-high) (w .a
 pub ranks-small : (p : Pair) → WellPair p → setsC p * pairs p ≤ 32768
 ranks-small p w = mul-bound (setsC p) (pairs p) 8 4096 (w .concrete .sets-high) (pairs-small p w)
 
-pub entries-small : (p : Pair) → WellPair p → setsA p * pairs p ≤ 28672
+pub entries-small : (p : Pair) → WellPair p → setsA p * pairs p ≤ tableRoom
 entries-small p w = mul-bound (setsA p) (pairs p) 7 4096 (w .abstraction .sets-high) (pairs-small p w)
 
 -- section j lies within a table of 28,672 entries
-pub section-fits : (p : Pair) → WellPair p → (j : ℕ) → j < setsA p → j * pairs p + pairs p ≤ 28672
+pub section-fits : (p : Pair) → WellPair p → (j : ℕ) → j < setsA p → j * pairs p + pairs p ≤ tableRoom
 section-fits p w j h = omega (arith, mul-le-mul-right (pairs p) h, entries-small p w)

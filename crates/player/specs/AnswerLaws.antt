@@ -31,9 +31,9 @@ module _ (p : Pair) (T : List ℕ) where
     pub lines : linesValidity p T ≡ valid
 
   -- where the check refuses nothing
-  pub check-passes : {v : Verdict} → checkVerdict p T ≡ answer v → Passes
+  pub check-tells : {v : Verdict} → checkVerdict p T ≡ answer v → Passes
   unfolding checkVerdict
-  check-passes {v} e =
+  check-tells {v} e =
       let a = then-answer _ _ e in
       let b = lines-said p T v (a .1) in
       record { long = buffer-room tableRoom (length T) (a .0); pair = b .0; lines = b .1 }

@@ -20,7 +20,7 @@ use Rattle.machine.specs.RowLaws.{row-room, entry-room, row, row-length, row-at
 use Rattle.machine.specs.Lines.{nonBlank}
 use Rattle.machine.specs.LinesLaws.{covers-bound}
 use Rattle.machine.specs.WellFormedLaws.{WellPair}
-use Rattle.soundness.specs.AnswerLaws.{partner-below}
+use Rattle.machine.specs.PartnerLaws.{partner-below}
 use Rattle.linecheck.specs.BoundsLaws.{place-at, entry-small}
 
 -- ---- where an entry lies, as its place is found

@@ -2,13 +2,13 @@
 use mathlib.Core.Bool.{Bool, true}
 use mathlib.Core.List.{List}
 use mathlib.Core.Logic.{_≢_, ⊎-elim, by-cases}
-use mathlib.Core.Path.{_≡_, refl, sym, ap, _∙_}
+use mathlib.Core.Path.{_≡_, refl, _∙_}
 use Prim.Native.Nat.{ℕ, _-_, _*_, _≤_, _<_}
 use native.Mathlib.Decide.{ℕ-discrete}
 use native.Mathlib.Omega.{arith}
 use borrow.Author.Tests.{eq-eqb, ne-eqb}
 use Rattle.mask.specs.Logic.{and}
-use Rattle.mask.specs.LogicLaws.{dec, clash, and-l, and-false-l}
+use Rattle.mask.specs.LogicLaws.{dec, clash}
 use Rattle.mask.specs.Bits.{hasBit}
 use Rattle.mask.specs.BoundedLaws.{someIn-at, someIn-of}
 use Rattle.machine.specs.declared.Pair.{Pair}
@@ -17,7 +17,7 @@ use Rattle.machine.specs.declared.Partner.the-variants.{State, Nobody}
 use Rattle.machine.specs.Machines.{nC, nA, setsC, setsA, successors, moves, starts, inFairSet, next}
 use Rattle.machine.specs.Step.{partner, found, stateOf}
 use Rattle.machine.specs.StepLaws.{Steps}
-use Rattle.machine.specs.PartnerLaws.{Best, partner-found, partner-at, partner-same}
+use Rattle.machine.specs.PartnerLaws.{Best, partner-found, partner-at}
 use Rattle.machine.specs.Table.{entry}
 use Rattle.machine.specs.Ranks.{levelOf, setOf}
 use Rattle.machine.specs.LevelLaws.{level-low, level-below}
@@ -40,13 +40,6 @@ best-named moves S key t = go (partner moves S key) refl t
 -- one is named if there is any
 named : (moves : ℕ) (S : ℕ → Bool) (key : ℕ → ℕ) (i : ℕ) → i < 64 → hasBit moves i ≡ true → S i ≡ true → found (partner moves S key) ≡ true
 named moves S key i h t u = partner-found moves S key ∙ someIn-of 64 moves S i h t u
-
--- among moves to numbers below n only what the set and the keys are there counts
-pub partner-below : (moves n : ℕ) (S R : ℕ → Bool) (key rank : ℕ → ℕ) → ((i : ℕ) → i < 64 → hasBit moves i ≡ true → i < n)
-    → ((i : ℕ) → i < n → S i ≡ R i) → ((i : ℕ) → i < n → key i ≡ rank i) → partner moves S key ≡ partner moves R rank
-partner-below moves n S R key rank moved set keys = partner-same moves moves S R key rank
-    (λ i h. ⊎-elim (λ m. ap (and (hasBit moves i)) (set i (moved i h m))) (λ m. and-false-l _ m ∙ sym (and-false-l _ m)) (dec (hasBit moves i)))
-    (λ i h t. keys i (moved i h (and-l _ _ t)))
 
 module _ (p : Pair) (T : List ℕ) where
   -- a place whose pair beside c is one of the table's

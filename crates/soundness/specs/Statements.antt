@@ -7,12 +7,11 @@ use Prim.Native.Nat.{ℕ, _+_, _≤_, _<_}
 use lib.ListN.{length, take, drop}
 use Rattle.machine.specs.declared.Pair.{Pair}
 use Rattle.machine.specs.Refusals.{answer, valid}
-use Rattle.machine.specs.Machines.{nC, starts}
 use Rattle.machine.specs.WellFormed.{wellFormed}
 use Rattle.machine.specs.Lassos.{Lasso, isPlay, SameObservations}
 use Rattle.machine.specs.Table.{tableRoom, SameEntries}
 use Rattle.machine.specs.Lines.{passesEach}
-use Rattle.machine.specs.Verdict.{carried, startCovered, linesVerdict, checkVerdict}
+use Rattle.machine.specs.Verdict.{HasStarts, carried, linesVerdict, checkVerdict}
 use Rattle.machine.specs.Player.{samePlace, lastRound, earlierRound, stemLength, loopLength, run, runRoom, playValidity, playerAnswer, playerBuffer}
 
 -- the concrete lasso l has a fair lasso of the abstract machine, from a start state, with the same observation at every moment
@@ -22,7 +21,7 @@ Matched p l = (k : Lasso) × (isPlay (p .abstraction) k ≡ true) × SameObserva
 -- if a table passes each line and has the start pairs, every fair lasso of the concrete machine from a start state, of any length, is matched
 abbrev pub PassingIsSound : Type 0
 PassingIsSound = (p : Pair) (T : List ℕ) → wellFormed p ≡ true → passesEach p T ≡ true
-    → ((c : ℕ) → c < nC p → starts (p .concrete) c ≡ true → startCovered p T c ≡ true)
+    → HasStarts p T
     → (l : Lasso) → isPlay (p .concrete) l ≡ true → Matched p l
 
 -- the same of what the check says

@@ -2,12 +2,13 @@
 use Rattle.machine.specs.Lassos.{moment}
 use Rattle.machine.specs.WellFormedLaws.{well-pair, valid-is-well}
 use Rattle.machine.specs.VerdictLaws.{carried-at}
+use Rattle.machine.specs.EntriesLaws.{check-same}
 use Rattle.soundness.specs.Statements.{PassingIsSound, CarriedIsSound, PlayerIsRight, CheckUnread, PlayerUnread}
 use Rattle.soundness.specs.PlayLaws.{play-at}
 use Rattle.soundness.specs.AnswerLaws.{start-found}
 use Rattle.soundness.specs.SoundLaws.{returns, closes, agrees}
 use Rattle.soundness.specs.PlayerLaws.{playable, player-run}
-use Rattle.soundness.specs.UnreadLaws.{check-same, answer-same, buffer-same}
+use Rattle.soundness.specs.UnreadLaws.{answer-same, buffer-same}
 
 pub passing-is-sound : PassingIsSound
 passing-is-sound p T well passing start l play =

@@ -1,4 +1,4 @@
--- Entries past n × P are not looked at: for each pair, lasso and buffer, check and player say the same of two tables with the same n × P entries.
+-- Entries past n × P are not looked at: for each pair, lasso and buffer, the player says the same of two tables with the same n × P entries.
 use mathlib.Core.Bool.{true}
 use mathlib.Core.List.{List}
 use mathlib.Core.Path.{_≡_, refl, sym, ap, _∙_}
@@ -9,50 +9,23 @@ use Rattle.mask.specs.Bits.{hasBit}
 use Rattle.mask.specs.BoundedLaws.{first-cong, some-cong}
 use Rattle.mask.specs.TablesLaws.{table-cong}
 use Rattle.machine.specs.declared.Pair.{Pair}
-use Rattle.machine.specs.Refusals.{Result, answer, refused, Tested, valid, andThen, bufferAfter}
-use Rattle.machine.specs.RefusalsLaws.{then-of, then-answer, buffer-valid}
+use Rattle.machine.specs.Refusals.{answer, valid}
+use Rattle.machine.specs.RefusalsLaws.{then-answer, buffer-valid, then-same, after-same}
 use Rattle.machine.specs.Machines.{matched, moves, starts, successors, nC, nA, setsA}
 use Rattle.machine.specs.WellFormedLaws.{WellPair, well-valid}
 use Rattle.machine.specs.Lassos.{Lasso, moment}
 use Rattle.machine.specs.Step.{partner, stateOf}
+use Rattle.machine.specs.PartnerLaws.{partner-below}
 use Rattle.machine.specs.Table.{tableRoom, entry, SameEntries}
-use Rattle.machine.specs.EntriesLaws.{entry-same, covers-same, lines-same, verdict-same}
+use Rattle.machine.specs.EntriesLaws.{entry-same, covers-same, lines-same}
 use Rattle.machine.specs.Lines.{nonBlank}
-use Rattle.machine.specs.Verdict.{linesVerdict, checkVerdict}
-use Rattle.machine.specs.VerdictLaws.{check-lines}
 use Rattle.machine.specs.Player.{Place, startPartner, startValidity, sectionAfter, follow, stepTo, placeAt, samePlace, lastRound, earlierRound, stemLength, loopLength, run, played, playValidity, allValidity, playerAnswer, playerBuffer}
 use Rattle.soundness.specs.PlayLaws.{play-at}
-use Rattle.soundness.specs.AnswerLaws.{partner-below, Covered}
+use Rattle.soundness.specs.AnswerLaws.{Covered}
 use Rattle.soundness.specs.SoundLaws.{covered-at}
 use Rattle.soundness.specs.PlayerLaws.{GoodLasso, good-lasso, good-play, Playable, playable}
 
--- ---- tests that say the same, with what is said and written where they refuse nothing
-then-same : {A : Type 0} (v u : Tested) (w x : Result A) → v ≡ u → (v ≡ valid → w ≡ x) → andThen v w ≡ andThen u x
-unfolding andThen
-then-same v u w x e h = go v h ∙ ap (λ (v : Tested). andThen v x) e
-  where
-    go : (v : Tested) → (v ≡ valid → w ≡ x) → andThen v w ≡ andThen v x
-    go (answer t) h = h refl
-    go (refused r) h = refl
-
-after-same : (v u : Tested) (made other buffer : List ℕ) → v ≡ u → (v ≡ valid → made ≡ other) → bufferAfter v made buffer ≡ bufferAfter u other buffer
-unfolding bufferAfter
-after-same v u made other buffer e h = go v h ∙ ap (λ (v : Tested). bufferAfter v other buffer) e
-  where
-    go : (v : Tested) → (v ≡ valid → made ≡ other) → bufferAfter v made buffer ≡ bufferAfter v other buffer
-    go (answer t) h = rw (h refl)
-    go (refused r) h = refl
-
 module _ (p : Pair) (T U : List ℕ) (same : SameEntries p T U) where
-  -- ---- the check
-  lines-verdict-same : linesVerdict p T ≡ linesVerdict p U
-  unfolding linesVerdict
-  lines-verdict-same = then-same _ _ _ _ refl
-      (λ e. sym (then-of _ _ e) ∙ verdict-same p T U same (well-valid p e .abstraction .sets-low) ∙ then-of _ _ e)
-
-  pub check-same : tableRoom ≤ length T → tableRoom ≤ length U → checkVerdict p T ≡ checkVerdict p U
-  check-same long long′ = check-lines p T long ∙ lines-verdict-same ∙ sym (check-lines p U long′)
-
   -- ---- the rule's partners, among moves to states of the machine
   partner-unread : (moves j d : ℕ) → j < setsA p → d < nC p → ((i : ℕ) → i < 64 → hasBit moves i ≡ true → i < nA p)
       → partner moves (nonBlank p T j d) (entry p T j d) ≡ partner moves (nonBlank p U j d) (entry p U j d)

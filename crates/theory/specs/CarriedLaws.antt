@@ -16,10 +16,10 @@ use Rattle.machine.specs.WellFormed.{pairValidity}
 use Rattle.machine.specs.Table.{covers, coveredCount}
 use Rattle.machine.specs.Lines.{passesEach}
 use Rattle.machine.specs.LinesLaws.{lines-valid}
-use Rattle.machine.specs.Verdict.{carried, notCarried, startCovered, lackingStart, startVerdict, linesVerdict}
+use Rattle.machine.specs.Verdict.{HasStarts, carried, notCarried, startCovered, lackingStart, startVerdict, linesVerdict}
 use Rattle.machine.specs.VerdictLaws.{before-lacking, carried-at, lines-said}
 use Rattle.machine.specs.RefusalsLaws.{then-of}
-use Rattle.theory.specs.Statements.{HasStarts, IsLowest}
+use Rattle.theory.specs.Statements.{IsLowest}
 
 module _ (p : Pair) (T : List ℕ) where
   lowest : lackingStart p T < nC p → IsLowest p T (lackingStart p T)

@@ -15,7 +15,7 @@ use Rattle.machine.specs.Ranks.{levelOf, setOf, rank, solverTable}
 use Rattle.machine.specs.Refusals.{answer}
 use Rattle.machine.specs.Table.{blank, entry, covers, IsTable}
 use Rattle.machine.specs.Lines.{passesEach}
-use Rattle.machine.specs.Verdict.{carried, notCarried, startCovered, linesVerdict}
+use Rattle.machine.specs.Verdict.{HasStarts, carried, notCarried, startCovered, linesVerdict}
 use Rattle.theory.specs.Figure2.{Set, Cor, approx, UnderX, Innermost, row, figure2, IterateY, FigureGoal, FigureX}
 
 module _ (p : Pair) where
@@ -138,14 +138,10 @@ module _ (p : Pair) where
   SolverTableCovers = wellFormed p ≡ true → (T : List ℕ) → passesEach p T ≡ true → (j c a : ℕ) → j < setsA p → c < nC p → a < nA p
       → covers p T j c a ≡ true → covers p (solverTable p) j c a ≡ true
 
-  -- T has, for each concrete start state, an abstract start state with the pair non-blank in section 1
-  abbrev pub HasStarts : List ℕ → Type 0
-  HasStarts T = (c : ℕ) → c < nC p → starts (p .concrete) c ≡ true → startCovered p T c ≡ true
-
   -- 5. the check says Carried of the solver's table exactly when some table passes each line and has the start pairs
   abbrev pub CarriedExactly : Type 0
   CarriedExactly = wellFormed p ≡ true
-      → ((n : ℕ) × (linesVerdict p (solverTable p) ≡ answer (carried n))) ↔ ((T : List ℕ) × IsTable p T × (passesEach p T ≡ true) × HasStarts T)
+      → ((n : ℕ) × (linesVerdict p (solverTable p) ≡ answer (carried n))) ↔ ((T : List ℕ) × IsTable p T × (passesEach p T ≡ true) × HasStarts p T)
 
 -- NotCarried's c is the lowest start state that lacks a partner
 pub record IsLowest (p : Pair) (T : List ℕ) (c : ℕ) : Type 0 where

@@ -1,5 +1,5 @@
 -- Laws of what is said of a file, by what the reader says of it.
-use mathlib.Core.Bool.{Bool, true, false}
+use mathlib.Core.Bool.{true, false}
 use mathlib.Core.List.{List}
 use mathlib.Core.Path.{_≡_, sym, ap, _∙_}
 use Prim.Native.Nat.{ℕ, _<_}
@@ -10,8 +10,8 @@ use borrow.Author.Tests.{ltb-true}
 use Rattle.mask.specs.LogicLaws.{cond-cases}
 use Rattle.machine.specs.declared.Pair.{Pair}
 use Rattle.machine.specs.declared.Refusal.{Refusal}
-use Rattle.machine.specs.Refusals.{Result, answer, refused, passOn}
-use Rattle.machine.specs.RefusalsLaws.{pass-of, pass-refused, pass-answer, answer-is}
+use Rattle.machine.specs.Refusals.{answer, refused, passOn}
+use Rattle.machine.specs.RefusalsLaws.{pass-of, pass-refused, pass-answer}
 use Rattle.machine.specs.Machines.{nC}
 use Rattle.machine.specs.WellFormedLaws.{well-valid}
 use Rattle.machine.specs.Table.{tableRoom}

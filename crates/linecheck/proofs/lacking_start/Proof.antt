@@ -14,13 +14,13 @@ use Rattle.machine.specs.Table.{blank, entryIndex}
 use Rattle.machine.specs.RowLaws.{row-room}
 use Rattle.machine.specs.Verdict.{startCovered}
 use Rattle.machine.specs.VerdictLaws.{lacks, lacks-not, lacks-covered, lacks-is, lacking-is, lacking-none}
-use Rattle.linecheck.specs.BoundsLaws.{pairOf, place-at}
+use Rattle.linecheck.specs.BoundsLaws.{asPair, place-at}
 use Rattle.linecheck.specs.StartsLaws.{start-found}
 use Rattle.linecheck.proofs.lacking_start.Statement.{statement}
 use Rattle.linecheck.proofs.lacking_start.Tie as tie
 
 abbrev Inv-loop : tie.InvT-loop
-Inv-loop table concrete abstraction nc na c₀ c = (c ≤ nc) × ((k : ℕ) → k < c → lacks (pairOf concrete abstraction) table k ≡ false)
+Inv-loop table concrete abstraction nc na c₀ c = (c ≤ nc) × ((k : ℕ) → k < c → lacks (asPair concrete abstraction) table k ≡ false)
 
 abbrev μ-loop : tie.MeasureT-loop
 μ-loop table concrete abstraction nc na c₀ c = nc - c

@@ -24,7 +24,7 @@ use Rattle.linecheck.specs.Answers.{verdictOf}
 use Rattle.linecheck.proofs.Checked as said
 use Rattle.soundness.specs.PlayerLaws.{GoodLasso, good-lasso, Playable, playable}
 use Rattle.player.specs.Answers.{playedOf}
-use Rattle.player.specs.AnswerLaws.{Passes, check-passes, stopped-by, short-run, check-stops, lasso-stops, start-stops, run-answer, run-buffer}
+use Rattle.player.specs.AnswerLaws.{Passes, check-tells, stopped-by, short-run, check-stops, lasso-stops, start-stops, run-answer, run-buffer}
 use Rattle.player.proofs.play.Statement.{statement}
 use Rattle.player.proofs.play.Tie as tie
 
@@ -72,7 +72,7 @@ taken (Refused s) k = absurd (miss (0 ∷ 1 ∷ []) 2 tt k)
 passes : (c : tie.At-match-keys2) → let d = c .before .before in Passes (top d .args .p) (top d .args .table .now)
 passes c =
     let d = c .before .before in
-    check-passes (top d .args .p) (top d .args .table .now)
+    check-tells (top d .args .p) (top d .args .table .now)
     (sym (c .before .check-table .ensures) ∙ taken (c .before .check-table .result) (c .match .keys2) .1)
 
 well : (c : tie.At-match-keys2) → WellPair (top (c .before .before) .args .p)

@@ -1,3 +1,4 @@
+-- The digits and the byte after them go behind the text, which is then the longer text.
 use mathlib.Core.Path.{_≡_, ap}
 use lib.ListN.{length}
 use Prim.Native.Nat.{_≤_}

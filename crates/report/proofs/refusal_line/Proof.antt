@@ -1,3 +1,4 @@
+-- The word and four numbers, each put behind the line so far, are the parts of the definition.
 use mathlib.Core.Path.{ap, _∙_}
 use native.Mathlib.Omega.{arith}
 use Rattle.report.specs.Answers.{lineOf}

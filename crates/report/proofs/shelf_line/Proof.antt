@@ -1,3 +1,4 @@
+-- Longer input is cut and shorter input is its own front, so that both arms are the line of the same file.
 use mathlib.Core.Path.{ap, _∙_}
 use native.Mathlib.Omega.{arith}
 use lib.ListN.{length-take}

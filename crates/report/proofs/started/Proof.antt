@@ -1,3 +1,4 @@
+-- A word put at the front of zeros is the line of that word.
 use mathlib.Core.Path.{refl}
 use denote.Ref.{now}
 use Rattle.report.specs.LineLaws.{started-line}

@@ -1,3 +1,4 @@
+-- Each case puts its word and its numbers one after the other, as the definition joins them.
 use mathlib.Core.Path.{sym, ap, _∙_}
 use native.Mathlib.Omega.{arith}
 use Rattle.verdict.specs.declared.FileVerdict.{FileVerdict}

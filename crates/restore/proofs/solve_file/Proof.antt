@@ -1,5 +1,5 @@
 -- The file's length, or the refusal's four numbers one after the other: what the two cases of the definitions say.
-use mathlib.Core.Path.{sym, ap, _∙_}
+use mathlib.Core.Path.{sym, ap}
 use Prim.Native.Nat.{ℕ}
 use denote.Ref.{now}
 use Rattle.machine.specs.Refusals.{Result}

@@ -1,3 +1,4 @@
+-- What was read is a front of the buffer, and the line lies within its array.
 use mathlib.Core.Path.{_≡_, sym}
 use Prim.Native.Nat.{_≤_}
 use native.Mathlib.Omega.{arith}

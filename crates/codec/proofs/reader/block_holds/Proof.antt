@@ -1,3 +1,4 @@
+-- The number is looked at only where the check holds, as the test of both does.
 use mathlib.Core.Path.{sym, _∙_}
 use borrow.Author.Needs.{needs}
 use Rattle.mask.specs.LogicLaws.{and-true-l, and-false-l}

@@ -1,3 +1,4 @@
+-- The stored number and the sum are compared as numbers of 16 bits, which both are.
 use mathlib.Core.Path.{ap₂}
 use lib.Dec.{eqb}
 use borrow.Author.Needs.{needs}

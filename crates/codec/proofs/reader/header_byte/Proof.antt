@@ -1,3 +1,4 @@
+-- The header lies in the first block, behind its number.
 use Prim.Native.Nat.{_+_}
 use mathlib.Core.Path.{refl}
 use native.Mathlib.Omega.{arith}

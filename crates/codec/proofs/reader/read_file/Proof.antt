@@ -3,7 +3,7 @@ use mathlib.Core.Path.{_≡_, sym, ap, _∙_}
 use Rattle.machine.specs.Refusals.{andThen, refused, valid}
 use Rattle.machine.specs.RefusalsLaws.{then-refused, tested-valid, tested-refused, buffer-kept}
 use Rattle.codec.specs.Reader.{firstValidity, blocksValidity, readAnswer, readTable}
-use Rattle.codec.specs.ReaderLaws.{read-short, read-refused, read-pair}
+use Rattle.codec.specs.ReaderLaws.{read-short, tests-refused, read-pair}
 use Rattle.codec.specs.AnswersLaws.{shown-refused}
 use borrow.Author.Needs.{needs}
 use Rattle.codec.proofs.reader.read_file.Statement.{statement}
@@ -45,7 +45,7 @@ returns-2 : tie.Need-returns-2
 unfolding readAnswer readTable
 returns-2 c =
     let told = c .before .before .before .before in
-    let e = read-refused (told .before .before .before .before .args .bytes .now) _ (told .before .if1 .left) _ (tested-refused (told .file-validity .ensures) (c .before .before .r .given .1)) in
+    let e = tests-refused (told .before .before .before .before .args .bytes .now) _ (told .before .if1 .left) _ (tested-refused (told .file-validity .ensures) (c .before .before .r .given .1)) in
     let shown = shown-refused (c .refused-show2 .result) (then-refused _ _ _ e) (c .refused-show2 .ensures .0) (c .refused-show2 .ensures .1) in
     (shown .0, (shown .1, sym (buffer-kept _ _ _ e)))
 

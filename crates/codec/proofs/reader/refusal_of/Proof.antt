@@ -1,3 +1,4 @@
+-- Each case of the reading is one of the definition.
 use mathlib.Core.Path.{sym, ap, _∙_}
 use Rattle.codec.specs.Answers.{refusalOf}
 use borrow.Author.Needs.{needs}

@@ -1,3 +1,4 @@
+-- The two cases of the enum are the two of its result.
 use Rattle.player.specs.Answers.{playedOf}
 use Rattle.comparison.specs.Answers.{fourOf, playedNumbers}
 use borrow.Author.Needs.{needs}

@@ -1,3 +1,4 @@
+-- The two cases of the enum are the two of its result.
 use Rattle.machine.specs.Refusals.{testedOf}
 use Rattle.comparison.specs.Answers.{fourOf}
 use borrow.Author.Needs.{needs}

@@ -1,3 +1,4 @@
+-- Each case of the enum gives the four numbers that the definition gives for its result.
 use Rattle.linecheck.specs.Answers.{verdictOf}
 use Rattle.comparison.specs.Answers.{fourOf, verdictNumbers}
 use borrow.Author.Needs.{needs}

@@ -5,7 +5,7 @@ use native.Mathlib.Omega.{arith}
 use lib.ListN.{length-replicate}
 use borrow.Author.Needs.{needs}
 use Rattle.machine.specs.Table.{tableRoom}
-use Rattle.comparison.specs.Tables.{tableOf, tableTally}
+use Rattle.comparison.specs.Tables.{triedTable, tableTally}
 use Rattle.comparison.specs.TablesLaws.{Reused, reused-start, reused-tally, reused-turn}
 use Rattle.comparison.specs.Tallies.{total}
 use Rattle.comparison.specs.TalliesLaws.{total-more, total-start}
@@ -14,7 +14,7 @@ use Rattle.comparison.proofs.tables.compare_tables.Tie as tie
 
 abbrev Inv-loop : tie.InvT-loop
 Inv-loop p every top n count solved table₀ sum₀ x₀ table sum x =
-    (x ≤ count) × Reused every top n solved table₀ table × (sum ≡ total x (λ z. tableTally p n solved (tableOf every top n solved z table₀)))
+    (x ≤ count) × Reused every top n solved table₀ table × (sum ≡ total x (λ z. tableTally p n solved (triedTable every top n solved z table₀)))
 
 abbrev μ-loop : tie.MeasureT-loop
 μ-loop p every top n count solved table₀ sum₀ x₀ table sum x = count - x

@@ -1,3 +1,4 @@
+-- Both arms lay a table over the front of the same buffer.
 use borrow.Author.Needs.{needs}
 use Rattle.comparison.specs.TablesLaws.{table-of-all, table-of-near}
 use Rattle.comparison.proofs.tables.put_table.Statement.{statement}

@@ -1,3 +1,4 @@
+-- Each count is 1 or 0 by its own test.
 use Rattle.comparison.specs.Tallies.{nothing, ofTable}
 use borrow.Author.Needs.{needs}
 use Rattle.comparison.proofs.tally.of_table.Statement.{statement}
