@@ -1,7 +1,7 @@
 // The plain reading of document 01's "Line check".
 ghost use mathlib.Core.Bool.{true};
 ghost use mathlib.Core.Path.{_≡_};
-ghost use Prim.Native.Nat.{_*_, _<_, _≤_};
+ghost use Prim.Native.Nat.{_<_, _≤_};
 ghost use lib.ListN.{getD};
 ghost use Rattle.mask.specs.Bounded.{every, first, someIn};
 ghost use Rattle.mask.specs.Logic.{not};

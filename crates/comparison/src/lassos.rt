@@ -1,6 +1,6 @@
 // The player beside the rule, on all short lassos: the answers, the run, and whether it is a fair lasso with the same observations.
 ghost use mathlib.Core.Path.{_≡_};
-ghost use Prim.Native.Nat.{_+_, _*_, _≤_};
+ghost use Prim.Native.Nat.{_+_, _≤_};
 ghost use Rattle.machine.specs.Lassos.{given};
 ghost use Rattle.comparison.specs.Lassos.{runFits, lassoAgrees, lassoTally, numberedLasso, power, shapeTally, lassosTally};
 use crate::answers::as_played;
