@@ -14,6 +14,7 @@ use Rattle.mask.specs.LogicLaws.{both}
 use Rattle.mask.specs.BoundedLaws.{every-at, every-of}
 use Rattle.mask.specs.Tables.{table}
 use Rattle.mask.specs.TablesLaws.{table-length, table-at, table-past, table-cong, fill-done}
+use Rattle.mask.specs.FrontLaws.{zeros-at}
 use Rattle.machine.specs.declared.Pair.{Pair}
 use Rattle.machine.specs.Machines.{fairSet, next, setsA, pairs}
 use Rattle.machine.specs.StepLaws.{next-lt}
@@ -23,7 +24,6 @@ use Rattle.machine.specs.Game.{sameSet, allMatched, goals, levels, turn, firstF
 use Rattle.theory.specs.GameLaws.{set-canonical, Within-refl, same-of, same-within, same-holds}
 use Rattle.theory.specs.FamilyLaws.{Tabled, family-ext, turn-tabled, first-tabled}
 use Rattle.solver.specs.Rows.{rowsOf, pairsIn, flatOf, sectionOf, familyIn, putSection, goalRows, sameRows, stepsOf}
-use Rattle.solver.specs.FillLaws.{zeros-at}
 use Rattle.solver.specs.FixLaws.{Images, Following, following-turn, following-stop, following-out}
 use Rattle.solver.specs.RowsLaws.{same-yes, same-at}
 use Rattle.solver.specs.SetRowsLaws.{rows-at, set-back, matched-rows, goals-is}

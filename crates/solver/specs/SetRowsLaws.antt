@@ -19,6 +19,7 @@ use Rattle.mask.specs.Bounded.{everyIn, someIn}
 use Rattle.mask.specs.BoundedLaws.{everyIn-at, everyIn-of, someIn-at, someIn-of}
 use Rattle.mask.specs.Tables.{maskOf, table}
 use Rattle.mask.specs.TablesLaws.{table-at, table-past, table-cong, fill-done, maskOf-lt, maskOf-is, has-maskOf-at}
+use Rattle.mask.specs.FrontLaws.{zeros-at}
 use Rattle.machine.specs.declared.Pair.{Pair}
 use Rattle.machine.specs.Machines.{successors, moves, fairSet, inFairSet, matched, next, nC, nA, setsA, pairs}
 use Rattle.machine.specs.Step.{alike, steps}
@@ -30,7 +31,6 @@ use Rattle.machine.specs.WellFormedLaws.{WellPair}
 use Rattle.machine.specs.Game.{pairSet, mem, sameSet, allMatched, goals, inX, roundX, xOver}
 use Rattle.theory.specs.GameLaws.{Canonical, set-canonical, set-ext, same-of, same-within, same-holds}
 use Rattle.solver.specs.Rows.{rowsOf, pairsIn, partnersOf, partnerRows, meetOf, stepRows, goalRows, baseRows, outerRows, unionRows, sameRows, xRound, xRows, stepsOf, roundOf, xOf}
-use Rattle.solver.specs.FillLaws.{zeros-at}
 use Rattle.solver.specs.FixLaws.{Images, settle-along}
 use Rattle.solver.specs.RowsLaws.{same-yes, same-at}
 
