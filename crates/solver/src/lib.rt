@@ -20,7 +20,7 @@ ghost use Rattle.mask.specs.Tables.{table};
 ghost use Rattle.machine.specs.Game.{goals, levelOver, levels, turn, family};
 ghost use Rattle.solver.specs.Ranking.{LevelRanked, sectionRanks};
 ghost use Rattle.solver.specs.Solver.{solveValidity, solvedTable};
-ghost use Rattle.solver.specs.Rows.{rowsOf, pairsIn, flatOf, familyIn, partnersOf, partnerRows, meetOf, stepRows, goalRows, baseRows, outerRows, xRound, unionRows, sameRows, xRows, sectionOf, putSection, without, stampRow, stampRows};
+ghost use Rattle.solver.specs.Rows.{rowsOf, pairsIn, flatOf, familyIn, partnersOf, partnerRows, meetOf, stepRows, goalRows, joinRows, outerRows, xRound, sameRows, xRows, sectionOf, putSection, without, stampRow, stampRows};
 use machine::Pair;
 use machine::Partner;
 use machine::Validity;
@@ -108,13 +108,13 @@ fn goal_rows(matched: &[u64; 64], members: u64, steps: &[u64; 64]) -> [u64; 64]
     out
 }
 
-// What is in X whatever X is: goals, and pairs that step into the level below.
-fn base_rows(matched: &[u64; 64], goals: &[u64; 64], steps: &[u64; 64]) -> [u64; 64]
-    ensures { λ r. ⌜ r ≡ baseRows (now (matched .entry)) (now (goals .entry)) (now (steps .entry)) ⌝ }
+// The matched pairs that are in one of two sets.
+fn join_rows(matched: &[u64; 64], x: &[u64; 64], y: &[u64; 64]) -> [u64; 64]
+    ensures { λ r. ⌜ r ≡ joinRows (now (matched .entry)) (now (x .entry)) (now (y .entry)) ⌝ }
 {
     let mut out = [0u64; 64];
     for c in 0..64 {
-        out[c] = matched[c] & (goals[c] | steps[c]);
+        out[c] = matched[c] & (x[c] | y[c]);
     }
     out
 }
@@ -152,17 +152,6 @@ fn x_round(
     for c in 0..nc {
         let steps = meet(na, concrete[c], &rows);
         out[c] = base[c] | (outer[c] & steps);
-    }
-    out
-}
-
-// The union of two sets.
-fn union_rows(x: &[u64; 64], y: &[u64; 64]) -> [u64; 64]
-    ensures { λ r. ⌜ r ≡ unionRows (now (x .entry)) (now (y .entry)) ⌝ }
-{
-    let mut out = [0u64; 64];
-    for c in 0..64 {
-        out[c] = x[c] | y[c];
     }
     out
 }
@@ -220,7 +209,7 @@ fn level(p: Pair, matched: &[u64; 64], goals: &[u64; 64], below: &[u64; 64]) -> 
     let abstract_moves = abstraction.successors;
     let sets = concrete.fairness;
     let steps = step_rows(nc, na, &concrete_moves, &abstract_moves, below);
-    let base = base_rows(matched, goals, &steps);
+    let base = join_rows(matched, goals, &steps);
     let mut out = [0u64; 64];
     for k in 0..concrete.sets {
         let x = x_rows(
@@ -232,7 +221,7 @@ fn level(p: Pair, matched: &[u64; 64], goals: &[u64; 64], below: &[u64; 64]) -> 
             &base,
             sets[k],
         );
-        out = union_rows(&x, &out);
+        out = join_rows(matched, &x, &out);
     }
     out
 }
@@ -433,8 +422,8 @@ fn rank_level(
     let abstract_moves = abstraction.successors;
     let sets = concrete.fairness;
     let steps = step_rows(nc, na, &concrete_moves, &abstract_moves, below);
-    let base = base_rows(matched, goals, &steps);
-    let mut seen = union_rows(goals, below);
+    let base = join_rows(matched, goals, &steps);
+    let mut seen = join_rows(matched, goals, below);
     for k in 0..m {
         let x = x_rows(
             nc,
@@ -447,7 +436,7 @@ fn rank_level(
         );
         let v = rank_of(m, l, k);
         stamp(nc, na, &x, &seen, v, part);
-        seen = union_rows(&x, &seen);
+        seen = join_rows(matched, &x, &seen);
     }
     seen
 }

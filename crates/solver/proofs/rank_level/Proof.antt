@@ -4,7 +4,7 @@ use native.Mathlib.Omega.{arith}
 use lib.ListN.{length}
 use borrow.Author.Needs.{needs}
 use Rattle.machine.specs.WellFormedLaws.{WellPair, well-pair, pairs-small}
-use Rattle.solver.specs.Rows.{unionRows, levelRows, rankRows}
+use Rattle.solver.specs.Rows.{joinRows, levelRows, rankRows}
 use Rattle.solver.specs.LevelRowsLaws.{level-rows-none, level-rows-more}
 use Rattle.solver.specs.RankRowsLaws.{rank-rows-none, rank-rows-more, rank-rows-length, ranked-length, x-small, ranked-next}
 use Rattle.solver.proofs.rank_level.Statement.{statement}
@@ -19,7 +19,7 @@ abbrev μ-loop : tie.MeasureT-loop
 μ-loop matched goals below l part₀ nc na m concrete-moves abstract-moves sets base seen₀ k₀ part seen k = m - k
 
 -- the entry, from where the loop begins
-abbrev entry : tie.After-union-rows Inv-loop μ-loop → tie.Start Inv-loop μ-loop
+abbrev entry : tie.After-join-rows2 Inv-loop μ-loop → tie.Start Inv-loop μ-loop
 entry c = c .before .before .before .before .before .before .before .before .before .before .before .before
 
 well : (c : tie.Start Inv-loop μ-loop) → WellPair (c .args .p)
@@ -29,7 +29,7 @@ bounds : (c : tie.Start Inv-loop μ-loop) → (c .args .p .concrete .states ≤ 
 bounds c = let w = well c in (w .concrete .states-high, w .abstraction .states-high)
 
 -- where X is made, from the turn's end; and the turn, from there
-abbrev made : tie.After-union-rows2 Inv-loop μ-loop → tie.After-x-rows Inv-loop μ-loop
+abbrev made : tie.After-join-rows3 Inv-loop μ-loop → tie.After-x-rows Inv-loop μ-loop
 made c = c .before .before .before .before .before .before .before .before .before .before
 
 abbrev inside : tie.After-x-rows Inv-loop μ-loop → tie.In-loop Inv-loop μ-loop
@@ -41,11 +41,11 @@ few c = omega (arith, c .loop-test .taken, well (entry (c .before .before)) .con
 step-rows-requires : tie.Need-step-rows-requires Inv-loop μ-loop
 step-rows-requires c κs = bounds (c .before .before .before .before .before .before .before .before)
 
-base-rows-requires : tie.Need-base-rows-requires Inv-loop μ-loop
-base-rows-requires c κs = search needs
+join-rows-requires : tie.Need-join-rows-requires Inv-loop μ-loop
+join-rows-requires c κs = search needs
 
-union-rows-requires : tie.Need-union-rows-requires Inv-loop μ-loop
-union-rows-requires c κs = search needs
+join-rows-requires-2 : tie.Need-join-rows-requires-2 Inv-loop μ-loop
+join-rows-requires-2 c κs = search needs
 
 loop-holds : tie.Need-loop-holds Inv-loop μ-loop
 loop-holds c = (omega arith, level-rows-none _ _ _ _ _ _ _ _, rank-rows-none _ _ _ _ _ _ _ _ _ _)
@@ -76,12 +76,12 @@ stamp-requires c κs =
       (
         long h ∙ ranked-length (s .pre .0),
         λ i q. rw (x .x-rows .ensures)
-            (x-small (s .pre .0) (s .pre .1) (h .before .before .before .before .step-rows .ensures) (h .before .before .base-rows .ensures) (h .loop .k) i q),
+            (x-small (s .pre .0) (s .pre .1) (h .before .before .before .before .step-rows .ensures) (h .before .before .join-rows .ensures) (h .loop .k) i q),
       ),
     )
 
-union-rows-requires-2 : tie.Need-union-rows-requires-2 Inv-loop μ-loop
-union-rows-requires-2 c κs = search needs
+join-rows-requires-3 : tie.Need-join-rows-requires-3 Inv-loop μ-loop
+join-rows-requires-3 c κs = search needs
 
 add-k : tie.Need-add-k Inv-loop μ-loop
 add-k c = omega (arith, few (inside (made c)))
@@ -95,7 +95,7 @@ loop-again c =
     let l = inside x .before .loop in
     let v = c .before .before .before .before .before .before .before .before .before .rank-of in (
       omega (arith, inside x .loop-test .taken),
-      c .union-rows2 .ensures ∙ ap₂ unionRows (x .x-rows .ensures) (l .inv .1) ∙ level-rows-more _ _ _ _ _ _ _ _ (l .k),
+      c .join-rows3 .ensures ∙ ap₂ (joinRows _) (x .x-rows .ensures) (l .inv .1) ∙ level-rows-more _ _ _ _ _ _ _ _ (l .k),
       c .before .before .before .before .before .stamp .ensures
           ∙ rank-rows-more _ _ _ _ _ _ _ _ _ _ (l .k) (x .x-rows .ensures) (l .inv .1) (v .ensures) (l .inv .2),
     )
@@ -110,7 +110,7 @@ returns c =
     let s = entry u in
     let b = u .before in
     rw (h .loop .inv .1, h .loop .inv .2)
-    (ranked-next (s .pre .0) (s .pre .1) (b .before .before .step-rows .ensures) (b .base-rows .ensures) (u .union-rows .ensures) (omega arith))
+    (ranked-next (s .pre .0) (s .pre .1) (b .before .before .step-rows .ensures) (b .join-rows .ensures) (u .join-rows2 .ensures) (omega arith))
 
 pub rank-level-spec : {M : Type 1} → statement M
 rank-level-spec =
@@ -119,15 +119,15 @@ rank-level-spec =
     Inv-loop
     μ-loop
     step-rows-requires
-    base-rows-requires
-    union-rows-requires
+    join-rows-requires
+    join-rows-requires-2
     loop-holds
     mul-x-rows
     array-read-x-rows
     x-rows-requires
     rank-of-requires
     stamp-requires
-    union-rows-requires-2
+    join-rows-requires-3
     add-k
     loop-less
     loop-again

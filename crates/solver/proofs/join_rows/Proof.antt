@@ -2,19 +2,19 @@ use mathlib.Core.Path.{_≡_, refl}
 use Prim.Native.Nat.{_-_, _≤_}
 use native.Mathlib.Omega.{arith}
 use lib.ListN.{getD, replicate}
-use lib.Bits.{bitOr}
+use lib.Bits.{bitAnd, bitOr}
 use borrow.Author.Needs.{needs}
 use Rattle.mask.specs.Tables.{front}
 use Rattle.mask.specs.FrontLaws.{front-none, front-turn, front-all}
-use Rattle.solver.specs.Rows.{unionRows}
-use Rattle.solver.proofs.union_rows.Statement.{statement}
-use Rattle.solver.proofs.union_rows.Tie as tie
+use Rattle.solver.specs.Rows.{joinRows}
+use Rattle.solver.proofs.join_rows.Statement.{statement}
+use Rattle.solver.proofs.join_rows.Tie as tie
 
 abbrev Inv-loop : tie.InvT-loop
-Inv-loop x y out₀ c₀ out c = (c ≤ 64) × (out ≡ front c (λ k. bitOr (getD x k 0) (getD y k 0)) (replicate 64 0))
+Inv-loop matched x y out₀ c₀ out c = (c ≤ 64) × (out ≡ front c (λ k. bitAnd (getD matched k 0) (bitOr (getD x k 0) (getD y k 0))) (replicate 64 0))
 
 abbrev μ-loop : tie.MeasureT-loop
-μ-loop x y out₀ c₀ out c = 64 - c
+μ-loop matched x y out₀ c₀ out c = 64 - c
 
 loop-holds : tie.Need-loop-holds Inv-loop μ-loop
 loop-holds c = (omega arith, front-none _ _)
@@ -34,6 +34,12 @@ element-copy-out-out-2 c = search needs
 mul-out-3 : tie.Need-mul-out-3 Inv-loop μ-loop
 mul-out-3 c = search needs
 
+element-copy-out-out-3 : tie.Need-element-copy-out-out-3 Inv-loop μ-loop
+element-copy-out-out-3 c = search needs
+
+mul-out-4 : tie.Need-mul-out-4 Inv-loop μ-loop
+mul-out-4 c = search needs
+
 array-write-out : tie.Need-array-write-out Inv-loop μ-loop
 array-write-out c = search needs
 
@@ -44,14 +50,14 @@ loop-less : tie.Need-loop-less Inv-loop μ-loop
 loop-less c = search needs
 
 loop-again : tie.Need-loop-again Inv-loop μ-loop
-loop-again c = let l = c .before .before .before .loop in (omega arith, front-turn _ _ (l .inv .1) (omega arith) refl)
+loop-again c = let l = c .before .before .before .before .loop in (omega arith, front-turn _ _ (l .inv .1) (omega arith) refl)
 
 returns : tie.Need-returns Inv-loop μ-loop
-unfolding unionRows
+unfolding joinRows
 returns c = front-all _ _ (c .before .loop .inv .1) (omega arith)
 
-pub union-rows-spec : {M : Type 1} → statement M
-union-rows-spec =
+pub join-rows-spec : {M : Type 1} → statement M
+join-rows-spec =
     tie.close
     (tie.spec
     Inv-loop
@@ -62,6 +68,8 @@ union-rows-spec =
     mul-out-2
     element-copy-out-out-2
     mul-out-3
+    element-copy-out-out-3
+    mul-out-4
     array-write-out
     add-c
     loop-less
