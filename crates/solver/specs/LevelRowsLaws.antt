@@ -75,10 +75,9 @@ module _ (p : Pair) (w : WellPair p) where
     level-is = level-upto (setsC p) ∙ ap rowsOf union-all
 
     -- what the loop leaves is the next level
-    pub level-done : {matched steps base : List ℕ} {k : ℕ} → matched ≡ matchedMasks p
-        → steps ≡ stepsOf p below → base ≡ joinRows matched goals steps → k ≡ setsC p
+    pub level-done : {matched base : List ℕ} {k : ℕ} → matched ≡ matchedMasks p → base ≡ joinRows matched goals (stepsOf p below) → k ≡ setsC p
         → joinedOf p matched base (replicate 64 0) k ≡ rowsOf (levelOver p G B)
-    level-done em es eb ek = rw (ek, eb, es, em) level-is
+    level-done em eb ek = rw (ek, eb, em) level-is
 
   -- ---- the levels, one turn after the other
   module _ (goals : List ℕ) where

@@ -306,9 +306,9 @@ module _ {p : Pair} {matched goals : List ℕ} {l : ℕ} {below part : List ℕ}
   unfolding sectionUpto
   ranked-length = ap length (d .entries-are) ∙ table-length _ _
 
-  module _ (hl : l < pairs p) {steps base : List ℕ} (es : steps ≡ stepsOf p below) (eb : base ≡ joinRows matched goals steps) where
+  module _ (hl : l < pairs p) {base : List ℕ} (eb : base ≡ joinRows matched goals (stepsOf p below)) where
     base-is : base ≡ joinRows (matchedMasks p) goals (stepsOf p below)
-    base-is = eb ∙ rw (d .all-matched, es)
+    base-is = eb ∙ rw (d .all-matched)
 
     pub x-small : (k c : ℕ) → c < nC p
         → getD (xOf p matched base k) c 0 < 2 ^ nA p

@@ -9,7 +9,7 @@ ghost use Prim.Native.Nat.{ℕ, _+_, _*_, _<_, _≤_, _^_};
 ghost use lib.ListN.{length, getD, drop};
 ghost use mathlib.Core.List.{_++_};
 ghost use Rattle.mask.specs.Bits.{hasBit};
-ghost use Rattle.machine.specs.Machines.{setsA, pairs};
+ghost use Rattle.machine.specs.Machines.{setsC, setsA, pairs};
 ghost use Rattle.machine.specs.Refusals.{testedOf};
 ghost use Rattle.machine.specs.Table.{blank, tableRoom};
 ghost use Rattle.machine.specs.Ranks.{solverTable};
@@ -20,7 +20,7 @@ ghost use Rattle.mask.specs.Tables.{table};
 ghost use Rattle.machine.specs.Game.{goals, levelOver, levels, turn, family};
 ghost use Rattle.solver.specs.Ranking.{LevelRanked, sectionRanks};
 ghost use Rattle.solver.specs.Solver.{solveValidity, solvedTable};
-ghost use Rattle.solver.specs.Rows.{rowsOf, pairsIn, flatOf, familyIn, partnersOf, partnerRows, meetOf, stepRows, goalRows, joinRows, outerRows, xRound, sameRows, xRows, sectionOf, putSection, without, stampRow, stampRows};
+ghost use Rattle.solver.specs.Rows.{rowsOf, pairsIn, flatOf, familyIn, partnersOf, partnerRows, meetOf, stepRows, goalRows, joinRows, outerRows, xRound, sameRows, xRows, sectionOf, putSection, without, stampRow, stampRows, stepsOf, xOf};
 use machine::Pair;
 use machine::Partner;
 use machine::Validity;
@@ -196,10 +196,25 @@ fn x_rows(
 
 // ---- Levels
 
-// Level l from level l - 1: the union of X(l, 1) .. X(l, m).
-fn level(p: Pair, matched: &[u64; 64], goals: &[u64; 64], below: &[u64; 64]) -> [u64; 64]
-    requires { ⌜ (wellFormed p ≡ true) × (now matched ≡ matchedMasks p) ⌝ }
-    ensures { λ r. ⌜ r ≡ rowsOf (levelOver p (pairsIn p (now (goals .entry))) (pairsIn p (now (below .entry)))) ⌝ }
+// What is in each set X of a level whatever it is: goals, and pairs that step into the level below.
+fn level_base(p: Pair, matched: &[u64; 64], goals: &[u64; 64], below: &[u64; 64]) -> [u64; 64]
+    requires { ⌜ wellFormed p ≡ true ⌝ }
+    ensures { λ r. ⌜ r ≡ joinRows (now (matched .entry)) (now (goals .entry)) (stepsOf p (now (below .entry))) ⌝ }
+{
+    let concrete = p.concrete;
+    let abstraction = p.abstraction;
+    let nc = concrete.states;
+    let na = abstraction.states;
+    let concrete_moves = concrete.successors;
+    let abstract_moves = abstraction.successors;
+    let steps = step_rows(nc, na, &concrete_moves, &abstract_moves, below);
+    join_rows(matched, goals, &steps)
+}
+
+// X of set k over a base.
+fn level_x(p: Pair, matched: &[u64; 64], base: &[u64; 64], k: usize) -> [u64; 64]
+    requires { ⌜ (wellFormed p ≡ true) × (k < setsC p) ⌝ }
+    ensures { λ r. ⌜ r ≡ xOf p (now (matched .entry)) (now (base .entry)) k ⌝ }
 {
     let concrete = p.concrete;
     let abstraction = p.abstraction;
@@ -208,19 +223,28 @@ fn level(p: Pair, matched: &[u64; 64], goals: &[u64; 64], below: &[u64; 64]) -> 
     let concrete_moves = concrete.successors;
     let abstract_moves = abstraction.successors;
     let sets = concrete.fairness;
-    let steps = step_rows(nc, na, &concrete_moves, &abstract_moves, below);
-    let base = join_rows(matched, goals, &steps);
+    x_rows(
+        nc,
+        na,
+        &concrete_moves,
+        &abstract_moves,
+        matched,
+        base,
+        sets[k],
+    )
+}
+
+// Level l from level l - 1: the union of X(l, 1) .. X(l, m).
+fn level(p: Pair, matched: &[u64; 64], goals: &[u64; 64], below: &[u64; 64]) -> [u64; 64]
+    requires { ⌜ (wellFormed p ≡ true) × (now matched ≡ matchedMasks p) ⌝ }
+    ensures { λ r. ⌜ r ≡ rowsOf (levelOver p (pairsIn p (now (goals .entry))) (pairsIn p (now (below .entry)))) ⌝ }
+{
+    let concrete = p.concrete;
+    let m = concrete.sets;
+    let base = level_base(p, matched, goals, below);
     let mut out = [0u64; 64];
-    for k in 0..concrete.sets {
-        let x = x_rows(
-            nc,
-            na,
-            &concrete_moves,
-            &abstract_moves,
-            matched,
-            &base,
-            sets[k],
-        );
+    for k in 0..m {
+        let x = level_x(p, matched, &base, k);
         out = join_rows(matched, &x, &out);
     }
     out
@@ -418,22 +442,10 @@ fn rank_level(
     let nc = concrete.states;
     let na = abstraction.states;
     let m = concrete.sets;
-    let concrete_moves = concrete.successors;
-    let abstract_moves = abstraction.successors;
-    let sets = concrete.fairness;
-    let steps = step_rows(nc, na, &concrete_moves, &abstract_moves, below);
-    let base = join_rows(matched, goals, &steps);
+    let base = level_base(p, matched, goals, below);
     let mut seen = join_rows(matched, goals, below);
     for k in 0..m {
-        let x = x_rows(
-            nc,
-            na,
-            &concrete_moves,
-            &abstract_moves,
-            matched,
-            &base,
-            sets[k],
-        );
+        let x = level_x(p, matched, &base, k);
         let v = rank_of(m, l, k);
         stamp(nc, na, &x, &seen, v, part);
         seen = join_rows(matched, &x, &seen);
