@@ -20,7 +20,7 @@ ghost use Rattle.mask.specs.Tables.{table};
 ghost use Rattle.machine.specs.Game.{goals, levelOver, levels, turn, family};
 ghost use Rattle.solver.specs.Ranking.{LevelRanked, sectionRanks};
 ghost use Rattle.solver.specs.Solver.{solveValidity, solvedTable};
-ghost use Rattle.solver.specs.Rows.{rowsOf, pairsIn, flatOf, familyIn, partnersOf, partnerRows, meetOf, stepRows, goalRows, joinRows, outerRows, xRound, sameRows, xRows, sectionOf, putSection, without, stampRow, stampRows, stepsOf, xOf};
+ghost use Rattle.solver.specs.Rows.{rowsOf, pairsIn, flatOf, familyIn, partnersOf, partnerRows, meetOf, stepRows, goalRows, joinRows, outerRows, xRound, sameRows, xRows, sectionOf, sameSections, putSection, without, stampRow, stampRows, stepsOf, xOf};
 use machine::Pair;
 use machine::Partner;
 use machine::Validity;
@@ -341,12 +341,15 @@ fn first_family(n: usize, matched: &[u64; 64]) -> [u64; 448]
     out
 }
 
-// Whether two families have the same rows.
-fn same_family(x: &[u64; 448], y: &[u64; 448]) -> bool
-    ensures { λ r. ⌜ r ≡ sameRows 448 (now (x .entry)) (now (y .entry)) ⌝ }
+// Whether two families of n sections have the same rows below nc.
+fn same_family(nc: usize, n: usize, x: &[u64; 448], y: &[u64; 448]) -> bool
+    requires { ⌜ (nc ≤ 64) × (n ≤ 7) ⌝ }
+    ensures { λ r. ⌜ r ≡ sameSections nc n (now (x .entry)) (now (y .entry)) ⌝ }
 {
-    for e in 0..448 {
-        if x[e] != y[e] {
+    for j in 0..n {
+        let a = section(x, j);
+        let b = section(y, j);
+        if !same_rows(nc, &a, &b) {
             return false;
         }
     }
@@ -366,7 +369,7 @@ fn largest_family(p: Pair, matched: &[u64; 64]) -> [u64; 448]
     let mut family = first_family(n, matched);
     for _ in 0..n * (nc * na) {
         let next = turn(p, matched, &family);
-        if same_family(&family, &next) {
+        if same_family(nc, n, &family, &next) {
             return family;
         }
         family = next;
