@@ -1,3 +1,4 @@
+-- At the loop's head all earlier rows are the definition's.
 use mathlib.Core.Path.{_≡_, refl}
 use Prim.Native.Nat.{_-_, _≤_}
 use native.Mathlib.Omega.{arith}

@@ -1,7 +1,7 @@
+-- At the loop's head the rows are those after so many turns; a turn that changes nothing is the last.
 use mathlib.Core.Path.{_≡_, refl, sym, _∙_}
 use Prim.Native.Nat.{_*_, _-_}
 use native.Mathlib.Omega.{arith}
-use borrow.Author.Needs.{needs}
 use Rattle.machine.specs.Machines.{setsA, pairs}
 use Rattle.machine.specs.WellFormedLaws.{WellPair, well-pair, pairs-small, entries-small}
 use Rattle.solver.specs.FixLaws.{following-start}

@@ -1,7 +1,6 @@
 -- The counts and the moves are the machines' own, and set k is one of the eight.
 use Prim.Native.Nat.{_<_}
 use native.Mathlib.Omega.{arith}
-use borrow.Author.Needs.{needs}
 use Rattle.machine.specs.WellFormedLaws.{WellPair, well-pair}
 use Rattle.solver.proofs.level_x.Statement.{statement}
 use Rattle.solver.proofs.level_x.Tie as tie

@@ -1,3 +1,4 @@
+-- At the loop's head all earlier rows are the definition's, and the others are 0: a state of the set has nothing to store.
 use mathlib.Core.Bool.{cond}
 use mathlib.Core.Logic.{⊎-elim}
 use mathlib.Core.Path.{_≡_, sym, _∙_}

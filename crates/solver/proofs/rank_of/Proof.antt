@@ -1,3 +1,4 @@
+-- Both counts are small, so that neither the product nor the sum overflows and the cast loses no bits.
 use Prim.Native.Nat.{_*_, _≤_}
 use native.Mathlib.Omega.{arith}
 use borrow.Author.Needs.{needs}

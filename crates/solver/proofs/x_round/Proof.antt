@@ -1,5 +1,6 @@
-use mathlib.Core.Path.{_≡_, ap}
-use Prim.Native.Nat.{ℕ, _-_, _≤_}
+-- At the loop's head all earlier rows are the definition's, and the others are 0.
+use mathlib.Core.Path.{_≡_}
+use Prim.Native.Nat.{_-_, _≤_}
 use native.Mathlib.Omega.{arith}
 use lib.ListN.{getD, replicate}
 use lib.Bits.{bitAnd, bitOr}
