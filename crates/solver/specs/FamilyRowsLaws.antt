@@ -2,31 +2,29 @@
 use mathlib.Core.Bool.{true, false}
 use mathlib.Core.List.{List, []}
 use mathlib.Core.Logic.{by-cases}
-use mathlib.Core.Path.{_≡_, refl, sym, ap, _∙_}
-use Prim.Native.Nat.{ℕ, _+_, _-_, _*_, _/_, _%_, _≤_, _<_}
+use mathlib.Core.Path.{_≡_, refl, sym, ap, ap₂, _∙_}
+use Prim.Native.Nat.{ℕ, _+_, _*_, _/_, _%_, _≤_, _<_}
 use native.Mathlib.Decide.{decLt, ℕ-discrete}
 use native.Mathlib.Omega.{arith}
 use lib.Arith.{digits-lt, digits-div, digits-mod}
 use lib.ListN.{length, getD, set, replicate, length-set}
 use lib.Seq.{getD-set-same, getD-set-other}
 use borrow.Author.Tests.{eq-eqb, ne-eqb}
-use Rattle.mask.specs.LogicLaws.{both}
-use Rattle.mask.specs.BoundedLaws.{every-at, every-of}
+use Rattle.mask.specs.BoundedLaws.{every-cong}
 use Rattle.mask.specs.Tables.{table}
 use Rattle.mask.specs.TablesLaws.{table-length, table-at, table-past, table-cong, fill-done}
+use Rattle.mask.specs.FrontLaws.{zeros-at}
 use Rattle.machine.specs.declared.Pair.{Pair}
-use Rattle.machine.specs.Machines.{fairSet, next, setsA, pairs}
+use Rattle.machine.specs.Machines.{fairSet, next, nC, setsA, pairs}
 use Rattle.machine.specs.StepLaws.{next-lt}
 use Rattle.machine.specs.WellFormedLaws.{WellPair}
 use Rattle.machine.specs.Observed.{matchedMasks}
-use Rattle.machine.specs.Game.{sameSet, allMatched, goals, levels, turn, firstFamily, sameFamily, family}
-use Rattle.theory.specs.GameLaws.{set-canonical, Within-refl, same-of, same-within, same-holds}
-use Rattle.theory.specs.FamilyLaws.{Tabled, family-ext, turn-tabled, first-tabled}
-use Rattle.solver.specs.Rows.{rowsOf, pairsIn, flatOf, sectionOf, familyIn, putSection, goalRows, sameRows, stepsOf}
-use Rattle.solver.specs.FillLaws.{zeros-at}
+use Rattle.machine.specs.Game.{allMatched, goals, levels, turn, firstFamily, sameFamily, family}
+use Rattle.theory.specs.GameLaws.{set-canonical}
+use Rattle.theory.specs.FamilyLaws.{Tabled, turn-tabled, first-tabled}
+use Rattle.solver.specs.Rows.{rowsOf, pairsIn, flatOf, sectionOf, familyIn, putSection, goalRows, sameRows, sameSections, stepsOf}
 use Rattle.solver.specs.FixLaws.{Images, Following, following-turn, following-stop, following-out}
-use Rattle.solver.specs.RowsLaws.{same-yes, same-at}
-use Rattle.solver.specs.SetRowsLaws.{rows-at, set-back, matched-rows, goals-is}
+use Rattle.solver.specs.SetRowsLaws.{rows-at, rows-same, set-back, matched-rows, goals-is}
 
 -- ---- a set is put into section j, row by row
 pub record Put (F : List ℕ) (j : ℕ) (S : List ℕ) (c : ℕ) (l : List ℕ) : Type 0 where
@@ -70,10 +68,6 @@ section-flat : (Z : List (List ℕ)) (j : ℕ) → j < 7 → sectionOf (flatOf Z
 unfolding sectionOf rowsOf
 section-flat Z j h = table-cong 64 _ _ (λ c l. flat-at Z j c h l)
 
-section-same : (x y : List ℕ) → sameRows 448 x y ≡ true → (j : ℕ) → j < 7 → sectionOf x j ≡ sectionOf y j
-unfolding sectionOf
-section-same x y t j h = table-cong 64 _ _ (λ c l. same-at 448 x y t (j * 64 + c) (digits-lt h l))
-
 -- the first j sections, and one more
 pub flat-none : (f : ℕ → List ℕ) → replicate 448 0 ≡ flatOf (table 0 f)
 unfolding flatOf table
@@ -107,19 +101,11 @@ module _ (p : Pair) (w : WellPair p) where
       table-cong (setsA p) _ _ (λ j h. ap (pairsIn p) (section-flat Z j (few j h)) ∙ set-back p w (getD Z j []) (q .canonical j h)) ∙ sym (q .listed)
 
   -- two families have the same rows exactly if they are the same
-  pub flat-same : (Z W : List (List ℕ)) → Tabled p Z → Tabled p W → sameRows 448 (flatOf Z) (flatOf W) ≡ sameFamily p Z W
-  unfolding sameFamily
-  flat-same Z W qz qw = both _ _
-      (λ t. every-of (setsA p) (λ j. sameSet p (getD Z j []) (getD W j [])) (λ j h. rw (equal t j h) (same-of p (getD W j []) (getD W j []) (Within-refl p _) (Within-refl p _))))
-      (λ t. rw (family-ext p Z W qz qw
-      (λ j h. same-within p _ _ (every-at (setsA p) _ t j h)) (λ j h. same-holds p _ _ (every-at (setsA p) _ t j h)))
-      (same-yes 448 (flatOf W) (flatOf W) (λ e h. refl)))
-    where
-      equal : sameRows 448 (flatOf Z) (flatOf W) ≡ true → (j : ℕ) → j < setsA p → getD Z j [] ≡ getD W j []
-      equal t j h =
-          sym (set-back p w (getD Z j []) (qz .canonical j h))
-          ∙ ap (pairsIn p) (sym (section-flat Z j (few j h)) ∙ section-same (flatOf Z) (flatOf W) t j (few j h) ∙ section-flat W j (few j h))
-          ∙ set-back p w (getD W j []) (qw .canonical j h)
+  pub flat-same : (Z W : List (List ℕ)) → Tabled p Z → Tabled p W → sameSections (nC p) (setsA p) (flatOf Z) (flatOf W) ≡ sameFamily p Z W
+  unfolding sameSections sameFamily
+  flat-same Z W qz qw = every-cong (setsA p) _ _ (λ j h.
+      ap₂ (sameRows (nC p)) (section-flat Z j (few j h)) (section-flat W j (few j h))
+      ∙ rows-same p w (getD Z j []) (getD W j []) (qz .canonical j h) (qw .canonical j h))
 
   -- all matched pairs in every section
   pub first-is : {matched : List ℕ} → matched ≡ matchedMasks p → flatOf (table (setsA p) (λ j. matched)) ≡ flatOf (firstFamily p)
@@ -150,17 +136,17 @@ module _ (p : Pair) (w : WellPair p) where
     turn-all e = rw e
 
   -- ---- the turns
-  flat-images : Images (Tabled p) flatOf (familyIn p) (sameFamily p) (sameRows 448)
+  flat-images : Images (Tabled p) flatOf (familyIn p) (sameFamily p) (sameSections (nC p) (setsA p))
   flat-images = record { reads = family-back; agrees = flat-same }
 
   keeps : (Z : List (List ℕ)) → Tabled p Z → Tabled p (turn p Z)
   keeps Z q = turn-tabled p Z
 
   module _ {n i : ℕ} {y : List ℕ} (d : Falling p n i y) where
-    pub falling-turn : {next : List ℕ} → next ≡ flatOf (turn p (familyIn p y)) → i < n → sameRows 448 y next ≡ false → Falling p n (i + 1) next
+    pub falling-turn : {next : List ℕ} → next ≡ flatOf (turn p (familyIn p y)) → i < n → sameSections (nC p) (setsA p) y next ≡ false → Falling p n (i + 1) next
     falling-turn e h t = following-turn flat-images (turn p) keeps (first-tabled p) d e h t
 
-    pub falling-stop : {next : List ℕ} → next ≡ flatOf (turn p (familyIn p y)) → n ≡ setsA p * pairs p → sameRows 448 y next ≡ true → y ≡ flatOf (family p)
+    pub falling-stop : {next : List ℕ} → next ≡ flatOf (turn p (familyIn p y)) → n ≡ setsA p * pairs p → sameSections (nC p) (setsA p) y next ≡ true → y ≡ flatOf (family p)
     unfolding family
     falling-stop e z t = rw (← z) (following-stop flat-images (turn p) keeps (first-tabled p) d e t)
 

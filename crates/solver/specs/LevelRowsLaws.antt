@@ -14,9 +14,9 @@ use Rattle.machine.specs.WellFormedLaws.{WellPair}
 use Rattle.machine.specs.Observed.{matchedMasks}
 use Rattle.machine.specs.Game.{pairSet, mem, sameSet, none, xOver, xsOver, union, levelOver, levels}
 use Rattle.theory.specs.GameLaws.{Canonical, pairSet-cong, set-canonical, xOver-canonical}
-use Rattle.solver.specs.Rows.{rowsOf, pairsIn, baseRows, unionRows, sameRows, xRows, levelRows, stepsOf, joinedOf}
+use Rattle.solver.specs.Rows.{rowsOf, pairsIn, joinRows, sameRows, xRows, levelRows, stepsOf, joinedOf}
 use Rattle.solver.specs.FixLaws.{Following, following-start, following-turn, following-stop, following-out}
-use Rattle.solver.specs.SetRowsLaws.{rows-images, x-rows-is, union-is, no-rows}
+use Rattle.solver.specs.SetRowsLaws.{rows-images, x-rows-is, join-is, no-rows}
 
 -- the union of X(l, 1) .. X(l, k), over goals G and level l − 1
 unfoldable pub unionUpto : Pair → List ℕ → List ℕ → ℕ → List ℕ
@@ -31,7 +31,7 @@ module _ (nC nA : ℕ) (concrete abstraction matched base sets start : List ℕ)
   unfolding levelRows
   level-rows-none = refl
 
-  pub level-rows-more : (k : ℕ) → unionRows (xRows nC nA concrete abstraction matched base (getD sets k 0)) (Joined k) ≡ Joined (k + 1)
+  pub level-rows-more : (k : ℕ) → joinRows matched (xRows nC nA concrete abstraction matched base (getD sets k 0)) (Joined k) ≡ Joined (k + 1)
   unfolding levelRows
   level-rows-more k = rw add-one
 
@@ -52,18 +52,18 @@ module _ (p : Pair) (w : WellPair p) where
     B = pairsIn p below
 
     abbrev Level : ℕ → List ℕ
-    Level = joinedOf p (matchedMasks p) (baseRows (matchedMasks p) goals (stepsOf p below)) (replicate 64 0)
+    Level = joinedOf p (matchedMasks p) (joinRows (matchedMasks p) goals (stepsOf p below)) (replicate 64 0)
 
-    union-more : (k : ℕ) → unionRows (rowsOf (xOver p G B k)) (rowsOf (unionUpto p G B k)) ≡ rowsOf (unionUpto p G B (suc k))
+    union-more : (k : ℕ) → joinRows (matchedMasks p) (rowsOf (xOver p G B k)) (rowsOf (unionUpto p G B k)) ≡ rowsOf (unionUpto p G B (suc k))
     unfolding unionUpto some
     union-more k =
-        ap (λ (X : List ℕ). unionRows (rowsOf X) (rowsOf (unionUpto p G B k))) (xOver-canonical p G B k)
-        ∙ union-is p w (mem p (xOver p G B k)) (λ c a. some k (λ i. mem p (xOver p G B i) c a))
+        ap (λ (X : List ℕ). joinRows (matchedMasks p) (rowsOf X) (rowsOf (unionUpto p G B k))) (xOver-canonical p G B k)
+        ∙ join-is p w (mem p (xOver p G B k)) (λ c a. some k (λ i. mem p (xOver p G B i) c a))
 
     level-upto : (k : ℕ) → Level k ≡ rowsOf (unionUpto p G B k)
     unfolding levelRows unionUpto some
     level-upto zero = no-rows p w _ (λ c a hc ha. refl)
-    level-upto (suc k) = ap₂ unionRows (x-rows-is p w goals below k) (level-upto k) ∙ union-more k
+    level-upto (suc k) = ap₂ (joinRows (matchedMasks p)) (x-rows-is p w goals below k) (level-upto k) ∙ union-more k
 
     union-all : unionUpto p G B (setsC p) ≡ levelOver p G B
     unfolding unionUpto levelOver union xsOver
@@ -75,10 +75,9 @@ module _ (p : Pair) (w : WellPair p) where
     level-is = level-upto (setsC p) ∙ ap rowsOf union-all
 
     -- what the loop leaves is the next level
-    pub level-done : {matched steps base : List ℕ} {k : ℕ} → matched ≡ matchedMasks p
-        → steps ≡ stepsOf p below → base ≡ baseRows matched goals steps → k ≡ setsC p
+    pub level-done : {matched base : List ℕ} {k : ℕ} → matched ≡ matchedMasks p → base ≡ joinRows matched goals (stepsOf p below) → k ≡ setsC p
         → joinedOf p matched base (replicate 64 0) k ≡ rowsOf (levelOver p G B)
-    level-done em es eb ek = rw (ek, eb, es, em) level-is
+    level-done em eb ek = rw (ek, eb, em) level-is
 
   -- ---- the levels, one turn after the other
   module _ (goals : List ℕ) where

@@ -3,7 +3,6 @@ pub mod Solver
 pub mod Rows
 pub mod Ranking
 -- laws
-pub mod FillLaws
 pub mod FixLaws
 pub mod RowsLaws
 pub mod SetRowsLaws

@@ -29,9 +29,9 @@ use Rattle.theory.specs.Statements.{Within}
 use Rattle.theory.specs.GameLaws.{Canonical, mem-pairSet, of-set, in-set, set-canonical, set-ext, pairSet-cong, same-holds, none-empty, goal, xOver-is, xOver-canonical, level-zero, level-suc, level-later, level-levels, level-canonical, levels-is}
 use Rattle.theory.specs.FamilyLaws.{family-tabled}
 use Rattle.theory.specs.TowerLaws.{x-is, level-x, x-level, tower-length, tower-at}
-use Rattle.solver.specs.Rows.{rowsOf, pairsIn, flatOf, familyIn, sameRows, baseRows, unionRows, xRows, levelRows, without, stampRows, rankRows, stepsOf, xOf, joinedOf, enteredOf}
+use Rattle.solver.specs.Rows.{rowsOf, pairsIn, flatOf, familyIn, sameRows, joinRows, xRows, levelRows, without, stampRows, rankRows, stepsOf, xOf, joinedOf, enteredOf}
 use Rattle.solver.specs.Ranking.{rankUpto, sectionUpto, seenUpto, sectionRanks, Holds, LevelRanked}
-use Rattle.solver.specs.SetRowsLaws.{rows-at, rows-small, rows-same, set-back, x-rows-is, union-is}
+use Rattle.solver.specs.SetRowsLaws.{rows-at, rows-small, rows-same, set-back, x-rows-is, join-is}
 use Rattle.solver.specs.LevelRowsLaws.{none-rows}
 use Rattle.solver.specs.FamilyRowsLaws.{family-back}
 use Rattle.solver.specs.StampLaws.{has-without}
@@ -79,18 +79,18 @@ module _ (p : Pair) (w : WellPair p) (G : List ℕ) (q : Canonical p G) where
       (ap (λ (S : List ℕ). mem p S c a) (tower-at p G l (r .0) (omega arith) (r .1)) ∙ r .2)
 
   -- ---- the pairs that have a rank
-  pub seen-start : (l : ℕ) → l ≤ pairs p → unionRows (rowsOf G) (rowsOf (level p G l)) ≡ rowsOf (seenUpto p G (l * setsC p))
+  pub seen-start : (l : ℕ) → l ≤ pairs p → joinRows (matchedMasks p) (rowsOf G) (rowsOf (level p G l)) ≡ rowsOf (seenUpto p G (l * setsC p))
   unfolding seenUpto
   seen-start l hl =
-      ap₂ (λ (S R : List ℕ). unionRows (rowsOf S) (rowsOf R)) q (level-canonical p G l)
-      ∙ union-is p w (mem p G) (mem p (level p G l))
+      ap₂ (λ (S R : List ℕ). joinRows (matchedMasks p) (rowsOf S) (rowsOf R)) q (level-canonical p G l)
+      ∙ join-is p w (mem p G) (mem p (level p G l))
       ∙ ap rowsOf (pairSet-cong p _ _ (λ c a hc ha m. ap (or (mem p G c a)) (both _ _ (level-some l c a hl hc ha) (some-level l c a hl hc ha))))
 
-  pub seen-more : (i : ℕ) (X : List ℕ) → Canonical p X → getD (tower p G) i [] ≡ X → unionRows (rowsOf X) (rowsOf (seenUpto p G i)) ≡ rowsOf (seenUpto p G (suc i))
+  pub seen-more : (i : ℕ) (X : List ℕ) → Canonical p X → getD (tower p G) i [] ≡ X → joinRows (matchedMasks p) (rowsOf X) (rowsOf (seenUpto p G i)) ≡ rowsOf (seenUpto p G (suc i))
   unfolding seenUpto some
   seen-more i X k e =
-      ap (λ (S : List ℕ). unionRows (rowsOf S) (rowsOf (seenUpto p G i))) k
-      ∙ union-is p w (mem p X) (λ c a. or (mem p G c a) (some i (Has c a)))
+      ap (λ (S : List ℕ). joinRows (matchedMasks p) (rowsOf S) (rowsOf (seenUpto p G i))) k
+      ∙ join-is p w (mem p X) (λ c a. or (mem p G c a) (some i (Has c a)))
       ∙ ap rowsOf (pairSet-cong p _ _ (λ c a hc ha m. swap (mem p X c a) (mem p G c a) (some i (Has c a)) ∙ ap (λ (S : List ℕ). or (mem p G c a) (or (mem p S c a) (some i (Has c a)))) (sym e)))
 
   -- after level l + 1 these are its pairs
@@ -213,7 +213,7 @@ module _ (p : Pair) (w : WellPair p) (G : List ℕ) (q : Canonical p G) where
   -- ---- one level: its sets in turn
   module _ (l : ℕ) (hl : l < pairs p) (goals below : List ℕ) (eg : goals ≡ rowsOf G) (eb : below ≡ rowsOf (level p G l)) where
     abbrev Base : List ℕ
-    Base = baseRows (matchedMasks p) goals (stepsOf p below)
+    Base = joinRows (matchedMasks p) goals (stepsOf p below)
 
     abbrev X : ℕ → List ℕ
     X = xOver p G (level p G l)
@@ -232,17 +232,17 @@ module _ (p : Pair) (w : WellPair p) (G : List ℕ) (q : Canonical p G) where
     in-matched k c a hc ha t = xOver-is p G (level p G l) k .at c a hc ha t .0
 
     abbrev Joined : ℕ → List ℕ
-    Joined = joinedOf p (matchedMasks p) Base (unionRows goals below)
+    Joined = joinedOf p (matchedMasks p) Base (joinRows (matchedMasks p) goals below)
 
     abbrev Entered : ℕ → List ℕ
     Entered = enteredOf p (matchedMasks p) Base
-        (unionRows goals below) (l * setsC p) (sectionUpto p G (l * setsC p))
+        (joinRows (matchedMasks p) goals below) (l * setsC p) (sectionUpto p G (l * setsC p))
 
     joined-is : (k : ℕ) → k ≤ setsC p → Joined k ≡ rowsOf (seenUpto p G (l * setsC p + k))
     unfolding levelRows
-    joined-is zero h = ap₂ unionRows eg eb ∙ seen-start l (omega arith) ∙ ap (λ (n : ℕ). rowsOf (seenUpto p G n)) (omega arith)
+    joined-is zero h = ap₂ (joinRows (matchedMasks p)) eg eb ∙ seen-start l (omega arith) ∙ ap (λ (n : ℕ). rowsOf (seenUpto p G n)) (omega arith)
     joined-is (suc k) h =
-        ap₂ unionRows (x-at k) (joined-is k (omega arith))
+        ap₂ (joinRows (matchedMasks p)) (x-at k) (joined-is k (omega arith))
         ∙ seen-more (l * setsC p + k) (X k) (xOver-canonical p G (level p G l) k) (set-at k h)
         ∙ ap (λ (n : ℕ). rowsOf (seenUpto p G n)) (omega arith)
 
@@ -306,9 +306,9 @@ module _ {p : Pair} {matched goals : List ℕ} {l : ℕ} {below part : List ℕ}
   unfolding sectionUpto
   ranked-length = ap length (d .entries-are) ∙ table-length _ _
 
-  module _ (hl : l < pairs p) {steps base : List ℕ} (es : steps ≡ stepsOf p below) (eb : base ≡ baseRows matched goals steps) where
-    base-is : base ≡ baseRows (matchedMasks p) goals (stepsOf p below)
-    base-is = eb ∙ rw (d .all-matched, es)
+  module _ (hl : l < pairs p) {base : List ℕ} (eb : base ≡ joinRows matched goals (stepsOf p below)) where
+    base-is : base ≡ joinRows (matchedMasks p) goals (stepsOf p below)
+    base-is = eb ∙ rw (d .all-matched)
 
     pub x-small : (k c : ℕ) → c < nC p
         → getD (xOf p matched base k) c 0 < 2 ^ nA p
@@ -316,7 +316,7 @@ module _ {p : Pair} {matched goals : List ℕ} {l : ℕ} {below part : List ℕ}
         rw (base-is, d .all-matched, x-at p W (pairsIn p goals) (d .held .only-matched) l hl goals below (d .held .only-rows) (d .level-is) k)
         (rows-small p W _ (xOver-canonical p (pairsIn p goals) (level p (pairsIn p goals) l) k) c h)
 
-    pub ranked-next : {start : List ℕ} {k : ℕ} → start ≡ unionRows goals below → k ≡ setsC p
+    pub ranked-next : {start : List ℕ} {k : ℕ} → start ≡ joinRows matched goals below → k ≡ setsC p
         → LevelRanked p matched goals (l + 1)
         (joinedOf p matched base start k)
         (enteredOf p matched base start (l * setsC p) part k)

@@ -62,20 +62,21 @@ stepRows nC nA concrete abstraction set =
 unfoldable pub goalRows : List ℕ → ℕ → List ℕ → List ℕ
 goalRows matched members steps = table 64 (λ c. bitAnd (getD matched c 0) (bitAnd members (getD steps c 0)))
 
--- what is in X whatever X is: goals, and pairs that step into the level below
-unfoldable pub baseRows : List ℕ → List ℕ → List ℕ → List ℕ
-baseRows matched goals steps = table 64 (λ c. bitAnd (getD matched c 0) (bitOr (getD goals c 0) (getD steps c 0)))
+-- the matched pairs that are in one of two sets
+unfoldable pub joinRows : List ℕ → List ℕ → List ℕ → List ℕ
+joinRows matched x y = table 64 (λ c. bitAnd (getD matched c 0) (bitOr (getD x c 0) (getD y c 0)))
 
 -- the matched pairs whose concrete state is outside a set
 unfoldable pub outerRows : ℕ → List ℕ → ℕ → List ℕ
 outerRows nC matched members = table 64 (λ c. let row = cond (hasBit members c) 0 (getD matched c 0) in cond (ltb c nC) row 0)
 
-unfoldable pub unionRows : List ℕ → List ℕ → List ℕ
-unionRows x y = table 64 (λ c. bitOr (getD x c 0) (getD y c 0))
-
 -- the first n rows are the same
 unfoldable pub sameRows : ℕ → List ℕ → List ℕ → Bool
 sameRows n x y = every n (λ c. eqb (getD x c 0) (getD y c 0))
+
+-- the first nC rows of each of n sections are the same
+unfoldable pub sameSections : ℕ → ℕ → List ℕ → List ℕ → Bool
+sameSections nC n x y = every n (λ j. sameRows nC (sectionOf x j) (sectionOf y j))
 
 -- one round over X: the base, and the outer pairs that step into X
 unfoldable pub xRound : ℕ → ℕ → List ℕ → List ℕ → List ℕ → List ℕ → List ℕ → List ℕ
@@ -92,7 +93,7 @@ xRows nC nA concrete abstraction matched base members =
 unfoldable pub levelRows : ℕ → ℕ → List ℕ → List ℕ → List ℕ → List ℕ → List ℕ → List ℕ → ℕ → List ℕ
 levelRows nC nA concrete abstraction matched base sets start zero = start
 levelRows nC nA concrete abstraction matched base sets start (suc k) =
-    unionRows (xRows nC nA concrete abstraction matched base (getD sets k 0)) (levelRows nC nA concrete abstraction matched base sets start k)
+    joinRows matched (xRows nC nA concrete abstraction matched base (getD sets k 0)) (levelRows nC nA concrete abstraction matched base sets start k)
 
 -- ---- entries
 -- the states of x that are not in y

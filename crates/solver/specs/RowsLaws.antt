@@ -3,7 +3,7 @@ use mathlib.Core.Bool.{Bool, true, false}
 use mathlib.Core.List.{List}
 use mathlib.Core.Path.{_≡_, refl, sym, ap, _∙_}
 use Prim.Native.Nat.{ℕ, _+_, _*_, _%_, _^_, _≤_, _<_, min}
-use native.Mathlib.Nat.{one-mul, le-trans, mul-le-mul-left, mul-le-mul-right}
+use native.Mathlib.Nat.{one-mul}
 use native.Mathlib.Numerals.{add-one}
 use native.Mathlib.Omega.{arith}
 use lib.ListN.{getD}
@@ -20,14 +20,11 @@ use Rattle.mask.specs.Tables.{maskOf}
 use Rattle.mask.specs.TablesLaws.{maskOf-hit, maskOf-miss, maskOf-is}
 use Rattle.mask.specs.WalkLaws.{everyIn-step, rest-small}
 use Rattle.machine.specs.Step.{partner, found, alike}
+use Rattle.machine.specs.WellFormedLaws.{mul-bound}
 use Rattle.solver.specs.Rows.{partnersOf, meetOf, sameRows}
 
--- ---- products of bounded numbers
-pub product-le : {a b m n : ℕ} → a ≤ m → b ≤ n → a * b ≤ m * n
-product-le {a} {b} {m} {n} h k = le-trans (mul-le-mul-right b h) (mul-le-mul-left m k)
-
 pub area : {nC nA : ℕ} → nC ≤ 64 → nA ≤ 64 → nC * nA ≤ 4096
-area h k = product-le h k
+area {nC} {nA} h k = mul-bound nC nA 64 64 h k
 
 -- ---- partners
 module _ (moves : List ℕ) (row : ℕ) where

@@ -19,6 +19,7 @@ use Rattle.mask.specs.Bounded.{everyIn, someIn}
 use Rattle.mask.specs.BoundedLaws.{everyIn-at, everyIn-of, someIn-at, someIn-of}
 use Rattle.mask.specs.Tables.{maskOf, table}
 use Rattle.mask.specs.TablesLaws.{table-at, table-past, table-cong, fill-done, maskOf-lt, maskOf-is, has-maskOf-at}
+use Rattle.mask.specs.FrontLaws.{zeros-at}
 use Rattle.machine.specs.declared.Pair.{Pair}
 use Rattle.machine.specs.Machines.{successors, moves, fairSet, inFairSet, matched, next, nC, nA, setsA, pairs}
 use Rattle.machine.specs.Step.{alike, steps}
@@ -28,9 +29,8 @@ use Rattle.machine.specs.Observed.{matchedMasks}
 use Rattle.machine.specs.ObservedLaws.{matched-length, matched-at, row-out, has-matched, matched-small}
 use Rattle.machine.specs.WellFormedLaws.{WellPair}
 use Rattle.machine.specs.Game.{pairSet, mem, sameSet, allMatched, goals, inX, roundX, xOver}
-use Rattle.theory.specs.GameLaws.{Canonical, set-canonical, set-ext, same-of, same-within, same-holds}
-use Rattle.solver.specs.Rows.{rowsOf, pairsIn, partnersOf, partnerRows, meetOf, stepRows, goalRows, baseRows, outerRows, unionRows, sameRows, xRound, xRows, stepsOf, roundOf, xOf}
-use Rattle.solver.specs.FillLaws.{zeros-at}
+use Rattle.theory.specs.GameLaws.{Canonical, pairSet-cong, set-canonical, set-ext, same-of, same-within, same-holds}
+use Rattle.solver.specs.Rows.{rowsOf, pairsIn, partnersOf, partnerRows, meetOf, stepRows, goalRows, joinRows, outerRows, sameRows, xRound, xRows, stepsOf, roundOf, xOf}
 use Rattle.solver.specs.FixLaws.{Images, settle-along}
 use Rattle.solver.specs.RowsLaws.{same-yes, same-at}
 
@@ -53,11 +53,6 @@ factor true false true h x = refl
 factor true false false true x = refl
 factor true false false false x = refl
 factor false g s h x = refl
-
-and-or : (m a b : Bool) → and m (or a b) ≡ or (and m a) (and m b)
-unfolding and or
-and-or true a b = refl
-and-or false a b = refl
 
 -- ---- sets and their rows
 pub rows-at : (S : List ℕ) (c : ℕ) → c < 64 → getD (rowsOf S) c 0 ≡ getD S c 0
@@ -112,9 +107,6 @@ module _ (p : Pair) where
 
     row-small : (f : ℕ → ℕ → Bool) (c : ℕ) → c < nC p → getD (rowsOf (pairSet p f)) c 0 < 2 ^ nA p
     row-small f c h = rw (rows-at (pairSet p f) c (wide c h), set-row f c h) (maskOf-lt (nA p) _)
-
-    row-past : (f : ℕ → ℕ → Bool) (c : ℕ) → nC p ≤ c → c < 64 → getD (rowsOf (pairSet p f)) c 0 ≡ 0
-    row-past f c h l = rows-at (pairSet p f) c l ∙ set-past f c h
 
     pub rows-small : (S : List ℕ) → Canonical p S → (c : ℕ) → c < nC p → getD (rowsOf S) c 0 < 2 ^ nA p
     rows-small S q c h = rw q (row-small (mem p S) c h)
@@ -198,7 +190,7 @@ module _ (p : Pair) where
     -- ---- X over goals and the level below, each held by rows
     module _ (goals below : List ℕ) (k : ℕ) where
       abbrev Base : List ℕ
-      Base = baseRows M goals (stepsOf p below)
+      Base = joinRows M goals (stepsOf p below)
 
       abbrev Outer : List ℕ
       Outer = outerRows (nC p) M (fairSet (p .concrete) k)
@@ -211,7 +203,7 @@ module _ (p : Pair) where
       Outside c a = not (inFairSet (p .concrete) k c)
 
       base-is : Base ≡ rowsOf (pairSet p Always)
-      unfolding baseRows
+      unfolding joinRows
       base-is = met-is _ Always (λ c a hc ha.
           has-or a (getD goals c 0) (getD (stepsOf p below) c 0) ∙ ap₂ or (sym (mem-in goals c a hc)) (has-step below c a hc ha))
 
@@ -255,14 +247,12 @@ module _ (p : Pair) where
           (set-canonical p _)
 
     -- ---- unions
-    pub union-is : (f g : ℕ → ℕ → Bool) → unionRows (rowsOf (pairSet p f)) (rowsOf (pairSet p g)) ≡ rowsOf (pairSet p (λ c a. or (f c a) (g c a)))
-    unfolding unionRows
-    union-is f g = rows-is _ _
-        (λ c h. or-lt (nA p) _ _ (row-small f c h) (row-small g c h))
-        (λ c a hc ha.
-        has-or a (getD (rowsOf (pairSet p f)) c 0) (getD (rowsOf (pairSet p g)) c 0)
-        ∙ ap₂ or (row-bit f c a hc ha) (row-bit g c a hc ha) ∙ sym (and-or _ _ _))
-        (λ c h l. ap₂ bitOr (row-past f c h l) (row-past g c h l))
+    pub join-is : (f g : ℕ → ℕ → Bool) → joinRows M (rowsOf (pairSet p f)) (rowsOf (pairSet p g)) ≡ rowsOf (pairSet p (λ c a. or (f c a) (g c a)))
+    unfolding joinRows
+    join-is f g =
+        met-is _ (λ c a. or (and (matched p c a) (f c a)) (and (matched p c a) (g c a))) (λ c a hc ha.
+        has-or a (getD (rowsOf (pairSet p f)) c 0) (getD (rowsOf (pairSet p g)) c 0) ∙ ap₂ or (row-bit f c a hc ha) (row-bit g c a hc ha))
+        ∙ ap rowsOf (pairSet-cong p _ _ (λ c a hc ha m. ap₂ or (and-true-l (f c a) m) (and-true-l (g c a) m)))
 
     pub no-rows : (f : ℕ → ℕ → Bool) → ((c a : ℕ) → c < nC p → a < nA p → f c a ≡ false) → replicate 64 0 ≡ rowsOf (pairSet p f)
     no-rows f e =

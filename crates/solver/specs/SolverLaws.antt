@@ -11,8 +11,8 @@ use lib.Seq.{ext-getD, getD-append-add, getD-drop}
 use Rattle.mask.specs.TablesLaws.{table-length, table-at}
 use Rattle.machine.specs.declared.Pair.{Pair}
 use Rattle.machine.specs.declared.Refusal.{Refusal}
-use Rattle.machine.specs.Refusals.{valid, refused, refusal, short-buffer}
-use Rattle.machine.specs.RefusalsLaws.{then-of, then-refused, buffer-valid, buffer-short, buffer-made, buffer-kept}
+use Rattle.machine.specs.Refusals.{valid, refused, bufferValidity}
+use Rattle.machine.specs.RefusalsLaws.{then-of, then-refused, buffer-valid, buffer-made, buffer-kept}
 use Rattle.machine.specs.Machines.{nC, nA, setsA, pairs}
 use Rattle.machine.specs.WellFormed.{pairValidity}
 use Rattle.machine.specs.WellFormedLaws.{WellPair, entries-small, section-fits}
@@ -25,9 +25,9 @@ use Rattle.solver.specs.StampLaws.{patch, patch-length, patch-before, pa
 
 -- ---- the answer
 module _ (p : Pair) where
-  pub solve-short : (len : ℕ) → len < tableRoom → solveValidity p len ≡ refused (refusal short-buffer 0 0 0)
+  pub solve-short : (len : ℕ) {r : Refusal} → bufferValidity tableRoom len ≡ refused r → solveValidity p len ≡ refused r
   unfolding solveValidity
-  solve-short len h = then-refused _ _ _ (buffer-short tableRoom len h)
+  solve-short len e = then-refused _ _ _ e
 
   pub solve-long : (len : ℕ) → tableRoom ≤ len → solveValidity p len ≡ pairValidity p
   unfolding solveValidity

@@ -9,7 +9,7 @@ ghost use Prim.Native.Nat.{ℕ, _+_, _*_, _<_, _≤_, _^_};
 ghost use lib.ListN.{length, getD, drop};
 ghost use mathlib.Core.List.{_++_};
 ghost use Rattle.mask.specs.Bits.{hasBit};
-ghost use Rattle.machine.specs.Machines.{setsA, pairs};
+ghost use Rattle.machine.specs.Machines.{setsC, setsA, pairs};
 ghost use Rattle.machine.specs.Refusals.{testedOf};
 ghost use Rattle.machine.specs.Table.{blank, tableRoom};
 ghost use Rattle.machine.specs.Ranks.{solverTable};
@@ -20,7 +20,7 @@ ghost use Rattle.mask.specs.Tables.{table};
 ghost use Rattle.machine.specs.Game.{goals, levelOver, levels, turn, family};
 ghost use Rattle.solver.specs.Ranking.{LevelRanked, sectionRanks};
 ghost use Rattle.solver.specs.Solver.{solveValidity, solvedTable};
-ghost use Rattle.solver.specs.Rows.{rowsOf, pairsIn, flatOf, familyIn, partnersOf, partnerRows, meetOf, stepRows, goalRows, baseRows, outerRows, xRound, unionRows, sameRows, xRows, sectionOf, putSection, without, stampRow, stampRows};
+ghost use Rattle.solver.specs.Rows.{rowsOf, pairsIn, flatOf, familyIn, partnersOf, partnerRows, meetOf, stepRows, goalRows, joinRows, outerRows, xRound, sameRows, xRows, sectionOf, sameSections, putSection, without, stampRow, stampRows, stepsOf, xOf};
 use machine::Pair;
 use machine::Partner;
 use machine::Validity;
@@ -108,13 +108,13 @@ fn goal_rows(matched: &[u64; 64], members: u64, steps: &[u64; 64]) -> [u64; 64]
     out
 }
 
-// What is in X whatever X is: goals, and pairs that step into the level below.
-fn base_rows(matched: &[u64; 64], goals: &[u64; 64], steps: &[u64; 64]) -> [u64; 64]
-    ensures { λ r. ⌜ r ≡ baseRows (now (matched .entry)) (now (goals .entry)) (now (steps .entry)) ⌝ }
+// The matched pairs that are in one of two sets.
+fn join_rows(matched: &[u64; 64], x: &[u64; 64], y: &[u64; 64]) -> [u64; 64]
+    ensures { λ r. ⌜ r ≡ joinRows (now (matched .entry)) (now (x .entry)) (now (y .entry)) ⌝ }
 {
     let mut out = [0u64; 64];
     for c in 0..64 {
-        out[c] = matched[c] & (goals[c] | steps[c]);
+        out[c] = matched[c] & (x[c] | y[c]);
     }
     out
 }
@@ -152,17 +152,6 @@ fn x_round(
     for c in 0..nc {
         let steps = meet(na, concrete[c], &rows);
         out[c] = base[c] | (outer[c] & steps);
-    }
-    out
-}
-
-// The union of two sets.
-fn union_rows(x: &[u64; 64], y: &[u64; 64]) -> [u64; 64]
-    ensures { λ r. ⌜ r ≡ unionRows (now (x .entry)) (now (y .entry)) ⌝ }
-{
-    let mut out = [0u64; 64];
-    for c in 0..64 {
-        out[c] = x[c] | y[c];
     }
     out
 }
@@ -207,10 +196,25 @@ fn x_rows(
 
 // ---- Levels
 
-// Level l from level l - 1: the union of X(l, 1) .. X(l, m).
-fn level(p: Pair, matched: &[u64; 64], goals: &[u64; 64], below: &[u64; 64]) -> [u64; 64]
-    requires { ⌜ (wellFormed p ≡ true) × (now matched ≡ matchedMasks p) ⌝ }
-    ensures { λ r. ⌜ r ≡ rowsOf (levelOver p (pairsIn p (now (goals .entry))) (pairsIn p (now (below .entry)))) ⌝ }
+// What is in each set X of a level whatever it is: goals, and pairs that step into the level below.
+fn level_base(p: Pair, matched: &[u64; 64], goals: &[u64; 64], below: &[u64; 64]) -> [u64; 64]
+    requires { ⌜ wellFormed p ≡ true ⌝ }
+    ensures { λ r. ⌜ r ≡ joinRows (now (matched .entry)) (now (goals .entry)) (stepsOf p (now (below .entry))) ⌝ }
+{
+    let concrete = p.concrete;
+    let abstraction = p.abstraction;
+    let nc = concrete.states;
+    let na = abstraction.states;
+    let concrete_moves = concrete.successors;
+    let abstract_moves = abstraction.successors;
+    let steps = step_rows(nc, na, &concrete_moves, &abstract_moves, below);
+    join_rows(matched, goals, &steps)
+}
+
+// X of set k over a base.
+fn level_x(p: Pair, matched: &[u64; 64], base: &[u64; 64], k: usize) -> [u64; 64]
+    requires { ⌜ (wellFormed p ≡ true) × (k < setsC p) ⌝ }
+    ensures { λ r. ⌜ r ≡ xOf p (now (matched .entry)) (now (base .entry)) k ⌝ }
 {
     let concrete = p.concrete;
     let abstraction = p.abstraction;
@@ -219,20 +223,29 @@ fn level(p: Pair, matched: &[u64; 64], goals: &[u64; 64], below: &[u64; 64]) -> 
     let concrete_moves = concrete.successors;
     let abstract_moves = abstraction.successors;
     let sets = concrete.fairness;
-    let steps = step_rows(nc, na, &concrete_moves, &abstract_moves, below);
-    let base = base_rows(matched, goals, &steps);
+    x_rows(
+        nc,
+        na,
+        &concrete_moves,
+        &abstract_moves,
+        matched,
+        base,
+        sets[k],
+    )
+}
+
+// Level l from level l - 1: the union of X(l, 1) .. X(l, m).
+fn level(p: Pair, matched: &[u64; 64], goals: &[u64; 64], below: &[u64; 64]) -> [u64; 64]
+    requires { ⌜ (wellFormed p ≡ true) × (now matched ≡ matchedMasks p) ⌝ }
+    ensures { λ r. ⌜ r ≡ rowsOf (levelOver p (pairsIn p (now (goals .entry))) (pairsIn p (now (below .entry)))) ⌝ }
+{
+    let concrete = p.concrete;
+    let m = concrete.sets;
+    let base = level_base(p, matched, goals, below);
     let mut out = [0u64; 64];
-    for k in 0..concrete.sets {
-        let x = x_rows(
-            nc,
-            na,
-            &concrete_moves,
-            &abstract_moves,
-            matched,
-            &base,
-            sets[k],
-        );
-        out = union_rows(&x, &out);
+    for k in 0..m {
+        let x = level_x(p, matched, &base, k);
+        out = join_rows(matched, &x, &out);
     }
     out
 }
@@ -328,12 +341,15 @@ fn first_family(n: usize, matched: &[u64; 64]) -> [u64; 448]
     out
 }
 
-// Whether two families have the same rows.
-fn same_family(x: &[u64; 448], y: &[u64; 448]) -> bool
-    ensures { λ r. ⌜ r ≡ sameRows 448 (now (x .entry)) (now (y .entry)) ⌝ }
+// Whether two families of n sections have the same rows below nc.
+fn same_family(nc: usize, n: usize, x: &[u64; 448], y: &[u64; 448]) -> bool
+    requires { ⌜ (nc ≤ 64) × (n ≤ 7) ⌝ }
+    ensures { λ r. ⌜ r ≡ sameSections nc n (now (x .entry)) (now (y .entry)) ⌝ }
 {
-    for e in 0..448 {
-        if x[e] != y[e] {
+    for j in 0..n {
+        let a = section(x, j);
+        let b = section(y, j);
+        if !same_rows(nc, &a, &b) {
             return false;
         }
     }
@@ -353,7 +369,7 @@ fn largest_family(p: Pair, matched: &[u64; 64]) -> [u64; 448]
     let mut family = first_family(n, matched);
     for _ in 0..n * (nc * na) {
         let next = turn(p, matched, &family);
-        if same_family(&family, &next) {
+        if same_family(nc, n, &family, &next) {
             return family;
         }
         family = next;
@@ -429,25 +445,13 @@ fn rank_level(
     let nc = concrete.states;
     let na = abstraction.states;
     let m = concrete.sets;
-    let concrete_moves = concrete.successors;
-    let abstract_moves = abstraction.successors;
-    let sets = concrete.fairness;
-    let steps = step_rows(nc, na, &concrete_moves, &abstract_moves, below);
-    let base = base_rows(matched, goals, &steps);
-    let mut seen = union_rows(goals, below);
+    let base = level_base(p, matched, goals, below);
+    let mut seen = join_rows(matched, goals, below);
     for k in 0..m {
-        let x = x_rows(
-            nc,
-            na,
-            &concrete_moves,
-            &abstract_moves,
-            matched,
-            &base,
-            sets[k],
-        );
+        let x = level_x(p, matched, &base, k);
         let v = rank_of(m, l, k);
         stamp(nc, na, &x, &seen, v, part);
-        seen = union_rows(&x, &seen);
+        seen = join_rows(matched, &x, &seen);
     }
     seen
 }

@@ -1,3 +1,4 @@
+-- The two arms are the definition's.
 use mathlib.Core.Path.{sym, ap, _∙_}
 use borrow.Author.Needs.{needs}
 use Rattle.machine.specs.Step.{found}

@@ -1,3 +1,4 @@
+-- At the loop's head all earlier sections hold the matched pairs.
 use mathlib.Core.List.{List}
 use mathlib.Core.Path.{_≡_, refl, ap, _∙_}
 use Prim.Native.Nat.{ℕ, _-_, _≤_}

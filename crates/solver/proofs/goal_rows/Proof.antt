@@ -1,22 +1,24 @@
-use mathlib.Core.Path.{refl}
+-- At the loop's head all earlier rows are the definition's.
+use mathlib.Core.Path.{_≡_, refl}
 use Prim.Native.Nat.{_-_, _≤_}
 use native.Mathlib.Omega.{arith}
-use lib.ListN.{getD}
+use lib.ListN.{getD, replicate}
 use lib.Bits.{bitAnd}
 use borrow.Author.Needs.{needs}
+use Rattle.mask.specs.Tables.{front}
+use Rattle.mask.specs.FrontLaws.{front-none, front-turn, front-all}
 use Rattle.solver.specs.Rows.{goalRows}
-use Rattle.solver.specs.FillLaws.{Filled, filled-none, filled-more, filled-all}
 use Rattle.solver.proofs.goal_rows.Statement.{statement}
 use Rattle.solver.proofs.goal_rows.Tie as tie
 
 abbrev Inv-loop : tie.InvT-loop
-Inv-loop matched members steps out₀ c₀ out c = (c ≤ 64) × Filled 64 (λ k. bitAnd (getD matched k 0) (bitAnd members (getD steps k 0))) c out
+Inv-loop matched members steps out₀ c₀ out c = (c ≤ 64) × (out ≡ front c (λ k. bitAnd (getD matched k 0) (bitAnd members (getD steps k 0))) (replicate 64 0))
 
 abbrev μ-loop : tie.MeasureT-loop
 μ-loop matched members steps out₀ c₀ out c = 64 - c
 
 loop-holds : tie.Need-loop-holds Inv-loop μ-loop
-loop-holds c = (omega arith, filled-none)
+loop-holds c = (omega arith, front-none _ _)
 
 mul-out : tie.Need-mul-out Inv-loop μ-loop
 mul-out c = search needs
@@ -43,11 +45,11 @@ loop-less : tie.Need-loop-less Inv-loop μ-loop
 loop-less c = search needs
 
 loop-again : tie.Need-loop-again Inv-loop μ-loop
-loop-again c = let l = c .before .before .before .loop in (omega arith, filled-more (omega arith) refl (l .inv .1))
+loop-again c = let l = c .before .before .before .loop in (omega arith, front-turn _ _ (l .inv .1) (omega arith) refl)
 
 returns : tie.Need-returns Inv-loop μ-loop
 unfolding goalRows
-returns c = filled-all (omega arith) (c .before .loop .inv .1)
+returns c = front-all _ _ (c .before .loop .inv .1) (omega arith)
 
 pub goal-rows-spec : {M : Type 1} → statement M
 goal-rows-spec =

@@ -1,3 +1,4 @@
+-- The section read is the next one's, so that the goals are those of the definition.
 use mathlib.Core.Path.{_∙_}
 use Prim.Native.Nat.{_<_}
 use native.Mathlib.Omega.{arith}

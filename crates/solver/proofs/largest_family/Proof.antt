@@ -1,7 +1,7 @@
+-- At the loop's head the rows are those after so many turns; a turn that changes nothing is the last.
 use mathlib.Core.Path.{_≡_, refl, sym, _∙_}
 use Prim.Native.Nat.{_*_, _-_}
 use native.Mathlib.Omega.{arith}
-use borrow.Author.Needs.{needs}
 use Rattle.machine.specs.Machines.{setsA, pairs}
 use Rattle.machine.specs.WellFormedLaws.{WellPair, well-pair, pairs-small, entries-small}
 use Rattle.solver.specs.FixLaws.{following-start}
@@ -41,7 +41,7 @@ turn-requires : tie.Need-turn-requires Inv-loop μ-loop
 turn-requires c κs = c .before .before .before .before .before .before .pre
 
 same-family-requires : tie.Need-same-family-requires Inv-loop μ-loop
-same-family-requires c κs = search needs
+same-family-requires c κs = let w = well (entry (c .before .before .before .before .before)) in (w .concrete .states-high, w .abstraction .sets-high)
 
 returns : tie.Need-returns Inv-loop μ-loop
 returns c =

@@ -1,7 +1,7 @@
+-- At the loop's head the rows are those of the level that so many turns give; a level that is the one before is the last.
 use mathlib.Core.Path.{_≡_, refl, sym, _∙_}
 use Prim.Native.Nat.{_-_, _≤_}
 use native.Mathlib.Omega.{arith}
-use borrow.Author.Needs.{needs}
 use Rattle.machine.specs.Machines.{pairs}
 use Rattle.machine.specs.WellFormedLaws.{WellPair, well-pair, pairs-small}
 use Rattle.solver.specs.LevelRowsLaws.{Rising, rising-start, rising-turn, rising-stop, rising-out}

@@ -1,3 +1,4 @@
+-- The states met are those of the moves passed; each turn takes the lowest move that is left.
 use Prim.Native.Nat.{_<_}
 use native.Mathlib.Omega.{arith}
 use borrow.Author.Needs.{needs}

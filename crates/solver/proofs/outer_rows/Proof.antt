@@ -1,25 +1,27 @@
+-- At the loop's head all earlier rows are the definition's, and the others are 0: a state of the set has nothing to store.
 use mathlib.Core.Bool.{cond}
 use mathlib.Core.Logic.{⊎-elim}
-use mathlib.Core.Path.{sym, _∙_}
+use mathlib.Core.Path.{_≡_, sym, _∙_}
 use Prim.Native.Nat.{_-_, _≤_}
 use native.Mathlib.Omega.{arith}
-use lib.ListN.{getD}
+use lib.ListN.{getD, replicate}
 use borrow.Author.Tests.{not-true, not-false}
 use borrow.Author.Needs.{needs}
 use Rattle.mask.specs.Bits.{hasBit}
+use Rattle.mask.specs.Tables.{front}
+use Rattle.mask.specs.FrontLaws.{front-none, front-turn, front-skip, front-zeros, zeros-at}
 use Rattle.solver.specs.Rows.{outerRows}
-use Rattle.solver.specs.FillLaws.{Filled, filled-none, filled-more, filled-skip, filled-part}
 use Rattle.solver.proofs.outer_rows.Statement.{statement}
 use Rattle.solver.proofs.outer_rows.Tie as tie
 
 abbrev Inv-loop : tie.InvT-loop
-Inv-loop nc matched members out₀ c₀ out c = (c ≤ nc) × Filled 64 (λ k. cond (hasBit members k) 0 (getD matched k 0)) c out
+Inv-loop nc matched members out₀ c₀ out c = (c ≤ nc) × (out ≡ front c (λ k. cond (hasBit members k) 0 (getD matched k 0)) (replicate 64 0))
 
 abbrev μ-loop : tie.MeasureT-loop
 μ-loop nc matched members out₀ c₀ out c = nc - c
 
 loop-holds : tie.Need-loop-holds Inv-loop μ-loop
-loop-holds c = (omega arith, filled-none)
+loop-holds c = (omega arith, front-none _ _)
 
 has-requires : tie.Need-has-requires Inv-loop μ-loop
 has-requires c κs = search needs
@@ -49,14 +51,14 @@ loop-again c =
     let e = sym (c .before .has .ensures) in (
       omega arith,
       ⊎-elim
-          (λ w. rw (w .2) (filled-more {v = getD (x .matched .now) (l .c) 0} (omega arith) (rw (e ∙ not-true _ (w .0 .taken))) (l .inv .1)))
-          (λ w. rw (w .1) (filled-skip (rw (e ∙ not-false _ (w .0 .left))) (l .inv .1)))
+          (λ w. rw (w .2) (front-turn _ _ (l .inv .1) {v = getD (x .matched .now) (l .c) 0} (omega arith) (rw (e ∙ not-true _ (w .0 .taken)))))
+          (λ w. rw (w .1) (front-skip _ _ (l .inv .1) (omega arith) (rw (e ∙ not-false _ (w .0 .left)) (zeros-at 64 (l .c)))))
           (c .if1 .came),
     )
 
 returns : tie.Need-returns Inv-loop μ-loop
 unfolding outerRows
-returns c = filled-part (omega arith) (c .before .loop .inv .1)
+returns c = front-zeros _ (c .before .loop .inv .1) (omega arith) (omega arith)
 
 pub outer-rows-spec : {M : Type 1} → statement M
 outer-rows-spec =

@@ -1,3 +1,4 @@
+-- At the loop's head the mask holds the earlier states that have a partner.
 use mathlib.Core.Logic.{⊎-elim}
 use mathlib.Core.Path.{_≡_, sym, ap, _∙_}
 use Prim.Native.Nat.{ℕ, _-_, _≤_}

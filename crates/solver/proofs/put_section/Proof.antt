@@ -1,3 +1,4 @@
+-- At the loop's head the section's earlier rows are the set's, and all other rows are the family's.
 use Prim.Native.Nat.{_-_, _≤_}
 use native.Mathlib.Omega.{arith}
 use borrow.Author.Needs.{needs}

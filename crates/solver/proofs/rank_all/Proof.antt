@@ -1,3 +1,4 @@
+-- At the loop's head the front of the table is the ranks of all earlier sections.
 use mathlib.Core.Path.{_≡_, refl, _∙_}
 use Prim.Native.Nat.{_+_, _-_, _*_, _≤_}
 use native.Mathlib.Omega.{arith}

@@ -1,12 +1,13 @@
+-- Both counts are small, so that neither the product nor the sum overflows and the cast loses no bits.
 use Prim.Native.Nat.{_*_, _≤_}
 use native.Mathlib.Omega.{arith}
 use borrow.Author.Needs.{needs}
-use Rattle.solver.specs.RowsLaws.{product-le}
+use Rattle.machine.specs.WellFormedLaws.{mul-bound}
 use Rattle.solver.proofs.rank_of.Statement.{statement}
 use Rattle.solver.proofs.rank_of.Tie as tie
 
 small : (c : tie.Start) → c .args .l * c .args .m ≤ 32768
-small c = product-le {m = 4096} {n = 8} (omega arith) (c .pre .0)
+small c = mul-bound (c .args .l) (c .args .m) 4096 8 (omega arith) (c .pre .0)
 
 mul-result : tie.Need-mul-result
 mul-result c = omega (arith, small c)

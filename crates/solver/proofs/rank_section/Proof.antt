@@ -1,3 +1,4 @@
+-- At the loop's head the entries are the ranks by the levels so far; where a level is the one before, no later set has a new pair.
 use mathlib.Core.Path.{_≡_, refl, sym, ap, _∙_}
 use Prim.Native.Nat.{ℕ, _-_, _≤_}
 use native.Mathlib.Omega.{arith}

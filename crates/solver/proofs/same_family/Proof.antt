@@ -1,53 +1,58 @@
-use mathlib.Core.Path.{_≡_, sym}
+-- At the loop's head all earlier sections have the same rows.
+use mathlib.Core.Bool.{true}
+use mathlib.Core.Path.{_≡_, sym, ap₂, _∙_}
 use Prim.Native.Nat.{ℕ, _-_, _≤_, _<_}
 use native.Mathlib.Omega.{arith}
-use lib.ListN.{getD}
 use borrow.Author.Count.{below-none, below-more}
 use borrow.Author.Needs.{needs}
-use Rattle.solver.specs.RowsLaws.{same-yes, same-no}
+use borrow.Author.Tests.{not-true, not-false}
+use Rattle.mask.specs.BoundedLaws.{every-of, every-not}
+use Rattle.solver.specs.Rows.{sameRows, sectionOf, sameSections}
 use Rattle.solver.proofs.same_family.Statement.{statement}
 use Rattle.solver.proofs.same_family.Tie as tie
 
 abbrev Inv-loop : tie.InvT-loop
-Inv-loop x y e₀ e = (e ≤ 448) × ((k : ℕ) → k < e → getD x k 0 ≡ getD y k 0)
+Inv-loop nc n x y j₀ j = (j ≤ n) × ((k : ℕ) → k < j → sameRows nc (sectionOf x k) (sectionOf y k) ≡ true)
 
 abbrev μ-loop : tie.MeasureT-loop
-μ-loop x y e₀ e = 448 - e
+μ-loop nc n x y j₀ j = n - j
+
+-- the loop's head, from where two sections are compared
+abbrev head : tie.After-same-rows Inv-loop μ-loop → tie.At-loop Inv-loop μ-loop
+head c = c .before .before .before .before .before .before
+
+same-is : (c : tie.After-same-rows Inv-loop μ-loop)
+    → sameRows (head c .before .args .nc) (sectionOf (head c .before .args .x .now) (head c .loop .j)) (sectionOf (head c .before .args .y .now) (head c .loop .j)) ≡ c .same-rows .result
+same-is c = sym (c .same-rows .ensures ∙ ap₂ (sameRows _) (c .before .before .before .before .section .ensures) (c .before .before .before .section2 .ensures))
 
 loop-holds : tie.Need-loop-holds Inv-loop μ-loop
 loop-holds c = (omega arith, below-none _)
 
-mul-if1 : tie.Need-mul-if1 Inv-loop μ-loop
-mul-if1 c = search needs
+section-requires : tie.Need-section-requires Inv-loop μ-loop
+section-requires c κs = search needs
 
-element-copy-out-if1 : tie.Need-element-copy-out-if1 Inv-loop μ-loop
-element-copy-out-if1 c = search needs
+section-requires-2 : tie.Need-section-requires-2 Inv-loop μ-loop
+section-requires-2 c κs = search needs
 
-mul-if1-2 : tie.Need-mul-if1-2 Inv-loop μ-loop
-mul-if1-2 c = search needs
-
-element-copy-out-if1-2 : tie.Need-element-copy-out-if1-2 Inv-loop μ-loop
-element-copy-out-if1-2 c = search needs
+same-rows-requires : tie.Need-same-rows-requires Inv-loop μ-loop
+same-rows-requires c κs = search needs
 
 returns : tie.Need-returns Inv-loop μ-loop
-returns c =
-    let x = c .before .before .before .before .before .args in
-    let l = c .before .before .before .before .loop in
-    sym (same-no 448 (x .x .now) (x .y .now) (l .e) (omega arith) (c .if1 .taken))
+unfolding sameSections
+returns c = let b = c .before in sym (every-not (head b .before .args .n) _ (head b .loop .j) (omega arith) (same-is b ∙ not-true _ (c .if1 .taken)))
 
-add-e : tie.Need-add-e Inv-loop μ-loop
-add-e c = search needs
+add-j : tie.Need-add-j Inv-loop μ-loop
+add-j c = search needs
 
 loop-less : tie.Need-loop-less Inv-loop μ-loop
 loop-less c = search needs
 
 loop-again : tie.Need-loop-again Inv-loop μ-loop
-loop-again c = (omega arith, below-more _ _ (c .before .before .before .before .loop .inv .1) (c .if1 .left))
+loop-again c = let b = c .before in (omega arith, below-more _ _ (head b .loop .inv .1) (same-is b ∙ not-false _ (c .if1 .left)))
 
 returns-2 : tie.Need-returns-2 Inv-loop μ-loop
-returns-2 c =
-    let x = c .before .before .args in
-    sym (same-yes 448 (x .x .now) (x .y .now) (λ k h. c .before .loop .inv .1 k (omega arith)))
+unfolding sameSections
+returns-2 c = sym (every-of (c .before .before .args .n) _ (λ k h. c .before .loop .inv .1 k (omega arith)))
 
 pub same-family-spec : {M : Type 1} → statement M
 same-family-spec =
@@ -56,12 +61,11 @@ same-family-spec =
     Inv-loop
     μ-loop
     loop-holds
-    mul-if1
-    element-copy-out-if1
-    mul-if1-2
-    element-copy-out-if1-2
+    section-requires
+    section-requires-2
+    same-rows-requires
     returns
-    add-e
+    add-j
     loop-less
     loop-again
     returns-2)

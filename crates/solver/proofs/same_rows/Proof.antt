@@ -1,3 +1,4 @@
+-- At the loop's head all earlier rows are the same.
 use mathlib.Core.Path.{_≡_, sym}
 use Prim.Native.Nat.{ℕ, _-_, _≤_, _<_}
 use native.Mathlib.Omega.{arith}

@@ -1,21 +1,23 @@
-use mathlib.Core.Path.{refl}
+-- At the loop's head all earlier rows are the section's.
+use mathlib.Core.Path.{_≡_, refl}
 use Prim.Native.Nat.{_+_, _*_, _-_, _≤_}
 use native.Mathlib.Omega.{arith}
-use lib.ListN.{getD}
+use lib.ListN.{getD, replicate}
 use borrow.Author.Needs.{needs}
+use Rattle.mask.specs.Tables.{front}
+use Rattle.mask.specs.FrontLaws.{front-none, front-turn, front-all}
 use Rattle.solver.specs.Rows.{sectionOf}
-use Rattle.solver.specs.FillLaws.{Filled, filled-none, filled-more, filled-all}
 use Rattle.solver.proofs.section.Statement.{statement}
 use Rattle.solver.proofs.section.Tie as tie
 
 abbrev Inv-loop : tie.InvT-loop
-Inv-loop family j out₀ c₀ out c = (c ≤ 64) × Filled 64 (λ k. getD family (j * 64 + k) 0) c out
+Inv-loop family j out₀ c₀ out c = (c ≤ 64) × (out ≡ front c (λ k. getD family (j * 64 + k) 0) (replicate 64 0))
 
 abbrev μ-loop : tie.MeasureT-loop
 μ-loop family j out₀ c₀ out c = 64 - c
 
 loop-holds : tie.Need-loop-holds Inv-loop μ-loop
-loop-holds c = (omega arith, filled-none)
+loop-holds c = (omega arith, front-none _ _)
 
 mul-out : tie.Need-mul-out Inv-loop μ-loop
 mul-out c = search needs
@@ -42,11 +44,11 @@ loop-less : tie.Need-loop-less Inv-loop μ-loop
 loop-less c = search needs
 
 loop-again : tie.Need-loop-again Inv-loop μ-loop
-loop-again c = (omega arith, filled-more (omega arith) refl (c .before .before .loop .inv .1))
+loop-again c = (omega arith, front-turn _ _ (c .before .before .loop .inv .1) (omega arith) refl)
 
 returns : tie.Need-returns Inv-loop μ-loop
 unfolding sectionOf
-returns c = filled-all (omega arith) (c .before .loop .inv .1)
+returns c = front-all _ _ (c .before .loop .inv .1) (omega arith)
 
 pub section-spec : {M : Type 1} → statement M
 section-spec =

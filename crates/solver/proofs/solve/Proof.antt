@@ -3,7 +3,7 @@ use mathlib.Core.Path.{sym, ap, _∙_}
 use lib.ListN.{length}
 use borrow.Author.Needs.{needs}
 use Rattle.machine.specs.Refusals.{refused, testedOf}
-use Rattle.machine.specs.RefusalsLaws.{tested-valid, tested-refused}
+use Rattle.machine.specs.RefusalsLaws.{buffer-short, tested-valid, tested-refused}
 use Rattle.machine.specs.WellFormedLaws.{valid-is-well}
 use Rattle.solver.specs.SolverLaws.{solve-short, solve-long, solved-refused, solved-valid}
 use Rattle.solver.proofs.solve.Statement.{statement}
@@ -16,7 +16,8 @@ returns : tie.Need-returns
 unfolding testedOf
 returns c =
     let s = c .before .before .before .args in
-    let e = solve-short (s .p) (length (s .table .now)) (c .before .if1 .taken) in
+    let short = buffer-short _ (length (s .table .now)) (c .before .if1 .taken) in
+    let e = solve-short (s .p) (length (s .table .now)) short in
     (ap refused (c .refuse .ensures) ∙ sym e, solved-refused (s .p) (s .table .now) _ e)
 
 pair-validity-requires : tie.Need-pair-validity-requires

@@ -1,3 +1,4 @@
+-- At the loop's head the rows of all earlier concrete states are written; each row has its own part of the section.
 use mathlib.Core.Path.{_≡_, refl, ap, _∙_}
 use Prim.Native.Nat.{ℕ, _+_, _*_, _-_, _≤_}
 use native.Mathlib.Omega.{arith}

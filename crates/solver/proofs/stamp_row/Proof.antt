@@ -1,3 +1,4 @@
+-- At the loop's head all states of the row but those left have the entry; each turn takes the lowest.
 use native.Mathlib.Omega.{arith}
 use borrow.Author.Needs.{needs}
 use Rattle.mask.specs.BitsLaws.{lowest-le, rest-lt}

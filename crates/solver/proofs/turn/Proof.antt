@@ -1,3 +1,4 @@
+-- At the loop's head all earlier sections are the turn's.
 use mathlib.Core.List.{List}
 use mathlib.Core.Path.{_≡_, ap, _∙_}
 use Prim.Native.Nat.{ℕ, _-_, _≤_, _<_}

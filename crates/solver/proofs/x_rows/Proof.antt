@@ -1,3 +1,4 @@
+-- At the loop's head the rows are those after so many rounds; a round that changes nothing is the last.
 use mathlib.Core.Path.{_≡_, sym, ap, _∙_}
 use mathlib.Core.List.{List}
 use Prim.Native.Nat.{ℕ, _-_, _≤_}

@@ -1,22 +1,24 @@
-use mathlib.Core.Path.{refl}
+-- At the loop's head all earlier rows are the definition's.
+use mathlib.Core.Path.{_≡_, refl}
 use Prim.Native.Nat.{_-_, _≤_}
 use native.Mathlib.Omega.{arith}
-use lib.ListN.{getD}
-use lib.Bits.{bitOr}
+use lib.ListN.{getD, replicate}
+use lib.Bits.{bitAnd, bitOr}
 use borrow.Author.Needs.{needs}
-use Rattle.solver.specs.Rows.{unionRows}
-use Rattle.solver.specs.FillLaws.{Filled, filled-none, filled-more, filled-all}
-use Rattle.solver.proofs.union_rows.Statement.{statement}
-use Rattle.solver.proofs.union_rows.Tie as tie
+use Rattle.mask.specs.Tables.{front}
+use Rattle.mask.specs.FrontLaws.{front-none, front-turn, front-all}
+use Rattle.solver.specs.Rows.{joinRows}
+use Rattle.solver.proofs.join_rows.Statement.{statement}
+use Rattle.solver.proofs.join_rows.Tie as tie
 
 abbrev Inv-loop : tie.InvT-loop
-Inv-loop x y out₀ c₀ out c = (c ≤ 64) × Filled 64 (λ k. bitOr (getD x k 0) (getD y k 0)) c out
+Inv-loop matched x y out₀ c₀ out c = (c ≤ 64) × (out ≡ front c (λ k. bitAnd (getD matched k 0) (bitOr (getD x k 0) (getD y k 0))) (replicate 64 0))
 
 abbrev μ-loop : tie.MeasureT-loop
-μ-loop x y out₀ c₀ out c = 64 - c
+μ-loop matched x y out₀ c₀ out c = 64 - c
 
 loop-holds : tie.Need-loop-holds Inv-loop μ-loop
-loop-holds c = (omega arith, filled-none)
+loop-holds c = (omega arith, front-none _ _)
 
 mul-out : tie.Need-mul-out Inv-loop μ-loop
 mul-out c = search needs
@@ -33,6 +35,12 @@ element-copy-out-out-2 c = search needs
 mul-out-3 : tie.Need-mul-out-3 Inv-loop μ-loop
 mul-out-3 c = search needs
 
+element-copy-out-out-3 : tie.Need-element-copy-out-out-3 Inv-loop μ-loop
+element-copy-out-out-3 c = search needs
+
+mul-out-4 : tie.Need-mul-out-4 Inv-loop μ-loop
+mul-out-4 c = search needs
+
 array-write-out : tie.Need-array-write-out Inv-loop μ-loop
 array-write-out c = search needs
 
@@ -43,14 +51,14 @@ loop-less : tie.Need-loop-less Inv-loop μ-loop
 loop-less c = search needs
 
 loop-again : tie.Need-loop-again Inv-loop μ-loop
-loop-again c = let l = c .before .before .before .loop in (omega arith, filled-more (omega arith) refl (l .inv .1))
+loop-again c = let l = c .before .before .before .before .loop in (omega arith, front-turn _ _ (l .inv .1) (omega arith) refl)
 
 returns : tie.Need-returns Inv-loop μ-loop
-unfolding unionRows
-returns c = filled-all (omega arith) (c .before .loop .inv .1)
+unfolding joinRows
+returns c = front-all _ _ (c .before .loop .inv .1) (omega arith)
 
-pub union-rows-spec : {M : Type 1} → statement M
-union-rows-spec =
+pub join-rows-spec : {M : Type 1} → statement M
+join-rows-spec =
     tie.close
     (tie.spec
     Inv-loop
@@ -61,6 +69,8 @@ union-rows-spec =
     mul-out-2
     element-copy-out-out-2
     mul-out-3
+    element-copy-out-out-3
+    mul-out-4
     array-write-out
     add-c
     loop-less
