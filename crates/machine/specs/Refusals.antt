@@ -1,7 +1,7 @@
 -- Document 01, "Where a call is stopped": what a call says, what it leaves in a lent buffer, and the refusals' numbers, by the names that they
 -- have in the code.
 use mathlib.Core.Bool.{cond}
-use mathlib.Core.List.{List, _++_}
+use mathlib.Core.List.{List, [], _∷_, _++_}
 use Prim.Native.Nat.{ℕ}
 use lib.ListN.{length, drop}
 use lib.Dec.{ltb}
@@ -93,6 +93,10 @@ no-start-partner = 16
 -- a refusal with its spot; "0 where unused"
 abbrev pub refusal : ℕ → ℕ → ℕ → ℕ → Refusal
 refusal number p q r = record { number = number; first = p; second = q; third = r }
+
+-- its four numbers, as C gets them
+unfoldable pub fourNumbers : Refusal → List ℕ
+fourNumbers r = r .number ∷ r .first ∷ r .second ∷ r .third ∷ []
 
 -- 1: a lent buffer of some length is "shorter than stated"
 unfoldable pub bufferValidity : ℕ → ℕ → Tested

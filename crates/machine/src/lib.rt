@@ -2,12 +2,13 @@
 ghost use mathlib.Core.Path.{_≡_};
 ghost use mathlib.Core.Bool.{cond};
 ghost use lib.ListN.{getD};
+ghost use lib.Seq.{sets};
 ghost use lib.Dec.{ltb, eqb};
 ghost use Rattle.mask.specs.Logic.{not, or};
 ghost use Rattle.mask.specs.Bits.{hasBit};
 ghost use Rattle.mask.specs.Bounded.{some};
 ghost use Rattle.machine.specs.Machines.{sameObservation, next};
-ghost use Rattle.machine.specs.Refusals.{testedOf, refusal};
+ghost use Rattle.machine.specs.Refusals.{testedOf, refusal, fourNumbers};
 ghost use Rattle.machine.specs.WellFormed.{countsOk, beyond, stateBeyond, setBeyond, beyondCounts, stuckState, contentValidity, machineValidity, pairValidity};
 ghost use Rattle.machine.specs.Step.{partner, found, alike, inRow};
 ghost use Rattle.machine.specs.Observed.{sameMask, matchedMasks};
@@ -99,6 +100,16 @@ pub fn refuse(number: u32, first: usize, second: usize, third: usize) -> Refusal
         second: second,
         third: third,
     }
+}
+
+// Writes the four numbers of a refusal, as C gets them.
+pub fn put_refusal(spot: &mut [u64; 4], r: Refusal)
+    ensures { λ _. ⌜ now (spot .exit) ≡ sets (now (spot .entry)) 0 (fourNumbers r) ⌝ }
+{
+    spot[0] = r.number as u64;
+    spot[1] = r.first as u64;
+    spot[2] = r.second as u64;
+    spot[3] = r.third as u64;
 }
 
 // ---- Well-formedness

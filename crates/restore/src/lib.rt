@@ -35,10 +35,7 @@ pub extern "C" fn solve_file(bytes: &[u8], out: &mut [u8], spot: &mut [u64; 4]) 
     match solve_bytes(bytes, out) {
         Size::Bytes(n) => n,
         Size::Refused(r) => {
-            spot[0] = r.number as u64;
-            spot[1] = r.first as u64;
-            spot[2] = r.second as u64;
-            spot[3] = r.third as u64;
+            machine::put_refusal(spot, r);
             0
         }
     }

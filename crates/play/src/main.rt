@@ -1,0 +1,38 @@
+// Plays a lasso of the concrete machine, written in the arguments as `0 1 / 2 3`, by the table of the show on standard input, and writes the
+// abstract machine's run as one line. A read that fails ends the input.
+use libc::STDIN_FILENO;
+use libc::STDOUT_FILENO;
+ghost use Prim.Native.Nat.{_≤_};
+
+// The arguments' text, a blank behind each. Where it does not fit there is none, and so no lasso.
+fn arguments(text: &mut [u8; 4096]) -> usize
+    ensures { λ r. ⌜ r ≤ 4096 ⌝ }
+{
+    let count = os::arg_count();
+    let mut at = 0;
+    for i in 1..count {
+        let n = os::arg(i, &mut text[at..]);
+        if n == 0 {
+            if os::errno() != 0 {
+                return 0;
+            }
+        }
+        at += n;
+        if 4096 <= at {
+            return 0;
+        }
+        text[at] = b' ';
+        at += 1;
+    }
+    at
+}
+
+fn main() {
+    let mut text = [0u8; 4096];
+    let length = arguments(&mut text);
+    let mut buffer = [0u8; codec::INPUT_ROOM];
+    let count = io::read_full(STDIN_FILENO, &mut buffer);
+    let mut out = [0u8; 114700];
+    let n = playline::play_line(&buffer[..count], &text[..length], &mut out);
+    io::write_all(STDOUT_FILENO, &out[..n]);
+}

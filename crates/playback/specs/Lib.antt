@@ -1,0 +1,4 @@
+-- definitions
+pub mod Playing
+-- laws
+pub mod PlayingLaws

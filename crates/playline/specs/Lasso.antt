@@ -1,0 +1,44 @@
+-- A lasso as text: `0 1 / 2 3`. States are runs of decimal digits, with blanks between them; one stroke stands between stem and loop.
+use mathlib.Core.Bool.{Bool, true, false, cond}
+use mathlib.Core.List.{List, [], _∷_}
+use Prim.Native.Nat.{ℕ, suc, _+_, _*_, _-_, min}
+use lib.ListN.{length, getD, take, drop}
+use lib.Dec.{eqb, leb, ltb}
+use Rattle.mask.specs.Logic.{and, or}
+use Rattle.mask.specs.Bounded.{every, first}
+use Rattle.machine.specs.Lassos as L
+
+unfoldable pub isDigit : ℕ → Bool
+isDigit b = and (leb 48 b) (leb b 57)
+
+-- the number with one digit more; a number over 255 counts as 255, which is no state either
+unfoldable pub grown : ℕ → ℕ → ℕ
+grown n b = min 255 (n * 10 + (b - 48))
+
+-- the numbers that a text writes, after the digits of n where a number is open
+unfoldable pub numbersFrom : Bool → ℕ → List ℕ → List ℕ
+numbersFrom open n [] = cond open (n ∷ []) []
+numbersFrom open n (b ∷ t) =
+    let inside = numbersFrom true (grown n b) t in
+    let after = numbersFrom false 0 t in
+    cond (isDigit b) inside (cond open (n ∷ after) after)
+
+-- the numbers of a text, at most 65, which is one more than a lasso may have
+unfoldable pub numbersIn : List ℕ → List ℕ
+numbersIn t = take 65 (numbersFrom false 0 t)
+
+-- a byte of stem or loop: a digit or a blank
+unfoldable pub isPlain : ℕ → Bool
+isPlain b = or (isDigit b) (eqb b 32)
+
+-- where the first stroke stands; the text's length where there is none
+unfoldable pub strokeAt : List ℕ → ℕ
+strokeAt t = first (length t) (λ i. eqb (getD t i 0) 47)
+
+-- the text is a stem, a stroke and a loop
+unfoldable pub readable : List ℕ → Bool
+readable t = and (ltb (strokeAt t) (length t)) (every (length t) (λ i. or (eqb i (strokeAt t)) (isPlain (getD t i 0))))
+
+-- the lasso of a readable text
+unfoldable pub lassoIn : List ℕ → L.Lasso
+lassoIn t = L.given (numbersIn (take (strokeAt t) t)) (numbersIn (drop (suc (strokeAt t)) t))

@@ -1,0 +1,6 @@
+-- definitions
+pub mod Lasso
+pub mod Line
+-- laws
+pub mod LassoLaws
+pub mod LineLaws

@@ -1,0 +1,39 @@
+-- The line that `play` writes, as ASCII: `run 0 1 / 4 5 6`, `no table`, `refused NUMBER P Q R`, or how to call it.
+use mathlib.Core.Bool.{cond}
+use mathlib.Core.List.{List, [], _∷_, _++_}
+use Prim.Native.Nat.{ℕ}
+use lib.ListN.{length, take, drop, replicate}
+use Rattle.text.specs.Decimal.{decimal}
+use Rattle.machine.specs.Refusals.{Result, answer, refused}
+use Rattle.machine.specs.Player.{played, runRoom}
+use Rattle.machine.specs.Lassos as L
+use Rattle.report.specs.Text.{noTableText, refusalLine}
+use Rattle.playback.specs.Playing.{RunOutcome, plays, noTable, fileRun, fileRunBuffer}
+use Rattle.playline.specs.Lasso.{readable, lassoIn}
+
+-- a blank before each state
+unfoldable pub statesText : List ℕ → List ℕ
+statesText [] = []
+statesText (s ∷ l) = 32 ∷ (decimal s ++ statesText l)
+
+-- "run", the stem's states, a stroke, the loop's states
+unfoldable pub runLine : List ℕ → List ℕ → List ℕ
+runLine stem loop = 114 ∷ 117 ∷ 110 ∷ (statesText stem ++ (32 ∷ 47 ∷ (statesText loop ++ (10 ∷ []))))
+
+-- what is said, and the buffer that holds the run
+unfoldable pub outcomeLine : Result RunOutcome → List ℕ → List ℕ
+outcomeLine (answer (plays (played s q))) run = runLine (take s run) (take q (drop s run))
+outcomeLine (answer noTable) run = noTableText
+outcomeLine (refused r) run = refusalLine r
+
+-- "usage: play 0 1 / 2 3 < show.dom" and a line feed
+abbrev pub usageLine : List ℕ
+usageLine =
+    117 ∷ 115 ∷ 97 ∷ 103 ∷ 101 ∷ 58 ∷ 32 ∷ 112 ∷ 108 ∷ 97 ∷ 121 ∷ 32 ∷ 48 ∷ 32 ∷ 49 ∷ 32 ∷ 47 ∷ 32 ∷ 50 ∷ 32 ∷ 51 ∷ 32 ∷ 60 ∷ 32 ∷ 115 ∷ 104 ∷ 111 ∷ 119 ∷ 46 ∷ 100 ∷ 111 ∷ 109 ∷ 10 ∷ []
+
+-- the line for the file whose bytes these are and the lasso that the arguments' text writes; a run's buffer of zeros is lent
+unfoldable pub playLine : List ℕ → List ℕ → List ℕ
+playLine f text =
+    let buffer : List ℕ = replicate runRoom 0 in
+    let said = outcomeLine (fileRun f (lassoIn text) buffer) (fileRunBuffer f (lassoIn text) buffer) in
+    cond (readable text) said usageLine

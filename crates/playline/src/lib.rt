@@ -1,0 +1,194 @@
+// A lasso read from text, and the line that `play` writes.
+ghost use mathlib.Core.Bool.{true};
+ghost use mathlib.Core.List.{_∷_, [], _++_};
+ghost use mathlib.Core.Path.{_≡_};
+ghost use Prim.Native.Nat.{_+_, _*_, _≤_};
+ghost use lib.ListN.{length, take};
+ghost use lib.Seq.{sets};
+ghost use Rattle.playline.specs.Lasso.{isDigit, grown, isPlain, numbersIn, strokeAt, readable};
+ghost use Rattle.playline.specs.Line.{statesText, runLine, playLine};
+use playback::FileRun;
+use report::Line;
+
+// The room that a line of any run has: four bytes for each of 28,672 states, and the words.
+pub const LINE_ROOM: usize = 114700;
+
+// Numbers that were read, at most 65: the first `count` of `states`.
+struct Numbers {
+    states: [u8; 65],
+    count: usize,
+}
+
+// ---- Reading a lasso
+
+fn is_digit(b: u8) -> bool
+    ensures { λ r. ⌜ r ≡ isDigit b ⌝ }
+{
+    if b < 48 { false } else { b <= 57 }
+}
+
+// The number with one digit more, 255 for any over it.
+fn grown(n: u8, b: u8) -> u8
+    requires { ⌜ isDigit b ≡ true ⌝ }
+    ensures { λ r. ⌜ r ≡ grown n b ⌝ }
+{
+    let wide = n as u32 * 10 + (b - 48) as u32;
+    if 255 < wide { 255 } else { wide as u8 }
+}
+
+// The numbers with one more, where there are not 65 yet.
+fn pushed(list: Numbers, n: u8) -> Numbers
+    requires { ⌜ list .count ≤ 65 ⌝ }
+    ensures { λ r. ⌜ (r .count ≤ 65) × (take (r .count) (r .states) ≡ take 65 (take (list .count) (list .states) ++ (n ∷ []))) ⌝ }
+{
+    let at = list.count;
+    if 65 <= at {
+        return list;
+    }
+    let mut states = list.states;
+    states[at] = n;
+    Numbers {
+        states: states,
+        count: at + 1,
+    }
+}
+
+// The numbers that a text writes.
+fn numbers_in(text: &[u8]) -> Numbers
+    ensures { λ r. ⌜ (r .count ≤ 65) × (take (r .count) (r .states) ≡ numbersIn (now (text .entry))) ⌝ }
+{
+    let mut list = Numbers {
+        states: [0; 65],
+        count: 0,
+    };
+    let mut open = false;
+    let mut n: u8 = 0;
+    for i in 0..text.len() {
+        let b = text[i];
+        if is_digit(b) {
+            n = grown(n, b);
+            open = true;
+        } else {
+            if open {
+                list = pushed(list, n);
+            }
+            n = 0;
+            open = false;
+        }
+    }
+    if open { pushed(list, n) } else { list }
+}
+
+// Where the first stroke stands; the text's length where there is none.
+fn stroke_at(text: &[u8]) -> usize
+    ensures { λ r. ⌜ r ≡ strokeAt (now (text .entry)) ⌝ }
+{
+    for i in 0..text.len() {
+        if text[i] == b'/' {
+            return i;
+        }
+    }
+    text.len()
+}
+
+// Whether a byte is a digit or a blank.
+fn is_plain(b: u8) -> bool
+    ensures { λ r. ⌜ r ≡ isPlain b ⌝ }
+{
+    if is_digit(b) { true } else { b == 32 }
+}
+
+// Whether the text, whose first stroke stands at a place, is a stem, a stroke and a loop.
+fn is_readable(text: &[u8], stroke: usize) -> bool
+    requires { ⌜ stroke ≡ strokeAt (now text) ⌝ }
+    ensures { λ r. ⌜ r ≡ readable (now (text .entry)) ⌝ }
+{
+    if text.len() <= stroke {
+        return false;
+    }
+    for i in 0..text.len() {
+        if i != stroke {
+            if !is_plain(text[i]) {
+                return false;
+            }
+        }
+    }
+    true
+}
+
+// ---- Writing the line
+
+// Writes the states from a place on, a blank before each, and gives the place behind them.
+fn put_states(out: &mut [u8], at: usize, states: &[u8]) -> usize
+    requires { ⌜ at + 4 * length (now states) ≤ length (now out) ⌝ }
+    ensures place { λ r. ⌜ r ≡ at + length (statesText (now (states .entry))) ⌝ }
+    ensures room { λ r. ⌜ r ≤ at + 4 * length (now (states .entry)) ⌝ }
+    ensures bytes { λ _. ⌜ now (out .exit) ≡ sets (now (out .entry)) at (statesText (now (states .entry))) ⌝ }
+{
+    let mut place = at;
+    for i in 0..states.len() {
+        out[place] = b' ';
+        let digits = text::digits_of(states[i] as usize);
+        let bytes = digits.bytes;
+        let start = digits.start;
+        text::put(out, place + 1, &bytes[start..]);
+        place = place + 1 + (20 - start);
+    }
+    place
+}
+
+// Writes the line of a run with this stem and loop, and gives its length.
+fn put_run(out: &mut [u8], stem: &[u8], cycle: &[u8]) -> usize
+    requires { ⌜ 4 * length (now stem) + 4 * length (now cycle) + 6 ≤ length (now out) ⌝ }
+    ensures length { λ r. ⌜ r ≡ length (runLine (now (stem .entry)) (now (cycle .entry))) ⌝ }
+    ensures bytes { λ _. ⌜ now (out .exit) ≡ sets (now (out .entry)) 0 (runLine (now (stem .entry)) (now (cycle .entry))) ⌝ }
+{
+    text::put(out, 0, b"run");
+    let stroke = put_states(out, 3, stem);
+    text::put(out, stroke, b" /");
+    let end = put_states(out, stroke + 2, cycle);
+    out[end] = b'\n';
+    end + 1
+}
+
+// Writes a line that is ready, and gives its length.
+fn put_line(out: &mut [u8], word: &[u8]) -> usize
+    ensures length { λ r. ⌜ r ≡ length (now (word .entry)) ⌝ }
+    ensures bytes { λ _. ⌜ now (out .exit) ≡ sets (now (out .entry)) 0 (now (word .entry)) ⌝ }
+{
+    text::put(out, 0, word);
+    word.len()
+}
+
+// Writes the line of a file and of the lasso that the arguments' text writes to the front of `out`, and gives its length.
+pub fn play_line(bytes: &[u8], text: &[u8], out: &mut [u8; 114700]) -> usize
+    ensures length { λ r. ⌜ r ≡ length (playLine (now (bytes .entry)) (now (text .entry))) ⌝ }
+    ensures room { λ r. ⌜ r ≤ 114700 ⌝ }
+    ensures bytes { λ _. ⌜ now (out .exit) ≡ sets (now (out .entry)) 0 (playLine (now (bytes .entry)) (now (text .entry))) ⌝ }
+{
+    let stroke = stroke_at(text);
+    if !is_readable(text, stroke) {
+        return put_line(out, b"usage: play 0 1 / 2 3 < show.dom\n");
+    }
+    let stem = numbers_in(&text[..stroke]);
+    let after = stroke + 1;
+    let cycle = numbers_in(&text[after..]);
+    let stem_states = stem.states;
+    let stem_count = stem.count;
+    let cycle_states = cycle.states;
+    let cycle_count = cycle.count;
+    let mut run = [0u8; player::RUN_ROOM];
+    match playback::play_bytes(bytes, &stem_states[..stem_count], &cycle_states[..cycle_count], &mut run) {
+        FileRun::Run(s, q) => {
+            let end = s + q;
+            put_run(out, &run[..s], &run[s..end])
+        }
+        FileRun::NoTable => put_line(out, b"no table\n"),
+        FileRun::Refused(r) => {
+            let line = report::refusal_line(r);
+            let line_text = line.text;
+            let line_length = line.length;
+            put_line(out, &line_text[..line_length])
+        }
+    }
+}
