@@ -4,5 +4,6 @@ fn main() {
     println!("cargo:rustc-link-search=native={dir}/../target/staticlib");
     println!("cargo:rustc-link-lib=static=console");
     println!("cargo:rustc-link-lib=static=restore");
+    println!("cargo:rustc-link-lib=static=playback");
     println!("cargo:rerun-if-changed={dir}/../target/staticlib");
 }

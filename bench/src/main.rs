@@ -8,6 +8,17 @@ use std::time::Instant;
 extern "C" {
     fn console_answer(bytes: *const u8, length: usize) -> u32;
     fn solve_file(bytes: *const u8, length: usize, out: *mut u8, out_length: usize, spot: *mut [u64; 4]) -> usize;
+    fn play_file(
+        bytes: *const u8,
+        length: usize,
+        stem: *const u8,
+        stem_length: usize,
+        cycle: *const u8,
+        cycle_length: usize,
+        run: *mut u8,
+        run_length: usize,
+        spot: *mut [u64; 4],
+    ) -> u64;
 }
 
 fn console(bytes: &[u8]) -> u32 {
@@ -21,6 +32,29 @@ fn solved(bytes: &[u8], out: &mut [u8]) -> Result<usize, Refusal> {
         Err(Refusal(spot[0] as u32, spot[1] as usize, spot[2] as usize, spot[3] as usize))
     } else {
         Ok(n)
+    }
+}
+
+// stem length and loop length of the run, nothing where there is no table, or the refusal
+fn played(bytes: &[u8], stem: &[u8], cycle: &[u8], run: &mut [u8]) -> Result<Option<(usize, usize)>, Refusal> {
+    let mut spot = [0u64; 4];
+    let n = unsafe {
+        play_file(
+            bytes.as_ptr(),
+            bytes.len(),
+            stem.as_ptr(),
+            stem.len(),
+            cycle.as_ptr(),
+            cycle.len(),
+            run.as_mut_ptr(),
+            run.len(),
+            &mut spot,
+        )
+    };
+    match (n, spot[0]) {
+        (0, 101) => Ok(None),
+        (0, _) => Err(Refusal(spot[0] as u32, spot[1] as usize, spot[2] as usize, spot[3] as usize)),
+        _ => Ok(Some(((n / 65536) as usize, (n % 65536) as usize))),
     }
 }
 
@@ -91,6 +125,48 @@ fn chain(states: usize, m: usize, n: usize) -> (Machine, Machine) {
     (c, a)
 }
 
+// two rings of states that may stay, with observations that come round eight times; a lasso round the first is as long as a lasso may be
+fn rings(m: usize, n: usize) -> (Machine, Machine) {
+    let ring = |sets: usize| {
+        let mut x = EMPTY;
+        x.states = 64;
+        x.sets = sets;
+        x.start = 1;
+        for s in 0..64 {
+            x.observations[s] = s as u8 % 8;
+            x.successors[s] = 1 << s | 1 << ((s + 1) % 64);
+        }
+        for k in 0..sets {
+            x.fairness[k] = !(1 << (8 * k));
+        }
+        x
+    };
+    (ring(m), ring(n))
+}
+
+// walks of a machine from a start state, of a few states, closed where a state comes back; some are damaged
+fn lasso(r: &mut Random, c: &Machine) -> (Vec<u8>, Vec<u8>) {
+    let pick = |r: &mut Random, m: u64| plain::bits(m).nth(r.below(m.count_ones() as usize)).unwrap_or(0);
+    let mut path = vec![pick(r, c.start) as u8];
+    let length = 1 + r.below(12);
+    loop {
+        let next = pick(r, c.successors[*path.last().unwrap() as usize]) as u8;
+        let seen = path.iter().position(|&s| s == next);
+        if let (Some(i), true) = (seen, path.len() >= length) {
+            let mut cycle = path.split_off(i);
+            if r.below(8) == 0 {
+                let at = r.below(cycle.len());
+                cycle[at] ^= 1 << r.below(8);
+            }
+            return (path, cycle);
+        }
+        if path.len() == 64 {
+            return (path, vec![]);
+        }
+        path.push(next);
+    }
+}
+
 fn file(c: &Machine, a: &Machine, table: Option<&[u16]>) -> Vec<u8> {
     let mut out = vec![0u8; FILE_ROOM];
     let n = plain::write(c, a, table, &mut out);
@@ -128,8 +204,30 @@ fn compare(f: &[u8], counts: &mut [usize; 4]) {
     }] += 1;
 }
 
+// the same run, or the same refusal and a buffer as it was
+fn compare_play(f: &[u8], stem: &[u8], cycle: &[u8], counts: &mut [usize; 3]) {
+    let mut x = vec![0xA5u8; plain::ROOM];
+    let mut y = vec![0xA5u8; plain::ROOM];
+    let a = played(f, stem, cycle, &mut x);
+    let b = plain::play_file(f, stem, cycle, &mut y);
+    assert_eq!(a, b, "play");
+    match b {
+        Ok(Some((s, q))) => {
+            assert!(x[..s + q] == y[..s + q], "run");
+            assert!(x[s + q..].iter().all(|&v| v == 0xA5), "past the run");
+        }
+        _ => assert!(x.iter().all(|&v| v == 0xA5), "no run, and the buffer changed"),
+    }
+    counts[match b {
+        Ok(Some(_)) => 0,
+        Ok(None) => 1,
+        Err(_) => 2,
+    }] += 1;
+}
+
 fn agree(r: &mut Random) {
     let mut counts = [0usize; 4];
+    let mut plays = [0usize; 3];
     for round in 0..3000 {
         let (c, a) = r.pair(if round % 50 == 0 { 64 } else { 7 });
         let mut t = vec![0u16; plain::ROOM];
@@ -139,6 +237,10 @@ fn agree(r: &mut Random) {
             _ => file(&c, &a, Some(&t)),
         };
         compare(&f, &mut counts);
+        for _ in 0..4 {
+            let (stem, cycle) = lasso(r, &c);
+            compare_play(&f, &stem, &cycle, &mut plays);
+        }
         // an entry, a byte or a length is damaged
         let n = a.sets * c.states * a.states;
         t[r.below(n)] = [0, 1, 2, 65535, 9][r.below(5)];
@@ -152,6 +254,7 @@ fn agree(r: &mut Random) {
         compare(&f, &mut counts);
     }
     println!("agreed: carried {}, not carried {}, no table {}, refused {}", counts[0], counts[1], counts[2], counts[3]);
+    println!("agreed on plays: run {}, no table {}, refused {}", plays[0], plays[1], plays[2]);
 }
 
 // the best time of several runs, in microseconds
@@ -193,6 +296,17 @@ fn solving(name: &str, f: &[u8]) {
     row(name, a, b);
 }
 
+fn playing(name: &str, f: &[u8], stem: &[u8], cycle: &[u8]) {
+    let mut run = vec![0u8; plain::ROOM];
+    let a = time(|| {
+        black_box(played(black_box(f), stem, cycle, &mut run)).unwrap();
+    });
+    let b = time(|| {
+        black_box(plain::play_file(black_box(f), stem, cycle, &mut run)).unwrap();
+    });
+    row(name, a, b);
+}
+
 fn main() {
     let mut r = Random(0x9E3779B97F4A7C15);
     agree(&mut r);
@@ -219,4 +333,15 @@ fn main() {
         judge(&format!("read and check, {states} by {states}, chain"), &file(&c, &a, Some(&t)));
         solving(&format!("read, solve and write, {states} by {states}, chain"), &file(&c, &a, None));
     }
+    let (c, a) = rings(8, 7);
+    let mut t = vec![0u16; plain::ROOM];
+    plain::solve(&c, &a, &mut t);
+    let f = file(&c, &a, Some(&t));
+    let round: Vec<u8> = (0..64).collect();
+    judge("read and check, 64 by 64, rings", &f);
+    playing("read, check and play, 64 by 64, rings, loop of 64", &f, &[], &round);
+    let (c, a) = chain(64, 8, 7);
+    plain::solve(&c, &a, &mut t);
+    let f = file(&c, &a, Some(&t));
+    playing("read, check and play, 64 by 64, chain, loop of 64", &f, &[], &round);
 }

@@ -1,4 +1,4 @@
-//! A plain implementation of reader, writer, check and solver, from the documents alone. It is the measure for speed and the other opinion on results.
+//! A plain implementation of reader, writer, check, player and solver, from the documents alone. It is the measure for speed and the other opinion on results.
 
 #[derive(Clone, Copy, PartialEq, Eq, Debug)]
 pub struct Machine {
@@ -283,6 +283,71 @@ pub fn verdict(bytes: &[u8]) -> Answer {
         Err(r) => Answer::Refused(r),
         Ok((_, _, false)) => Answer::NoTable,
         Ok((c, a, true)) => check(&c, &a, &t),
+    }
+}
+
+// ---- the player
+
+fn lasso_holds(c: &Machine, stem: &[u8], cycle: &[u8]) -> Result<(), Refusal> {
+    let whole = stem.len() + cycle.len();
+    if cycle.is_empty() || whole > 64 {
+        return Err(Refusal(13, 0, 0, 0));
+    }
+    let at = |i: usize| if i < stem.len() { stem[i] as usize } else { cycle[(i - stem.len()) % cycle.len()] as usize };
+    let moves = |s: usize, t: usize| s < 64 && t < 64 && c.successors[s] >> t & 1 == 1;
+    for i in 0..whole {
+        let entered = if i == 0 { at(0) < 64 && c.start >> at(0) & 1 == 1 } else { moves(at(i - 1), at(i)) };
+        if at(i) >= c.states || !entered || (i + 1 == whole && !moves(at(i), at(i + 1))) {
+            return Err(Refusal(14, i, 0, 0));
+        }
+    }
+    for k in 0..c.sets {
+        if !cycle.iter().any(|&s| c.fairness[k] >> s & 1 == 1) {
+            return Err(Refusal(15, k + 1, 0, 0));
+        }
+    }
+    Ok(())
+}
+
+// the state of the mask with the least entry that is not blank, the lowest of these
+fn best(moves: u64, row: &[u16]) -> Option<usize> {
+    bits(moves).filter(|&u| row[u] != BLANK).min_by_key(|&u| row[u])
+}
+
+pub fn play(c: &Machine, a: &Machine, t: &[u16], stem: &[u8], cycle: &[u8], run: &mut [u8]) -> Result<(usize, usize), Refusal> {
+    if let Answer::Refused(r) = check(c, a, t) {
+        return Err(r);
+    }
+    lasso_holds(c, stem, cycle)?;
+    let (nc, na, n) = (c.states, a.states, a.sets);
+    let row = |j: usize, s: usize| &t[(j * nc + s) * na..(j * nc + s + 1) * na];
+    let at = |i: usize| if i < stem.len() { stem[i] as usize } else { cycle[(i - stem.len()) % cycle.len()] as usize };
+    let mut u = best(a.start, row(0, at(0))).ok_or(Refusal(16, 0, 0, 0))?;
+    let mut j = 0;
+    let mut seen = [[0usize; 7]; 64];
+    let mut i = 0;
+    loop {
+        if i >= stem.len() && (i - stem.len()) % cycle.len() == 0 {
+            if seen[u][j] > 0 {
+                let first = seen[u][j] - 1;
+                return Ok((first, i - first));
+            }
+            seen[u][j] = i + 1;
+        }
+        run[i] = u as u8;
+        if row(j, at(i))[u] == 0 {
+            j = (j + 1) % n;
+        }
+        u = best(a.successors[u], row(j, at(i + 1))).unwrap();
+        i += 1;
+    }
+}
+
+pub fn play_file(bytes: &[u8], stem: &[u8], cycle: &[u8], run: &mut [u8]) -> Result<Option<(usize, usize)>, Refusal> {
+    let mut t = [0u16; ROOM];
+    match read(bytes, &mut t)? {
+        (_, _, false) => Ok(None),
+        (c, a, true) => play(&c, &a, &t, stem, cycle, run).map(Some),
     }
 }
 
