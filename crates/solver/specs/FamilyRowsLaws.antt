@@ -15,7 +15,7 @@ use Rattle.mask.specs.Tables.{table}
 use Rattle.mask.specs.TablesLaws.{table-length, table-at, table-past, table-cong, fill-done}
 use Rattle.mask.specs.FrontLaws.{zeros-at}
 use Rattle.machine.specs.declared.Pair.{Pair}
-use Rattle.machine.specs.Machines.{fairSet, next, nC, setsA, pairs}
+use Rattle.machine.specs.Machines.{fairSet, next, setsA, pairs}
 use Rattle.machine.specs.StepLaws.{next-lt}
 use Rattle.machine.specs.WellFormedLaws.{WellPair}
 use Rattle.machine.specs.Observed.{matchedMasks}
@@ -101,11 +101,11 @@ module _ (p : Pair) (w : WellPair p) where
       table-cong (setsA p) _ _ (λ j h. ap (pairsIn p) (section-flat Z j (few j h)) ∙ set-back p w (getD Z j []) (q .canonical j h)) ∙ sym (q .listed)
 
   -- two families have the same rows exactly if they are the same
-  pub flat-same : (Z W : List (List ℕ)) → Tabled p Z → Tabled p W → sameSections (nC p) (setsA p) (flatOf Z) (flatOf W) ≡ sameFamily p Z W
+  pub flat-same : (Z W : List (List ℕ)) → Tabled p Z → Tabled p W → sameSections (setsA p) (flatOf Z) (flatOf W) ≡ sameFamily p Z W
   unfolding sameSections sameFamily
   flat-same Z W qz qw = every-cong (setsA p) _ _ (λ j h.
-      ap₂ (sameRows (nC p)) (section-flat Z j (few j h)) (section-flat W j (few j h))
-      ∙ rows-same p w (getD Z j []) (getD W j []) (qz .canonical j h) (qw .canonical j h))
+      ap₂ (sameRows 64) (section-flat Z j (few j h)) (section-flat W j (few j h))
+      ∙ rows-same p w 64 (w .concrete .states-high) (getD Z j []) (getD W j []) (qz .canonical j h) (qw .canonical j h))
 
   -- all matched pairs in every section
   pub first-is : {matched : List ℕ} → matched ≡ matchedMasks p → flatOf (table (setsA p) (λ j. matched)) ≡ flatOf (firstFamily p)
@@ -136,17 +136,17 @@ module _ (p : Pair) (w : WellPair p) where
     turn-all e = rw e
 
   -- ---- the turns
-  flat-images : Images (Tabled p) flatOf (familyIn p) (sameFamily p) (sameSections (nC p) (setsA p))
+  flat-images : Images (Tabled p) flatOf (familyIn p) (sameFamily p) (sameSections (setsA p))
   flat-images = record { reads = family-back; agrees = flat-same }
 
   keeps : (Z : List (List ℕ)) → Tabled p Z → Tabled p (turn p Z)
   keeps Z q = turn-tabled p Z
 
   module _ {n i : ℕ} {y : List ℕ} (d : Falling p n i y) where
-    pub falling-turn : {next : List ℕ} → next ≡ flatOf (turn p (familyIn p y)) → i < n → sameSections (nC p) (setsA p) y next ≡ false → Falling p n (i + 1) next
+    pub falling-turn : {next : List ℕ} → next ≡ flatOf (turn p (familyIn p y)) → i < n → sameSections (setsA p) y next ≡ false → Falling p n (i + 1) next
     falling-turn e h t = following-turn flat-images (turn p) keeps (first-tabled p) d e h t
 
-    pub falling-stop : {next : List ℕ} → next ≡ flatOf (turn p (familyIn p y)) → n ≡ setsA p * pairs p → sameSections (nC p) (setsA p) y next ≡ true → y ≡ flatOf (family p)
+    pub falling-stop : {next : List ℕ} → next ≡ flatOf (turn p (familyIn p y)) → n ≡ setsA p * pairs p → sameSections (setsA p) y next ≡ true → y ≡ flatOf (family p)
     unfolding family
     falling-stop e z t = rw (← z) (following-stop flat-images (turn p) keeps (first-tabled p) d e t)
 

@@ -336,7 +336,7 @@ module _ {p : Pair} {matched goals : List ℕ} {l : ℕ} {below part : List ℕ}
   ranked-stop {next} {made} hl n t =
       let G : List ℕ = pairsIn p goals in
       let s : sameSet p (level p G l) (level p G (suc l)) ≡ true =
-      sym (rows-same p W (level p G l) (level p G (suc l)) (level-canonical p G l) (level-canonical p G (suc l)))
+      sym (rows-same p W (nC p) (omega arith) (level p G l) (level p G (suc l)) (level-canonical p G l) (level-canonical p G (suc l)))
       ∙ ap₂ (sameRows (nC p)) (sym (d .level-is)) (sym (rw (add-one l) at (n .level-is))) ∙ t in
       (rw (add-one l) at (n .entries-are)) ∙ section-stays p W G (d .held .only-matched) l hl (same-holds p (level p G l) (level p G (suc l)) s)
 

@@ -74,9 +74,9 @@ outerRows nC matched members = table 64 (λ c. let row = cond (hasBit members c)
 unfoldable pub sameRows : ℕ → List ℕ → List ℕ → Bool
 sameRows n x y = every n (λ c. eqb (getD x c 0) (getD y c 0))
 
--- the first nC rows of each of n sections are the same
-unfoldable pub sameSections : ℕ → ℕ → List ℕ → List ℕ → Bool
-sameSections nC n x y = every n (λ j. sameRows nC (sectionOf x j) (sectionOf y j))
+-- the rows of each of n sections are the same
+unfoldable pub sameSections : ℕ → List ℕ → List ℕ → Bool
+sameSections n x y = every n (λ j. sameRows 64 (sectionOf x j) (sectionOf y j))
 
 -- one round over X: the base, and the outer pairs that step into X
 unfoldable pub xRound : ℕ → ℕ → List ℕ → List ℕ → List ℕ → List ℕ → List ℕ → List ℕ

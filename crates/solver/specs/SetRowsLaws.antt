@@ -112,17 +112,17 @@ module _ (p : Pair) where
     rows-small S q c h = rw q (row-small (mem p S) c h)
 
     -- two sets have the same rows exactly if they are the same
-    pub rows-same : (S R : List ℕ) → Canonical p S → Canonical p R → sameRows (nC p) (rowsOf S) (rowsOf R) ≡ sameSet p S R
+    pub rows-same : (n : ℕ) → nC p ≤ n → (S R : List ℕ) → Canonical p S → Canonical p R → sameRows n (rowsOf S) (rowsOf R) ≡ sameSet p S R
     unfolding mem
-    rows-same S R qs qr = both _ _
+    rows-same n k S R qs qr = both _ _
         (λ t. same-of p S R (λ c a hc ha u. ap (λ (m : ℕ). hasBit m a) (sym (equal t c hc)) ∙ u) (λ c a hc ha u. ap (λ (m : ℕ). hasBit m a) (equal t c hc) ∙ u))
-        (λ t. rw (set-ext p S R qs qr (same-within p S R t) (same-holds p S R t)) (same-yes (nC p) (rowsOf R) (rowsOf R) (λ c h. refl)))
+        (λ t. rw (set-ext p S R qs qr (same-within p S R t) (same-holds p S R t)) (same-yes n (rowsOf R) (rowsOf R) (λ c h. refl)))
       where
-        equal : sameRows (nC p) (rowsOf S) (rowsOf R) ≡ true → (c : ℕ) → c < nC p → getD S c 0 ≡ getD R c 0
-        equal t c h = sym (rows-at S c (wide c h)) ∙ same-at (nC p) (rowsOf S) (rowsOf R) t c h ∙ rows-at R c (wide c h)
+        equal : sameRows n (rowsOf S) (rowsOf R) ≡ true → (c : ℕ) → c < nC p → getD S c 0 ≡ getD R c 0
+        equal t c h = sym (rows-at S c (wide c h)) ∙ same-at n (rowsOf S) (rowsOf R) t c (omega arith) ∙ rows-at R c (wide c h)
 
     pub rows-images : Images (Canonical p) rowsOf (pairsIn p) (sameSet p) (sameRows (nC p))
-    rows-images = record { reads = set-back; agrees = rows-same }
+    rows-images = record { reads = set-back; agrees = rows-same (nC p) (omega arith) }
 
     -- ---- all matched pairs
     abbrev M : List ℕ

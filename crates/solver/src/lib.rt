@@ -341,15 +341,15 @@ fn first_family(n: usize, matched: &[u64; 64]) -> [u64; 448]
     out
 }
 
-// Whether two families of n sections have the same rows below nc.
-fn same_family(nc: usize, n: usize, x: &[u64; 448], y: &[u64; 448]) -> bool
-    requires { ⌜ (nc ≤ 64) × (n ≤ 7) ⌝ }
-    ensures { λ r. ⌜ r ≡ sameSections nc n (now (x .entry)) (now (y .entry)) ⌝ }
+// Whether two families of n sections have the same rows.
+fn same_family(n: usize, x: &[u64; 448], y: &[u64; 448]) -> bool
+    requires { ⌜ n ≤ 7 ⌝ }
+    ensures { λ r. ⌜ r ≡ sameSections n (now (x .entry)) (now (y .entry)) ⌝ }
 {
     for j in 0..n {
         let a = section(x, j);
         let b = section(y, j);
-        if !same_rows(nc, &a, &b) {
+        if !same_rows(64, &a, &b) {
             return false;
         }
     }
@@ -369,7 +369,7 @@ fn largest_family(p: Pair, matched: &[u64; 64]) -> [u64; 448]
     let mut family = first_family(n, matched);
     for _ in 0..n * (nc * na) {
         let next = turn(p, matched, &family);
-        if same_family(nc, n, &family, &next) {
+        if same_family(n, &family, &next) {
             return family;
         }
         family = next;

@@ -41,7 +41,7 @@ turn-requires : tie.Need-turn-requires Inv-loop μ-loop
 turn-requires c κs = c .before .before .before .before .before .before .pre
 
 same-family-requires : tie.Need-same-family-requires Inv-loop μ-loop
-same-family-requires c κs = let w = well (entry (c .before .before .before .before .before)) in (w .concrete .states-high, w .abstraction .sets-high)
+same-family-requires c κs = well (entry (c .before .before .before .before .before)) .abstraction .sets-high
 
 returns : tie.Need-returns Inv-loop μ-loop
 returns c =

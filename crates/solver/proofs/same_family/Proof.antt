@@ -12,18 +12,18 @@ use Rattle.solver.proofs.same_family.Statement.{statement}
 use Rattle.solver.proofs.same_family.Tie as tie
 
 abbrev Inv-loop : tie.InvT-loop
-Inv-loop nc n x y j₀ j = (j ≤ n) × ((k : ℕ) → k < j → sameRows nc (sectionOf x k) (sectionOf y k) ≡ true)
+Inv-loop n x y j₀ j = (j ≤ n) × ((k : ℕ) → k < j → sameRows 64 (sectionOf x k) (sectionOf y k) ≡ true)
 
 abbrev μ-loop : tie.MeasureT-loop
-μ-loop nc n x y j₀ j = n - j
+μ-loop n x y j₀ j = n - j
 
 -- the loop's head, from where two sections are compared
 abbrev head : tie.After-same-rows Inv-loop μ-loop → tie.At-loop Inv-loop μ-loop
 head c = c .before .before .before .before .before .before
 
 same-is : (c : tie.After-same-rows Inv-loop μ-loop)
-    → sameRows (head c .before .args .nc) (sectionOf (head c .before .args .x .now) (head c .loop .j)) (sectionOf (head c .before .args .y .now) (head c .loop .j)) ≡ c .same-rows .result
-same-is c = sym (c .same-rows .ensures ∙ ap₂ (sameRows _) (c .before .before .before .before .section .ensures) (c .before .before .before .section2 .ensures))
+    → sameRows 64 (sectionOf (head c .before .args .x .now) (head c .loop .j)) (sectionOf (head c .before .args .y .now) (head c .loop .j)) ≡ c .same-rows .result
+same-is c = sym (c .same-rows .ensures ∙ ap₂ (sameRows 64) (c .before .before .before .before .section .ensures) (c .before .before .before .section2 .ensures))
 
 loop-holds : tie.Need-loop-holds Inv-loop μ-loop
 loop-holds c = (omega arith, below-none _)
