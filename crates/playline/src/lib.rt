@@ -2,11 +2,12 @@
 ghost use mathlib.Core.Bool.{true};
 ghost use mathlib.Core.List.{_∷_, [], _++_};
 ghost use mathlib.Core.Path.{_≡_};
-ghost use Prim.Native.Nat.{_+_, _*_, _≤_};
+ghost use Prim.Native.Nat.{suc, _+_, _*_, _≤_};
 ghost use lib.ListN.{length, take};
 ghost use lib.Seq.{sets};
-ghost use Rattle.playline.specs.Lasso.{isDigit, grown, isPlain, numbersIn, strokeAt, readable};
-ghost use Rattle.playline.specs.Line.{statesText, runLine, playLine};
+ghost use Rattle.text.specs.Decimal.{decimal};
+ghost use Rattle.playline.specs.Lasso.{isDigit, grown, isPlain, numbersIn, strokeAt, readable, statesText};
+ghost use Rattle.playline.specs.Line.{runLine, playLine};
 use playback::FileRun;
 use report::Line;
 
@@ -61,22 +62,22 @@ fn numbers_in(text: &[u8]) -> Numbers
         states: [0; 65],
         count: 0,
     };
-    let mut open = false;
+    let mut inside = false;
     let mut n: u8 = 0;
     for i in 0..text.len() {
         let b = text[i];
         if is_digit(b) {
             n = grown(n, b);
-            open = true;
+            inside = true;
         } else {
-            if open {
+            if inside {
                 list = pushed(list, n);
             }
             n = 0;
-            open = false;
+            inside = false;
         }
     }
-    if open { pushed(list, n) } else { list }
+    if inside { pushed(list, n) } else { list }
 }
 
 // Where the first stroke stands; the text's length where there is none.
@@ -118,6 +119,21 @@ fn is_readable(text: &[u8], stroke: usize) -> bool
 
 // ---- Writing the line
 
+// Writes a blank and a state at a place, and gives the place behind them.
+fn put_state(out: &mut [u8], at: usize, s: u8) -> usize
+    requires { ⌜ at + 4 ≤ length (now out) ⌝ }
+    ensures place { λ r. ⌜ r ≡ at + suc (length (decimal s)) ⌝ }
+    ensures room { λ r. ⌜ r ≤ at + 4 ⌝ }
+    ensures bytes { λ _. ⌜ now (out .exit) ≡ sets (now (out .entry)) at (32 ∷ decimal s) ⌝ }
+{
+    let digits = text::digits_of(s as usize);
+    let bytes = digits.bytes;
+    let start = digits.start;
+    out[at] = b' ';
+    text::put(out, at + 1, &bytes[start..]);
+    at + (21 - start)
+}
+
 // Writes the states from a place on, a blank before each, and gives the place behind them.
 fn put_states(out: &mut [u8], at: usize, states: &[u8]) -> usize
     requires { ⌜ at + 4 * length (now states) ≤ length (now out) ⌝ }
@@ -127,12 +143,7 @@ fn put_states(out: &mut [u8], at: usize, states: &[u8]) -> usize
 {
     let mut place = at;
     for i in 0..states.len() {
-        out[place] = b' ';
-        let digits = text::digits_of(states[i] as usize);
-        let bytes = digits.bytes;
-        let start = digits.start;
-        text::put(out, place + 1, &bytes[start..]);
-        place = place + 1 + (20 - start);
+        place = put_state(out, place, states[i]);
     }
     place
 }
@@ -178,7 +189,12 @@ pub fn play_line(bytes: &[u8], text: &[u8], out: &mut [u8; 114700]) -> usize
     let cycle_states = cycle.states;
     let cycle_count = cycle.count;
     let mut run = [0u8; player::RUN_ROOM];
-    match playback::play_bytes(bytes, &stem_states[..stem_count], &cycle_states[..cycle_count], &mut run) {
+    match playback::play_bytes(
+        bytes,
+        &stem_states[..stem_count],
+        &cycle_states[..cycle_count],
+        &mut run,
+    ) {
         FileRun::Run(s, q) => {
             let end = s + q;
             put_run(out, &run[..s], &run[s..end])
