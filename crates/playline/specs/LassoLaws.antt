@@ -3,19 +3,20 @@ use mathlib.Core.Bool.{Bool, true, false, cond, false≢true}
 use mathlib.Core.List.{List, [], _∷_, _++_, append-assoc, append-nil}
 use mathlib.Core.Path.{_≡_, refl, sym, ap, ap₂, _∙_, subst₃}
 use mathlib.Core.Logic.{by-cases}
-use Prim.Native.Nat.{ℕ, zero, suc, _+_, _*_, _-_, _/_, _%_, _^_, _≤_, _<_}
+use Prim.Native.Nat.{ℕ, zero, suc, _+_, _-_, _/_, _%_, _^_, _≤_, _<_}
 use native.Mathlib.Decide.{decLt, ℕ-discrete}
 use native.Mathlib.Numerals.{add-one}
 use native.Mathlib.Omega.{arith}
-use borrow.Author.Tests.{leb-true, le-leb, lt-leb, lt-ltb, le-ltb, eq-eqb, ne-eqb}
-use lib.Dec.{leb, eqb}
+use borrow.Author.Tests.{leb-true, ltb-true, le-leb, lt-leb, lt-ltb, le-ltb, eq-eqb, ne-eqb}
+use lib.Dec.{leb, ltb, eqb}
 use lib.ListN.{length, getD, take, drop, set, length-append, length-take, drop-of-length-le, List·getD-append}
 use lib.Seq.{drop-cons, take-all, take-append-le, take-suc-set, getD-append-seam, getD-append-add, take-append-seam, drop-append-add}
 use Rattle.text.specs.Decimal.{decimal}
 use Rattle.text.specs.DecimalLaws.{decimal-one, decimal-more}
 use Rattle.machine.specs.Lassos as L
 use Rattle.mask.specs.Logic.{and, or}
-use Rattle.mask.specs.LogicLaws.{and-l, and-r, and-i, and-false-l, and-false-r, and-true-l, or-l, or-r, or-false, or-false-l}
+use Rattle.mask.specs.Bounded.{every}
+use Rattle.mask.specs.LogicLaws.{and-l, and-r, and-i, and-false-l, and-false-r, and-true-l, or-l, or-r, or-false-l}
 use Rattle.mask.specs.BoundedLaws.{every-of, every-not, first-is, first-none}
 use Rattle.playline.specs.declared.Numbers.{Numbers}
 use Rattle.playline.specs.Lasso.{isDigit, grown, numbersFrom, numbersIn, isPlain, strokeAt, readable, lassoIn}
@@ -147,22 +148,28 @@ module _ (t : List ℕ) where
   unfolding strokeAt
   stroke-none b = sym (first-none (length t) _ (λ k l. ne-eqb _ _ (b k l)))
 
-  -- ---- a readable text
-  -- a place that such a text may have
-  abbrev pub fits : ℕ → Bool
-  fits i = or (eqb i (strokeAt t)) (isPlain (getD t i 0))
+-- ---- a readable text
+-- at place i stands the stroke or a plain byte
+abbrev pub fits : List ℕ → ℕ → ℕ → Bool
+fits t stroke i = or (eqb i stroke) (isPlain (getD t i 0))
 
-  pub readable-without : length t ≤ strokeAt t → false ≡ readable t
-  unfolding readable
-  readable-without h = sym (and-false-l _ (le-ltb _ _ h))
+pub readable-stroke : (t : List ℕ) → readable t ≡ true → strokeAt t < length t
+unfolding readable
+readable-stroke t e = ltb-true _ _ (and-l _ _ e)
 
-  pub readable-not : (i : ℕ) → i < length t → (i ≡ strokeAt t → ⊥) → isPlain (getD t i 0) ≡ false → false ≡ readable t
+module _ (t : List ℕ) (stroke : ℕ) (at : stroke ≡ strokeAt t) where
+  readable-is : readable t ≡ and (ltb stroke (length t)) (every (length t) (fits t stroke))
   unfolding readable
-  readable-not i h e p = sym (and-false-r _ (every-not (length t) fits i h (or-false (ne-eqb _ _ e) p)))
+  readable-is = ap (λ (k : ℕ). and (ltb k (length t)) (every (length t) (fits t k))) (sym at)
 
-  pub readable-whole : strokeAt t < length t → ((k : ℕ) → k < length t → fits k ≡ true) → true ≡ readable t
-  unfolding readable
-  readable-whole h f = sym (and-i (lt-ltb _ _ h) (every-of (length t) fits f))
+  pub readable-without : length t ≤ stroke → false ≡ readable t
+  readable-without h = sym (readable-is ∙ and-false-l _ (le-ltb _ _ h))
+
+  pub readable-not : (i : ℕ) → i < length t → fits t stroke i ≡ false → false ≡ readable t
+  readable-not i h e = sym (readable-is ∙ and-false-r _ (every-not (length t) (fits t stroke) i h e))
+
+  pub readable-whole : stroke < length t → ((k : ℕ) → k < length t → fits t stroke k ≡ true) → true ≡ readable t
+  readable-whole h f = sym (readable-is ∙ and-i (lt-ltb _ _ h) (every-of (length t) (fits t stroke) f))
 
 -- ---- the digits of a state
 -- how the digits of n, at most k of them, come about
@@ -224,16 +231,16 @@ module _ (front back : List ℕ) where
         stroke-is between (length front) (omega (arith, between-length)) (getD-append-seam front 47 back 0)
         (λ k h. stroke-not-plain _ (ap isPlain (between-front k h) ∙ plain-at p k h))
 
-    fits-between : (k : ℕ) → k < length between → fits between k ≡ true
+    fits-between : (k : ℕ) → k < length between → fits between (length front) k ≡ true
     fits-between k h =
         by-cases (decLt k (length front))
         (λ l. or-r _ (ap isPlain (between-front k l) ∙ plain-at p k l))
         (λ l. by-cases (ℕ-discrete k (length front))
-        (λ e. or-l _ (eq-eqb _ _ (e ∙ stroke-between)))
+        (λ e. or-l _ (eq-eqb _ _ e))
         (λ n. or-r _ (ap isPlain (between-back k (omega arith)) ∙ plain-at q _ (omega (arith, between-length)))))
 
     pub readable-between : readable (front ++ (47 ∷ back)) ≡ true
-    readable-between = sym (readable-whole between (omega (arith, stroke-between, between-length)) fits-between)
+    readable-between = sym (readable-whole between (length front) stroke-between (omega (arith, between-length)) fits-between)
 
     pub lasso-between : lassoIn (front ++ (47 ∷ back)) ≡ L.given (numbersIn front) (numbersIn back)
     unfolding lassoIn

@@ -2,7 +2,7 @@
 use mathlib.Core.Bool.{cond}
 use mathlib.Core.List.{List, [], _∷_, _++_}
 use Prim.Native.Nat.{ℕ}
-use lib.ListN.{length, take, drop, replicate}
+use lib.ListN.{take, drop, replicate}
 use Rattle.machine.specs.Refusals.{Result, answer, refused}
 use Rattle.machine.specs.Player.{played, runRoom}
 use Rattle.machine.specs.Lassos as L

@@ -1,18 +1,26 @@
 -- Laws of the line, as it is written from a place on.
+use mathlib.Core.Bool.{Bool, true, false, cond}
 use mathlib.Core.List.{List, [], _∷_, _++_, append-assoc}
-use mathlib.Core.Path.{_≡_, refl, sym, ap, _∙_}
+use mathlib.Core.Path.{_≡_, refl, sym, ap, ap₂, _∙_}
 use Prim.Native.Nat.{ℕ, suc, _+_, _*_, _-_, _≤_, _<_}
 use native.Mathlib.Numerals.{add-one}
 use native.Mathlib.Omega.{arith}
-use lib.ListN.{length, getD, take, drop, set, length-append, drop-of-length-le}
-use lib.Seq.{sets, length-sets, drop-cons}
+use lib.ListN.{length, getD, take, drop, set, length-append, length-drop, replicate, drop-of-length-le}
+use lib.Seq.{sets, length-sets, drop-cons, take-all}
 use Rattle.text.specs.declared.Digits.{Digits}
 use Rattle.text.specs.Decimal.{decimal}
 use Rattle.text.specs.Answers.{digitsFor}
 use Rattle.text.specs.DigitsLaws.{digits-start, digits-word}
 use Rattle.codec.specs.ListLaws.{sets-then}
-use Rattle.playline.specs.Lasso.{statesText, lassoText}
-use Rattle.playline.specs.Line.{runLine}
+use Rattle.machine.specs.declared.Refusal.{Refusal}
+use Rattle.machine.specs.Lassos.{Lasso, given}
+use Rattle.machine.specs.Player.{runRoom}
+use Rattle.report.specs.Text.{noTableText, refusalLine}
+use Rattle.playback.specs.declared.FileRun.{FileRun}
+use Rattle.playback.specs.declared.FileRun.the-variants.{Run, NoTable, Refused}
+use Rattle.playback.specs.Playing.{fileRun, fileRunBuffer, runOutcomeOf}
+use Rattle.playline.specs.Lasso.{numbersIn, strokeAt, readable, lassoIn, statesText, lassoText}
+use Rattle.playline.specs.Line.{runLine, outcomeLine, usageLine, playLine}
 
 -- ---- a state
 -- its digits, as they were made
@@ -96,3 +104,47 @@ module _ (out₀ out₁ out₂ out₃ out₄ stem loop : List ℕ) (a e : ℕ)
         (arith, ap length line-is, length-append (statesText stem) (32 ∷ 47 ∷ (statesText loop ++ (10 ∷ []))), length-append (statesText loop) (10 ∷ [])),
     run-bytes,
   )
+
+-- ---- the whole line
+-- two texts that are equal are one line
+pub same-line : {r most : ℕ} (out₀ : List ℕ) {out l l′ : List ℕ} → l ≡ l′ → r ≡ length l → r ≤ most → out ≡ sets out₀ 0 l
+    → (r ≡ length l′) × ((r ≤ most) × (out ≡ sets out₀ 0 l′))
+same-line out₀ e a b c = (a ∙ ap length e, (b, c ∙ ap (sets out₀ 0) e))
+
+-- the line of what was said
+module _ (said : FileRun) (run : List ℕ) where
+  pub line-run : (s q : ℕ) → said ≡ Run s q → runLine (take s run) (take q (drop s run)) ≡ outcomeLine (runOutcomeOf said) run
+  unfolding runOutcomeOf outcomeLine
+  line-run s q e = rw e
+
+  pub line-none : said ≡ NoTable → noTableText ≡ outcomeLine (runOutcomeOf said) run
+  unfolding runOutcomeOf outcomeLine
+  line-none e = rw e
+
+  pub line-refused : (r : Refusal) → said ≡ Refused r → refusalLine r ≡ outcomeLine (runOutcomeOf said) run
+  unfolding runOutcomeOf outcomeLine
+  line-refused r e = rw e
+
+module _ (f text : List ℕ) where
+  pub play-usage : readable text ≡ false → usageLine ≡ playLine f text
+  unfolding playLine
+  play-usage e = rw e
+
+  lasso-is : (stem loop : List ℕ) (stroke : ℕ) → stroke ≡ strokeAt text
+      → stem ≡ numbersIn (take stroke text) → loop ≡ numbersIn (take (length text - (stroke + 1)) (drop (stroke + 1) text)) → given stem loop ≡ lassoIn text
+  unfolding lassoIn
+  lasso-is stem loop stroke a b c =
+      let rest : take (length text - (stroke + 1)) (drop (stroke + 1) text) ≡ drop (stroke + 1) text =
+      take-all (length text - (stroke + 1)) (drop (stroke + 1) text) (omega (arith, length-drop (stroke + 1) text)) in
+      ap₂ given (b ∙ ap (λ (k : ℕ). numbersIn (take k text)) a)
+      (c ∙ ap numbersIn (rest ∙ ap (λ (k : ℕ). drop k text) (add-one stroke ∙ ap suc a)))
+
+  pub play-said : (said : FileRun) (stem loop run : List ℕ) (stroke : ℕ) → readable text ≡ true → stroke ≡ strokeAt text
+      → stem ≡ numbersIn (take stroke text) → loop ≡ numbersIn (take (length text - (stroke + 1)) (drop (stroke + 1) text))
+      → runOutcomeOf said ≡ fileRun f (given stem loop) (replicate runRoom 0) → run ≡ fileRunBuffer f (given stem loop) (replicate runRoom 0)
+      → outcomeLine (runOutcomeOf said) run ≡ playLine f text
+  unfolding playLine
+  play-said said stem loop run stroke t a b c e g =
+      let buffer : List ℕ = replicate runRoom 0 in
+      let line : Lasso → List ℕ = λ l. outcomeLine (fileRun f l buffer) (fileRunBuffer f l buffer) in
+      ap₂ outcomeLine e g ∙ ap line (lasso-is stem loop stroke a b c) ∙ ap (λ (o : Bool). cond o (line (lassoIn text)) usageLine) (sym t)

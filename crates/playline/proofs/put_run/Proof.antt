@@ -48,8 +48,10 @@ returns c =
     let front = c .before .before .before .before .before .before .before .before .before .before .before .put-states in
     let word = c .before .before .before .before .before .before .before .before .before .before .before .before .before .before .before .put in
     let start = c .before .before .before .before .before .before .before .before .before .before .before .before .before .before .before .before .before .before .before .before .before in
+    let written =
     run-written (start .args .out .now) _ _ _ _ _ _ _ _
-    (word .ensures) (front .ensures .1 .1) (front .ensures .0) (stroke .ensures) (back .ensures .1 .1) (back .ensures .0)
+    (word .ensures) (front .ensures .1 .1) (front .ensures .0) (stroke .ensures) (back .ensures .1 .1) (back .ensures .0) in
+    (written .0, (omega (arith, front .ensures .1 .0, back .ensures .1 .0), written .1))
 
 pub put-run-spec : {M : Type 1} → statement M
 put-run-spec =

@@ -1,5 +1,4 @@
 -- The invariant: the states left, written at the place, give the answer.
-use mathlib.Core.Path.{_≡_, sym, _∙_}
 use Prim.Native.Nat.{_≤_, _-_}
 use native.Mathlib.Omega.{arith}
 use lib.ListN.{length}
