@@ -1,18 +1,19 @@
 #!/bin/sh
-# Builds the programs in C from the archives. Holds `console` to the number of each sample and of damaged copies, and `restore` to the
-# samples whose table is the solver's.
+# Builds the programs in C from the archives. Holds `console` to the number of each sample and of damaged copies, `restore` to the samples
+# whose table is the solver's, and `play` to runs and refusals.
 set -eu
 cd "$(dirname "$0")/.."
 work=$(mktemp -d)
 trap 'rm -rf "$work"' EXIT
-# both at once first, since crates that do not depend on each other are proved side by side
-rt check console restore >"$work/log" 2>&1 || { tail -n 20 "$work/log"; exit 1; }
-for name in console restore; do
+# all at once first, since crates that do not depend on each other are proved side by side
+rt check console restore playback >"$work/log" 2>&1 || { tail -n 20 "$work/log"; exit 1; }
+for name in console restore playback; do
     rt staticlib "$name" >"$work/log" 2>&1 || { tail -n 20 "$work/log"; exit 1; }
 done
 flags='-std=c11 -O2 -Wall -Wextra -Werror'
 cc $flags -o "$work/console" clients/console.c target/staticlib/libconsole.a
 cc $flags -o "$work/restore" clients/restore.c target/staticlib/librestore.a target/staticlib/libconsole.a
+cc $flags -o "$work/play" clients/play.c target/staticlib/libplayback.a
 
 failed=0
 tried=0
@@ -29,6 +30,12 @@ expect() {
 restores() {
     same "restore $1" "$2" "$("$work/restore" "$1" "$work/new")"
     cmp -s "$work/new" "$3" || { echo "restore $1: not $3"; failed=1; }
+}
+# plays LINE FILE STEM.. / LOOP..
+plays() {
+    line=$1
+    shift
+    same "play $*" "$line" "$("$work/play" "$@")"
 }
 # from NAME SAMPLE: a copy to damage
 from() {
@@ -71,6 +78,13 @@ from beyond case-05; byte 19 3; seal; expect 9 "$file"
 from no-start case-05; byte 19 0; seal; expect 10 "$file"
 from stuck case-05; byte 61 0; seal; expect 11 "$file"
 
+# the first block tells the size: a show that is larger than the memory is not read
+same 'console large 4096' 'larger than 4096: 59392' "$("$work/console" samples/large.dom 4096)"
+same 'console large 59391' 'larger than 59391: 59392' "$("$work/console" samples/large.dom 59391)"
+same 'console large 59392' 100 "$("$work/console" samples/large.dom 59392)"
+same 'console cut 4096' 'larger than 4096: 59392' "$("$work/console" "$work/cut" 4096)"
+same 'console letters 0' 4 "$("$work/console" "$work/letters" 0)"
+
 # another entry, and a start state of the rig that lacks a partner
 from entry case-05; byte 77 3; seal; expect 12 "$file"
 from lacking large; byte 82 8; seal; expect 203 "$file"
@@ -82,7 +96,20 @@ for n in 02 04 11; do restores "samples/case-$n.dom" 200 "samples/case-$n.dom"; 
 restores samples/large.dom 100 samples/large.dom
 same 'restore later' 'refused 7 3 0 0' "$("$work/restore" "$work/later" "$work/none")"
 same 'restore stuck' 'refused 11 1 1 0' "$("$work/restore" "$work/stuck" "$work/none")"
+from longer large; head -c 513 /dev/zero >>"$file"
+same 'restore longer' 'refused 2 0 0 0' "$("$work/restore" "$file" "$work/none")"
 [ ! -e "$work/none" ] || { echo 'restore: a refusal wrote a file'; failed=1; }
+
+# case 10, a longer run, and each refusal of the player; a show without a table
+plays 'run 0 / 1' samples/case-10.dom / 0
+plays 'run 0 / 1 1 1 1 1 1 1' samples/large.dom 0 / 1
+plays 'refused 12 1 0 0' samples/case-07.dom / 0
+plays 'refused 13 0 0 0' samples/case-10.dom 0 /
+plays 'refused 14 1 0 0' samples/case-10.dom 0 / 1
+plays 'refused 15 1 0 0' samples/large.dom / 0
+plays 'refused 16 0 0 0' samples/case-11.dom 0 1 / 2
+plays 'refused 7 3 0 0' "$work/later" / 0
+plays 'no table' samples/lost.dom / 0
 
 [ "$failed" = 0 ] || exit 1
 echo "clients/check.sh: $tried calls, each as expected"

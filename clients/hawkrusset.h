@@ -5,13 +5,19 @@
 #include <stddef.h>
 #include <stdint.h>
 
-/* The answers of console_answer that are no refusal's number. */
+/* The answers of console_answer that are no refusal's number; play_file has the second too. */
 #define HAWKRUSSET_CARRIED 100u
 #define HAWKRUSSET_NO_TABLE 101u
 #define HAWKRUSSET_NOT_CARRIED 200u
 
-/* The bytes that solve_file's buffer must have. */
+/* The bytes of a block. */
+#define HAWKRUSSET_BLOCK 512u
+
+/* The bytes that solve_file's buffer must have; no show takes more. */
 #define HAWKRUSSET_FILE_ROOM 59392u
+
+/* The bytes that play_file's buffer must have. */
+#define HAWKRUSSET_RUN_ROOM 28672u
 
 /*
  * What is said of the file whose bytes these are, as one number:
@@ -24,12 +30,31 @@
 uint32_t console_answer(const uint8_t *bytes, size_t length);
 
 /*
- * The show of the file whose bytes these are, or of the first 59,904 of them, with the solver's table, whether or not the file has one.
- * The answer is the length of the new file, which stands at the start of `out`; the bytes after it, and `spot`, are unchanged. Or the
- * answer is 0: then `spot` has the refusal's number (1 for a buffer of fewer than 59,392 bytes) and the three numbers of its spot, and
- * `out` is unchanged. `bytes`, `out` and `spot` must not overlap.
+ * How many bytes the whole file must have, by its first block: a multiple of 512, from 512 to 59,392. Or a refusal's number, from 2 to 5: 2
+ * for fewer than 512 bytes. It looks at no byte after the first 512, so that more may be handed over. Of a file of whole blocks whose first
+ * block is refused, console_answer gives the same number.
+ * libconsole.a has it.
+ */
+uint32_t first_block_answer(const uint8_t *bytes, size_t length);
+
+/*
+ * The show of the file whose bytes these are, all of them, with the solver's table, whether or not the file has one: 59,905 bytes are
+ * refusal 2. The answer is the length of the new file, which stands at the start of `out`; the bytes after it are unchanged. Or the answer
+ * is 0: then `out` is unchanged. `spot` is a place for four numbers, written beside a refusal and only then: the refusal's number (1 for an
+ * `out` of fewer than 59,392 bytes) and the three numbers of its spot. `bytes`, `out` and `spot` must not overlap.
  * librestore.a has it (rt staticlib restore).
  */
 size_t solve_file(const uint8_t *bytes, size_t length, uint8_t *out, size_t room, uint64_t spot[4]);
+
+/*
+ * Plays a lasso of the rig, the states of its stem and of its loop, by the table of the file whose bytes these are. The answer is stem length
+ * * 65,536 + loop length of the score's run, whose states stand at the start of `run`, a byte each, the stem's before the loop's; the bytes
+ * after it, and `spot`, are unchanged. No loop is empty, so that this is not 0. Or the answer is 0: then `run` is unchanged, and `spot` has
+ * the refusal's number (1 for a `run` of fewer than 28,672 bytes, 12 for an entry of the table that fails, 13 to 16 for the lasso) and the
+ * three numbers of its spot, or 101 and three zeros where the file has no table. `run` and `spot` must not overlap each other or the rest.
+ * libplayback.a has it (rt staticlib playback).
+ */
+uint64_t play_file(const uint8_t *bytes, size_t length, const uint8_t *stem, size_t stem_length, const uint8_t *loop, size_t loop_length,
+                   uint8_t *run, size_t room, uint64_t spot[4]);
 
 #endif

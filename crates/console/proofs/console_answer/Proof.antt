@@ -1,3 +1,4 @@
+-- Each case has the number of what is said of the file; NotCarried names a state below 64, so that its number fits.
 use mathlib.Core.Path.{_≡_, sym, ap, _∙_}
 use Prim.Native.Nat.{_<_}
 use native.Mathlib.Omega.{arith}

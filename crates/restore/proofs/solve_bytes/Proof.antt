@@ -1,6 +1,5 @@
 -- Each return is what the definitions say of the reading that led there; the solver takes what the reader took.
 use mathlib.Core.Path.{sym, ap, _∙_}
-use native.Mathlib.Omega.{arith}
 use denote.Ref.{now}
 use Rattle.machine.specs.Refusals.{refused}
 use Rattle.codec.specs.Answers.{sizedOf}
@@ -17,7 +16,7 @@ returns : tie.Need-returns
 unfolding sizedOf
 returns c =
     let x = c .before .before .before .before .args in
-    let both = restore-short (now (x .bytes)) (now (x .out)) (omega arith) in
+    let both = restore-short (now (x .bytes)) (now (x .out)) (c .before .if1 .taken) in
     (ap refused (c .refuse .ensures) ∙ sym (both .0), sym (both .1))
 
 slice-aggregate-read-file : tie.Need-slice-aggregate-read-file
@@ -41,7 +40,7 @@ returns-2 c =
     let read = c .before .before .before .before .read-file .ensures in
     let told = c .before .enum-told2 .given .1 in
     let x = c .before .before .before .before .before .before .before .before .before .args in
-    let both = restore-refused (now (x .bytes)) (now (x .out)) (omega arith) _ _ (read .0) (read .1 .1) _ told in
+    let both = restore-refused (now (x .bytes)) (now (x .out)) (c .before .before .before .before .before .before .if1 .left) _ _ (read .0) (read .1 .1) _ told in
     (ap refused (c .refusal-of .ensures ∙ refusal-of told) ∙ sym (both .0), sym (both .1))
 
 slice-aggregate-solve : tie.Need-slice-aggregate-solve
@@ -66,7 +65,7 @@ returns-3 c =
     let solved = c .before .before .before .before .before .before .solve .ensures .1 in
     let written = c .before .before .write-file .ensures in
     let x = c .before .before .before .before .before .before .before .before .before .before .before .before .before .before .before .before .before .args in
-    let both = restore-taken (now (x .bytes)) (now (x .out)) (omega arith) _ _ (read .0) (read .1 .1) _ _ told solved in
+    let both = restore-taken (now (x .bytes)) (now (x .out)) (c .before .before .before .before .before .before .before .before .before .before .before .before .before .before .if1 .left) _ _ (read .0) (read .1 .1) _ _ told solved in
     (written .0 ∙ sym (both .0), written .1 ∙ sym (both .1))
 
 pub solve-bytes-spec : {M : Type 1} → statement M

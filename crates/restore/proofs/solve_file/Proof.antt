@@ -1,4 +1,4 @@
--- The file's length, or the refusal's four numbers one after the other: what the two cases of the definitions say.
+-- The file's length, or the refusal's four numbers: what the two cases of the definitions say.
 use mathlib.Core.Path.{sym, ap, _∙_}
 use Prim.Native.Nat.{ℕ}
 use denote.Ref.{now}
@@ -18,20 +18,8 @@ enum-known-n c = search needs
 enum-known-r : tie.Need-enum-known-r
 enum-known-r c = search needs
 
-cast-spot : tie.Need-cast-spot
-cast-spot c = search needs
-
-element-write-spot : tie.Need-element-write-spot
-element-write-spot c = search needs
-
-element-write-spot-2 : tie.Need-element-write-spot-2
-element-write-spot-2 c = search needs
-
-element-write-spot-3 : tie.Need-element-write-spot-3
-element-write-spot-3 c = search needs
-
-element-write-spot-4 : tie.Need-element-write-spot-4
-element-write-spot-4 c = search needs
+put-refusal-requires : tie.Need-put-refusal-requires
+put-refusal-requires c κs = search needs
 
 same-length : tie.Need-same-length
 same-length c = search needs
@@ -49,9 +37,10 @@ same-length-2 c = search needs
 returns-2 : tie.Need-returns-2
 unfolding lengthOf spotAfter
 returns-2 c =
-    let made = c .before .before .before .before .before .before .solve-bytes .ensures in
-    let told = sized-refused (made .0) (c .before .before .r .given .1) in
-    (sym (ap lengthOf told), (made .1, sym (ap (λ (z : Result ℕ). spotAfter z (now (c .before .before .before .before .before .before .before .before .before .before .args .spot))) told)))
+    let made = c .before .before .before .before .before .before .before .solve-bytes .ensures in
+    let told = sized-refused (made .0) (c .before .before .before .r .given .1) in
+    let spot = now (c .before .before .before .before .before .before .before .before .before .before .before .args .spot) in
+    (sym (ap lengthOf told), (made .1, c .put-refusal .ensures ∙ sym (ap (λ (z : Result ℕ). spotAfter z spot) told)))
 
 pub solve-file-spec : {M : Type 1} → statement M
 solve-file-spec =
@@ -60,11 +49,7 @@ solve-file-spec =
     solve-bytes-requires
     enum-known-n
     enum-known-r
-    cast-spot
-    element-write-spot
-    element-write-spot-2
-    element-write-spot-3
-    element-write-spot-4
+    put-refusal-requires
     same-length
     returns
     same-length-2

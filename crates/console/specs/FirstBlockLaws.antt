@@ -1,0 +1,90 @@
+-- Laws of what the first block tells: no length is a refusal's number, fewer bytes than a block are refusal 2, and of a file of whole blocks
+-- the number is that of the whole, and a refusal's that of the console's answer.
+use mathlib.Core.Bool.{Bool, true, false, cond}
+use mathlib.Core.List.{List}
+use mathlib.Core.Logic.{⊎-elim}
+use mathlib.Core.Path.{_≡_, sym, ap, _∙_}
+use Prim.Native.Nat.{ℕ, _+_, _*_, _/_, _%_, _≤_, _<_}
+use native.Mathlib.Omega.{arith}
+use lib.Dec.{eqb}
+use lib.ListN.{length, take, replicate, length-replicate}
+use lib.Seq.{take-all, take-length}
+use borrow.Author.Tests.{ne-eqb, eqb-false}
+use Rattle.mask.specs.Logic.{not, or}
+use Rattle.mask.specs.LogicLaws.{dec, or-l, or-r, not-i}
+use Rattle.machine.specs.declared.Refusal.{Refusal}
+use Rattle.machine.specs.Refusals.{Tested, answer, refused, valid, refusal, bad-length}
+use Rattle.machine.specs.RefusalsLaws.{refused-not-answer, then-of, then-refused, given-at, given-refused, pass-refused, buffer-valid}
+use Rattle.machine.specs.Table.{tableRoom}
+use Rattle.codec.specs.Format.{payloadMost}
+use Rattle.codec.specs.FormatLaws.{payload-most}
+use Rattle.codec.specs.Reader.{blockHolds, headerByte, noteOf, headerHolds, countsHold, firstValidity, payloadDemanded, demanded, sizeOf, readValidity, readAnswer}
+use Rattle.codec.specs.ReaderLaws.{first-valid, demanded-is, in-range, machines-fit}
+use Rattle.codec.specs.FileLaws.{first-block-tells-size}
+use Rattle.codec.specs.Writer.{fileRoom}
+use Rattle.verdict.specs.Outcomes.{fileOutcome, outcomeNumber}
+use Rattle.console.specs.FirstBlock.{sizeNumber}
+
+-- ---- a length is a multiple of 512, and no more than any file has room for
+payload-fits : (f : List ℕ) → countsHold f ≡ true → payloadDemanded f ≤ payloadMost
+unfolding payloadDemanded
+payload-fits f t =
+    let r = in-range f t in
+    payload-most (headerByte f 4) (headerByte f 5) (headerByte f 6) (headerByte f 7) (noteOf f) (r .states-c) (r .states-a) (r .sets-c) (r .sets-a)
+
+whole-blocks : (n payload : ℕ) → n ≡ 512 * ((payload + 507) / 508) → 32 ≤ payload → payload ≤ payloadMost → (n % 512 ≡ 0) × (512 ≤ n) × (n ≤ fileRoom)
+whole-blocks n payload e low high = (omega arith, omega arith, omega arith)
+
+pub size-told : (f : List ℕ) (n : ℕ) → sizeOf f ≡ answer n → (n % 512 ≡ 0) × (512 ≤ n) × (n ≤ fileRoom)
+unfolding sizeOf
+size-told f n e =
+    let t = given-at (firstValidity f) (demanded f) e in
+    whole-blocks n (payloadDemanded f) (sym (t .1) ∙ demanded-is f) (omega (arith, machines-fit f)) (payload-fits f (first-valid f (t .0) .counts))
+
+-- ---- a refusal's number is 2, 3, 4 or 5
+-- a refusal of these tests has a number from 2 to 5
+abbrev Early : Tested → Type 0
+Early v = (r : Refusal) → v ≡ refused r → (2 ≤ r .number) × (r .number ≤ 5)
+
+early-next : (b : Bool) (number : ℕ) (v : Tested) → 2 ≤ number → number ≤ 5 → Early v → Early (cond b (refused (refusal number 0 0 0)) v)
+early-next true number v low high h r e = let same : number ≡ r .number = cc in (omega arith, omega arith)
+early-next false number v low high h r e = h r e
+
+pub refusal-told : (f : List ℕ) (r : Refusal) → sizeOf f ≡ refused r → (2 ≤ r .number) × (r .number ≤ 5)
+unfolding sizeOf firstValidity
+refusal-told f r e =
+    early-next (or (eqb (length f) 0) (not (eqb (length f % 512) 0))) 2 _ (omega arith) (omega arith)
+    (early-next (not (blockHolds f 0)) 3 _ (omega arith) (omega arith)
+    (early-next (not (headerHolds f)) 4 _ (omega arith) (omega arith)
+    (early-next (not (countsHold f)) 5 valid (omega arith) (omega arith) (λ s z. absurd (refused-not-answer (sym z))))))
+    r (given-refused _ _ e)
+
+-- ---- fewer bytes than a block
+-- all of them are in the first
+pub short-take : (f : List ℕ) {n : ℕ} → length f < 512 → n ≡ length f → take n f ≡ take 512 f
+short-take f h e = ap (λ (n : ℕ). take n f) e ∙ take-length f ∙ sym (take-all 512 f (omega arith))
+
+short-length : (n : ℕ) → n < 512 → or (eqb n 0) (not (eqb (n % 512) 0)) ≡ true
+short-length n h = ⊎-elim
+    (λ t. or-l _ t)
+    (λ t. or-r (eqb n 0) (not-i (ne-eqb (n % 512) 0 (λ z. eqb-false n 0 t (omega arith)))))
+    (dec (eqb n 0))
+
+pub short-told : (f : List ℕ) → length f < 512 → sizeNumber (sizeOf (take 512 f)) ≡ 2
+unfolding sizeNumber sizeOf firstValidity
+short-told f h = rw (take-all 512 f (omega arith)) (ap sizeNumber (then-refused (firstValidity f) _ (refusal bad-length 0 0 0) (rw (short-length (length f) h))))
+
+-- ---- whole blocks
+pub whole-told : (f : List ℕ) → (length f ≡ 0 → ⊥) → length f % 512 ≡ 0 → sizeNumber (sizeOf (take 512 f)) ≡ sizeNumber (sizeOf f)
+whole-told f some whole = ap sizeNumber (first-block-tells-size f some whole)
+
+-- where the first block is refused, so is the file, with the same number
+pub refused-told : (f : List ℕ) {r : Refusal} → (length f ≡ 0 → ⊥) → length f % 512 ≡ 0 → sizeOf (take 512 f) ≡ refused r
+    → outcomeNumber (fileOutcome f) ≡ r .number
+unfolding sizeOf readValidity readAnswer fileOutcome outcomeNumber
+refused-told f {r} some whole e =
+    let first : firstValidity f ≡ refused r = given-refused (firstValidity f) (demanded f) (sym (first-block-tells-size f some whole) ∙ e) in
+    let room = length (replicate {A = ℕ} tableRoom 0) in
+    let read : readValidity f room ≡ refused r =
+    then-of _ _ (buffer-valid tableRoom room (omega (arith, length-replicate {A = ℕ} tableRoom 0))) ∙ then-refused _ _ r first in
+    ap outcomeNumber (pass-refused (readAnswer f (replicate tableRoom 0)) _ (then-refused _ _ r read))

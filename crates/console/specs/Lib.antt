@@ -1,0 +1,4 @@
+-- definition
+pub mod FirstBlock
+-- laws
+pub mod FirstBlockLaws
