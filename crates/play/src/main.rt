@@ -3,22 +3,20 @@
 use libc::STDIN_FILENO;
 use libc::STDOUT_FILENO;
 ghost use Prim.Native.Nat.{_≤_};
+ghost use lib.ListN.{length};
 
 // The arguments' text, a blank behind each. Where it does not fit there is none, and so no lasso.
-fn arguments(text: &mut [u8; 4096]) -> usize
-    ensures { λ r. ⌜ r ≤ 4096 ⌝ }
+fn arguments(text: &mut [u8]) -> usize
+    ensures { λ r. ⌜ r ≤ length (now (text .entry)) ⌝ }
 {
-    let count = os::arg_count();
     let mut at = 0;
-    for i in 1..count {
+    for i in 1..os::arg_count() {
         let n = os::arg(i, &mut text[at..]);
-        if n == 0 {
-            if os::errno() != 0 {
-                return 0;
-            }
+        if os::errno() != 0 {
+            return 0;
         }
         at += n;
-        if 4096 <= at {
+        if text.len() <= at {
             return 0;
         }
         text[at] = b' ';
@@ -32,7 +30,7 @@ fn main() {
     let length = arguments(&mut text);
     let mut buffer = [0u8; codec::INPUT_ROOM];
     let count = io::read_full(STDIN_FILENO, &mut buffer);
-    let mut out = [0u8; 114700];
+    let mut out = [0u8; playline::LINE_ROOM];
     let n = playline::play_line(&buffer[..count], &text[..length], &mut out);
     io::write_all(STDOUT_FILENO, &out[..n]);
 }

@@ -1,13 +1,15 @@
 -- A lasso as text: `0 1 / 2 3`. States are runs of decimal digits, with blanks between them; one stroke stands between stem and loop.
 use mathlib.Core.Bool.{Bool, true, false, cond}
-use mathlib.Core.List.{List, [], _∷_}
+use mathlib.Core.List.{List, [], _∷_, _++_}
 use Prim.Native.Nat.{ℕ, suc, _+_, _*_, _-_, min}
 use lib.ListN.{length, getD, take, drop}
 use lib.Dec.{eqb, leb, ltb}
 use Rattle.mask.specs.Logic.{and, or}
 use Rattle.mask.specs.Bounded.{every, first}
+use Rattle.text.specs.Decimal.{decimal}
 use Rattle.machine.specs.Lassos as L
 
+-- ---- reading
 unfoldable pub isDigit : ℕ → Bool
 isDigit b = and (leb 48 b) (leb b 57)
 
@@ -15,13 +17,13 @@ isDigit b = and (leb 48 b) (leb b 57)
 unfoldable pub grown : ℕ → ℕ → ℕ
 grown n b = min 255 (n * 10 + (b - 48))
 
--- the numbers that a text writes, after the digits of n where a number is open
+-- the numbers that a text writes; where it begins inside a number, n is what that number's digits so far write
 unfoldable pub numbersFrom : Bool → ℕ → List ℕ → List ℕ
-numbersFrom open n [] = cond open (n ∷ []) []
-numbersFrom open n (b ∷ t) =
-    let inside = numbersFrom true (grown n b) t in
+numbersFrom inside n [] = cond inside (n ∷ []) []
+numbersFrom inside n (b ∷ t) =
+    let longer = numbersFrom true (grown n b) t in
     let after = numbersFrom false 0 t in
-    cond (isDigit b) inside (cond open (n ∷ after) after)
+    cond (isDigit b) longer (cond inside (n ∷ after) after)
 
 -- the numbers of a text, at most 65, which is one more than a lasso may have
 unfoldable pub numbersIn : List ℕ → List ℕ
@@ -42,3 +44,13 @@ readable t = and (ltb (strokeAt t) (length t)) (every (length t) (λ i. or (eqb 
 -- the lasso of a readable text
 unfoldable pub lassoIn : List ℕ → L.Lasso
 lassoIn t = L.given (numbersIn (take (strokeAt t) t)) (numbersIn (drop (suc (strokeAt t)) t))
+
+-- ---- writing
+-- a blank before each state
+unfoldable pub statesText : List ℕ → List ℕ
+statesText [] = []
+statesText (s ∷ l) = 32 ∷ (decimal s ++ statesText l)
+
+-- and before the stroke
+unfoldable pub lassoText : List ℕ → List ℕ → List ℕ
+lassoText stem loop = statesText stem ++ (32 ∷ 47 ∷ statesText loop)

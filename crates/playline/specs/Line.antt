@@ -2,23 +2,17 @@
 use mathlib.Core.Bool.{cond}
 use mathlib.Core.List.{List, [], _∷_, _++_}
 use Prim.Native.Nat.{ℕ}
-use lib.ListN.{length, take, drop, replicate}
-use Rattle.text.specs.Decimal.{decimal}
+use lib.ListN.{take, drop, replicate}
 use Rattle.machine.specs.Refusals.{Result, answer, refused}
 use Rattle.machine.specs.Player.{played, runRoom}
 use Rattle.machine.specs.Lassos as L
 use Rattle.report.specs.Text.{noTableText, refusalLine}
 use Rattle.playback.specs.Playing.{RunOutcome, plays, noTable, fileRun, fileRunBuffer}
-use Rattle.playline.specs.Lasso.{readable, lassoIn}
+use Rattle.playline.specs.Lasso.{readable, lassoIn, lassoText}
 
--- a blank before each state
-unfoldable pub statesText : List ℕ → List ℕ
-statesText [] = []
-statesText (s ∷ l) = 32 ∷ (decimal s ++ statesText l)
-
--- "run", the stem's states, a stroke, the loop's states
+-- "run", the lasso, a line feed
 unfoldable pub runLine : List ℕ → List ℕ → List ℕ
-runLine stem loop = 114 ∷ 117 ∷ 110 ∷ (statesText stem ++ (32 ∷ 47 ∷ (statesText loop ++ (10 ∷ []))))
+runLine stem loop = 114 ∷ 117 ∷ 110 ∷ (lassoText stem loop ++ (10 ∷ []))
 
 -- what is said, and the buffer that holds the run
 unfoldable pub outcomeLine : Result RunOutcome → List ℕ → List ℕ

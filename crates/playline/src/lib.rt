@@ -2,13 +2,19 @@
 ghost use mathlib.Core.Bool.{true};
 ghost use mathlib.Core.List.{_∷_, [], _++_};
 ghost use mathlib.Core.Path.{_≡_};
-ghost use Prim.Native.Nat.{_+_, _*_, _≤_};
-ghost use lib.ListN.{length, take};
+ghost use Prim.Native.Nat.{ℕ, suc, _+_, _*_, _≤_};
+ghost use lib.Dec.{eqb};
+ghost use lib.ListN.{length, take, drop};
 ghost use lib.Seq.{sets};
-ghost use Rattle.playline.specs.Lasso.{isDigit, grown, isPlain, numbersIn, strokeAt, readable};
-ghost use Rattle.playline.specs.Line.{statesText, runLine, playLine};
+ghost use Rattle.mask.specs.Logic.{or};
+ghost use Rattle.text.specs.Decimal.{decimal};
+ghost use Rattle.report.specs.Text.{refusalLine};
+ghost use Rattle.playback.specs.declared.FileRun.the-variants.{Run};
+ghost use Rattle.playback.specs.Playing.{runOutcomeOf};
+ghost use Rattle.playline.specs.Lasso.{isDigit, grown, isPlain, numbersIn, strokeAt, readable, statesText};
+ghost use Rattle.playline.specs.Line.{runLine, outcomeLine, playLine};
+use machine::Refusal;
 use playback::FileRun;
-use report::Line;
 
 // The room that a line of any run has: four bytes for each of 28,672 states, and the words.
 pub const LINE_ROOM: usize = 114700;
@@ -61,22 +67,22 @@ fn numbers_in(text: &[u8]) -> Numbers
         states: [0; 65],
         count: 0,
     };
-    let mut open = false;
+    let mut inside = false;
     let mut n: u8 = 0;
     for i in 0..text.len() {
         let b = text[i];
         if is_digit(b) {
             n = grown(n, b);
-            open = true;
+            inside = true;
         } else {
-            if open {
+            if inside {
                 list = pushed(list, n);
             }
             n = 0;
-            open = false;
+            inside = false;
         }
     }
-    if open { pushed(list, n) } else { list }
+    if inside { pushed(list, n) } else { list }
 }
 
 // Where the first stroke stands; the text's length where there is none.
@@ -98,6 +104,13 @@ fn is_plain(b: u8) -> bool
     if is_digit(b) { true } else { b == 32 }
 }
 
+// Whether a byte may stand at place i of a readable text whose stroke stands at a place.
+fn may_stand(b: u8, i: usize, stroke: usize) -> bool
+    ensures { λ r. ⌜ r ≡ or (eqb i stroke) (isPlain b) ⌝ }
+{
+    if i == stroke { true } else { is_plain(b) }
+}
+
 // Whether the text, whose first stroke stands at a place, is a stem, a stroke and a loop.
 fn is_readable(text: &[u8], stroke: usize) -> bool
     requires { ⌜ stroke ≡ strokeAt (now text) ⌝ }
@@ -107,16 +120,29 @@ fn is_readable(text: &[u8], stroke: usize) -> bool
         return false;
     }
     for i in 0..text.len() {
-        if i != stroke {
-            if !is_plain(text[i]) {
-                return false;
-            }
+        if !may_stand(text[i], i, stroke) {
+            return false;
         }
     }
     true
 }
 
 // ---- Writing the line
+
+// Writes a blank and a state at a place, and gives the place behind them.
+fn put_state(out: &mut [u8], at: usize, s: u8) -> usize
+    requires { ⌜ at + 4 ≤ length (now out) ⌝ }
+    ensures place { λ r. ⌜ r ≡ at + suc (length (decimal s)) ⌝ }
+    ensures room { λ r. ⌜ r ≤ at + 4 ⌝ }
+    ensures bytes { λ _. ⌜ now (out .exit) ≡ sets (now (out .entry)) at (32 ∷ decimal s) ⌝ }
+{
+    let digits = text::digits_of(s as usize);
+    let bytes = digits.bytes;
+    let start = digits.start;
+    out[at] = b' ';
+    text::put(out, at + 1, &bytes[start..]);
+    at + (21 - start)
+}
 
 // Writes the states from a place on, a blank before each, and gives the place behind them.
 fn put_states(out: &mut [u8], at: usize, states: &[u8]) -> usize
@@ -127,12 +153,7 @@ fn put_states(out: &mut [u8], at: usize, states: &[u8]) -> usize
 {
     let mut place = at;
     for i in 0..states.len() {
-        out[place] = b' ';
-        let digits = text::digits_of(states[i] as usize);
-        let bytes = digits.bytes;
-        let start = digits.start;
-        text::put(out, place + 1, &bytes[start..]);
-        place = place + 1 + (20 - start);
+        place = put_state(out, place, states[i]);
     }
     place
 }
@@ -141,6 +162,7 @@ fn put_states(out: &mut [u8], at: usize, states: &[u8]) -> usize
 fn put_run(out: &mut [u8], stem: &[u8], cycle: &[u8]) -> usize
     requires { ⌜ 4 * length (now stem) + 4 * length (now cycle) + 6 ≤ length (now out) ⌝ }
     ensures length { λ r. ⌜ r ≡ length (runLine (now (stem .entry)) (now (cycle .entry))) ⌝ }
+    ensures room { λ r. ⌜ r ≤ 4 * length (now (stem .entry)) + 4 * length (now (cycle .entry)) + 6 ⌝ }
     ensures bytes { λ _. ⌜ now (out .exit) ≡ sets (now (out .entry)) 0 (runLine (now (stem .entry)) (now (cycle .entry))) ⌝ }
 {
     text::put(out, 0, b"run");
@@ -149,6 +171,17 @@ fn put_run(out: &mut [u8], stem: &[u8], cycle: &[u8]) -> usize
     let end = put_states(out, stroke + 2, cycle);
     out[end] = b'\n';
     end + 1
+}
+
+// The same for a run of s states and q more that stands at a buffer's front.
+fn put_run_in(out: &mut [u8], run: &[u8], s: usize, q: usize) -> usize
+    requires { ⌜ (s + q ≤ length (now run)) × (4 * (s + q) + 6 ≤ length (now out)) ⌝ }
+    ensures length { λ r. ⌜ r ≡ length (runLine (take s (now (run .entry))) (take q (drop s (now (run .entry))))) ⌝ }
+    ensures room { λ r. ⌜ r ≤ 4 * (s + q) + 6 ⌝ }
+    ensures bytes { λ _. ⌜ now (out .exit) ≡ sets (now (out .entry)) 0 (runLine (take s (now (run .entry))) (take q (drop s (now (run .entry))))) ⌝ }
+{
+    let end = s + q;
+    put_run(out, &run[..s], &run[s..end])
 }
 
 // Writes a line that is ready, and gives its length.
@@ -160,8 +193,34 @@ fn put_line(out: &mut [u8], word: &[u8]) -> usize
     word.len()
 }
 
+// Writes the line of a refusal, and gives its length.
+fn put_refused(out: &mut [u8], r: Refusal) -> usize
+    ensures length { λ n. ⌜ n ≡ length (refusalLine r) ⌝ }
+    ensures room { λ n. ⌜ n ≤ 128 ⌝ }
+    ensures bytes { λ _. ⌜ now (out .exit) ≡ sets (now (out .entry)) 0 (refusalLine r) ⌝ }
+{
+    let line = report::refusal_line(r);
+    let text = line.text;
+    let count = line.length;
+    put_line(out, &text[..count])
+}
+
+// Writes the line of what is said, where the run stands in a buffer, and gives its length.
+fn put_outcome(out: &mut [u8], said: FileRun, run: &[u8]) -> usize
+    requires { ⌜ (length (now run) ≤ 28672) × ((114700 ≤ length (now out)) × ((s q : ℕ) → said ≡ Run s q → s + q ≤ length (now run))) ⌝ }
+    ensures length { λ r. ⌜ r ≡ length (outcomeLine (runOutcomeOf said) (now (run .entry))) ⌝ }
+    ensures room { λ r. ⌜ r ≤ 114700 ⌝ }
+    ensures bytes { λ _. ⌜ now (out .exit) ≡ sets (now (out .entry)) 0 (outcomeLine (runOutcomeOf said) (now (run .entry))) ⌝ }
+{
+    match said {
+        FileRun::Run(s, q) => put_run_in(out, run, s, q),
+        FileRun::NoTable => put_line(out, b"no table\n"),
+        FileRun::Refused(r) => put_refused(out, r),
+    }
+}
+
 // Writes the line of a file and of the lasso that the arguments' text writes to the front of `out`, and gives its length.
-pub fn play_line(bytes: &[u8], text: &[u8], out: &mut [u8; 114700]) -> usize
+pub fn play_line(bytes: &[u8], text: &[u8], out: &mut [u8; LINE_ROOM]) -> usize
     ensures length { λ r. ⌜ r ≡ length (playLine (now (bytes .entry)) (now (text .entry))) ⌝ }
     ensures room { λ r. ⌜ r ≤ 114700 ⌝ }
     ensures bytes { λ _. ⌜ now (out .exit) ≡ sets (now (out .entry)) 0 (playLine (now (bytes .entry)) (now (text .entry))) ⌝ }
@@ -178,17 +237,11 @@ pub fn play_line(bytes: &[u8], text: &[u8], out: &mut [u8; 114700]) -> usize
     let cycle_states = cycle.states;
     let cycle_count = cycle.count;
     let mut run = [0u8; player::RUN_ROOM];
-    match playback::play_bytes(bytes, &stem_states[..stem_count], &cycle_states[..cycle_count], &mut run) {
-        FileRun::Run(s, q) => {
-            let end = s + q;
-            put_run(out, &run[..s], &run[s..end])
-        }
-        FileRun::NoTable => put_line(out, b"no table\n"),
-        FileRun::Refused(r) => {
-            let line = report::refusal_line(r);
-            let line_text = line.text;
-            let line_length = line.length;
-            put_line(out, &line_text[..line_length])
-        }
-    }
+    let said = playback::play_bytes(
+        bytes,
+        &stem_states[..stem_count],
+        &cycle_states[..cycle_count],
+        &mut run,
+    );
+    put_outcome(out, said, &run)
 }

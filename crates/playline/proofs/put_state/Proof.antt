@@ -1,0 +1,68 @@
+-- A blank and at most three digits are put at the place.
+use mathlib.Core.Path.{_≡_}
+use Prim.Native.Nat.{_≤_}
+use native.Mathlib.Omega.{arith}
+use lib.ListN.{length, length-set}
+use Rattle.playline.specs.LassoLaws.{byte-decimal, decimal-length}
+use Rattle.playline.specs.LineLaws.{digits-place, state-bytes}
+use borrow.Author.Needs.{needs}
+use Rattle.playline.proofs.put_state.Statement.{statement}
+use Rattle.playline.proofs.put_state.Tie as tie
+
+start-low : (c : tie.After-digits-of) → c .digits-of .result .start ≤ 20
+start-low c = omega (arith, digits-place _ _ (c .digits-of .ensures))
+
+digits-of-requires : tie.Need-digits-of-requires
+digits-of-requires c κs = search needs
+
+slice-write-out : tie.Need-slice-write-out
+slice-write-out c = search needs
+
+add-put : tie.Need-add-put
+add-put c = search needs
+
+sub-put : tie.Need-sub-put
+sub-put c = start-low (c .before .before)
+
+part-put-start : tie.Need-part-put-start
+part-put-start c = start-low (c .before .before .before)
+
+part-put-end : tie.Need-part-put-end
+part-put-end c = let full : length (c .before .before .before .digits-of .result .bytes) ≡ 20 = search needs in omega (arith, full)
+
+put-requires : tie.Need-put-requires
+put-requires c κs = search needs
+
+sub-result : tie.Need-sub-result
+sub-result c = omega (arith, start-low (c .before .before .before .before .before .before .before))
+
+add-result : tie.Need-add-result
+add-result c = search needs
+
+same-length : tie.Need-same-length
+same-length c =
+    let start = c .before .before .before .before .before .before .before .before .before in
+    omega (arith, c .before .before .put .kept, length-set (start .args .out .now) (start .args .at) 32)
+
+returns : tie.Need-returns
+returns c =
+    let made = c .before .before .before .before .before .before .before in
+    let small = decimal-length (byte-decimal (made .before .before .args .s) (omega arith)) in
+    let place = digits-place _ _ (made .digits-of .ensures) in
+    (omega arith, (omega arith, state-bytes _ _ (made .digits-of .ensures) (made .before .before .args .out .now) _ (made .before .before .args .at) (c .before .before .put .ensures)))
+
+pub put-state-spec : {M : Type 1} → statement M
+put-state-spec =
+    tie.close
+    (tie.spec
+    digits-of-requires
+    slice-write-out
+    add-put
+    sub-put
+    part-put-start
+    part-put-end
+    put-requires
+    sub-result
+    add-result
+    same-length
+    returns)
