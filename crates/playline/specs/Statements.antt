@@ -9,6 +9,6 @@ use Rattle.machine.specs.Lassos.{given}
 use Rattle.playline.specs.Lasso.{readable, lassoIn, lassoText}
 
 -- what is written as a lasso reads back
-abbrev pub WrittenReads : Type 0
-WrittenReads = (stem loop : List ℕ) → AreBytes stem → AreBytes loop → length stem ≤ 64 → length loop ≤ 64
+abbrev pub LassoReadsBack : Type 0
+LassoReadsBack = (stem loop : List ℕ) → AreBytes stem → AreBytes loop → length stem ≤ 64 → length loop ≤ 64
     → (readable (lassoText stem loop) ≡ true) × (lassoIn (lassoText stem loop) ≡ given stem loop)

@@ -14,7 +14,7 @@ use Rattle.codec.specs.Statements.{AreBytes}
 use Rattle.machine.specs.Lassos.{given}
 use Rattle.playline.specs.Lasso.{isDigit, grown, isPlain, numbersFrom, numbersIn, readable, lassoIn, statesText, lassoText}
 use Rattle.playline.specs.LassoLaws.{Decimal, one-digit, digit-more, byte-decimal, Plain, none, more, plain-append, plain-digit, numbers-digit, numbers-end, numbers-blank, readable-between, lasso-between}
-use Rattle.playline.specs.Statements.{WrittenReads}
+use Rattle.playline.specs.Statements.{LassoReadsBack}
 
 -- ---- a number
 digit-is : (d : ℕ) → d < 10 → isDigit (48 + d) ≡ true
@@ -82,9 +82,9 @@ states-numbers l t h b e n =
     ap (take 65) (states-read l t h e ∙ ap (λ (r : List ℕ). l ++ r) n ∙ append-nil l) ∙ take-all 65 l (omega arith)
 
 -- ---- the lasso
-pub written-reads : WrittenReads
+pub lasso-reads-back : LassoReadsBack
 unfolding lassoText numbersFrom isDigit and
-written-reads stem loop p q h k =
+lasso-reads-back stem loop p q h k =
     let front : List ℕ = statesText stem ++ (32 ∷ []) in
     let back : List ℕ = statesText loop in
     let cut : statesText stem ++ (32 ∷ 47 ∷ back) ≡ front ++ (47 ∷ back) = sym (append-assoc (statesText stem) (32 ∷ []) (47 ∷ back)) in
