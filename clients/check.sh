@@ -13,7 +13,7 @@ done
 flags='-std=c11 -O2 -Wall -Wextra -Werror'
 cc $flags -o "$work/console" clients/console.c target/staticlib/libconsole.a
 cc $flags -o "$work/restore" clients/restore.c target/staticlib/librestore.a target/staticlib/libconsole.a
-cc $flags -o "$work/play" clients/play.c target/staticlib/libplayback.a
+cc $flags -o "$work/playback" clients/playback.c target/staticlib/libplayback.a
 
 failed=0
 tried=0
@@ -35,7 +35,7 @@ restores() {
 plays() {
     line=$1
     shift
-    same "play $*" "$line" "$("$work/play" "$@")"
+    same "play $*" "$line" "$("$work/playback" "$@")"
 }
 # from NAME SAMPLE: a copy to damage
 from() {
@@ -82,7 +82,9 @@ from stuck case-05; byte 61 0; seal; expect 11 "$file"
 same 'console large 4096' 'larger than 4096: 59392' "$("$work/console" samples/large.dom 4096)"
 same 'console large 59391' 'larger than 59391: 59392' "$("$work/console" samples/large.dom 59391)"
 same 'console large 59392' 100 "$("$work/console" samples/large.dom 59392)"
-same 'console cut 4096' 'larger than 4096: 59392' "$("$work/console" "$work/cut" 4096)"
+head -c 512 samples/large.dom >"$work/front"
+same 'console front 4096' 'larger than 4096: 59392' "$("$work/console" "$work/front" 4096)"
+from odd case-05; printf x >>"$file"; expect 2 "$file"
 same 'console letters 0' 4 "$("$work/console" "$work/letters" 0)"
 
 # another entry, and a start state of the rig that lacks a partner

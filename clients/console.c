@@ -1,13 +1,38 @@
 /*
- * console FILE [MEMORY]: prints what console_answer says of a file. It reads one block first: if the whole show is larger than MEMORY bytes
- * (as many as any show takes, unless given), it reads no more and prints 'larger than MEMORY: BYTES' with both numbers. Exit status 1 if the
- * file cannot be read.
+ * console FILE [MEMORY]: prints what console_answer says of a file. It reads one block first. If that is refused, it prints the refusal's number
+ * and reads no more; if the whole show is larger than MEMORY bytes (as many as any show takes, unless given), it prints 'larger than MEMORY:
+ * BYTES' with both numbers and reads no more. It keeps no more of a file than its first block demands. Exit status 1 if the file cannot be read.
+ *
+ *     rt staticlib console
+ *     cc -o console clients/console.c target/staticlib/libconsole.a
  */
 #include "hawkrusset.h"
-#include "whole_file.h"
+#include <stdio.h>
+#include <stdlib.h>
+#include <string.h>
+
+/* What is said of the file whose first block stands in `block` and demands `size` bytes; -1 if it cannot be read. */
+static long whole(FILE *file, uint8_t *block, size_t size)
+{
+    uint8_t *bytes = malloc(size);
+    if (bytes == NULL)
+        return -1;
+    memcpy(bytes, block, HAWKRUSSET_BLOCK);
+    size_t count = HAWKRUSSET_BLOCK + fread(bytes + HAWKRUSSET_BLOCK, 1, size - HAWKRUSSET_BLOCK, file);
+    long answer = (long)console_answer(bytes, count);
+    free(bytes);
+    /* what follows is counted and not kept: a file that is too long is refused with 2 or 6, by its length */
+    size_t more, past = 0;
+    while ((more = fread(block, 1, HAWKRUSSET_BLOCK, file)) > 0)
+        past += more;
+    if (ferror(file))
+        return -1;
+    return past == 0 ? answer : past % HAWKRUSSET_BLOCK != 0 ? 2 : 6;
+}
 
 int main(int argc, char **argv)
 {
+    static uint8_t block[HAWKRUSSET_BLOCK];
     unsigned long memory = HAWKRUSSET_FILE_ROOM;
     int understood = argc == 2;
     if (argc == 3) {
@@ -20,25 +45,24 @@ int main(int argc, char **argv)
         return 1;
     }
     FILE *file = fopen(argv[1], "rb");
-    if (file == NULL) {
+    size_t count = file == NULL ? 0 : fread(block, 1, sizeof block, file);
+    if (file == NULL || ferror(file)) {
         perror(argv[1]);
         return 1;
     }
-    uint8_t first[HAWKRUSSET_BLOCK];
-    size_t length = fread(first, 1, sizeof first, file);
-    unsigned long size = first_block_answer(first, length);
-    if (size >= HAWKRUSSET_BLOCK && size > memory) {
-        fclose(file);
+    unsigned long size = first_block_answer(block, count);
+    long answer = (long)size;
+    if (size > memory && size >= HAWKRUSSET_BLOCK)
         printf("larger than %lu: %lu\n", memory, size);
-        return 0;
+    else {
+        if (size >= HAWKRUSSET_BLOCK)
+            answer = whole(file, block, size);
+        if (answer < 0) {
+            perror(argv[1]);
+            return 1;
+        }
+        printf("%ld\n", answer);
     }
-    uint8_t *bytes = with_rest(file, first, &length);
     fclose(file);
-    if (bytes == NULL) {
-        perror(argv[1]);
-        return 1;
-    }
-    printf("%lu\n", (unsigned long)console_answer(bytes, length));
-    free(bytes);
     return 0;
 }

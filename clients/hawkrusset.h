@@ -24,7 +24,7 @@
  *   100       its table passes, and each start state of the rig has a partner;
  *   101       it has no table;
  *   200 + c   its table passes, and the rig's start state c is the lowest that lacks a partner (c is below 64);
- *   1 to 12   it was refused: docs/FORMAT.md has the reader's numbers, and 12 is an entry of the table that fails.
+ *   2 to 12   it was refused: docs/RULES.md has every number; 12 is an entry of the table that fails.
  * libconsole.a has it (rt staticlib console).
  */
 uint32_t console_answer(const uint8_t *bytes, size_t length);

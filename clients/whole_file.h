@@ -5,15 +5,15 @@
 #include <stdint.h>
 #include <stdio.h>
 #include <stdlib.h>
-#include <string.h>
 
-/* The `length` bytes of `front`, read already, and the rest of the file, in memory that grows as it is read; NULL if it cannot be read. */
-static inline uint8_t *with_rest(FILE *file, const uint8_t *front, size_t *length)
+/* The whole file, in memory that grows as it is read; NULL if it cannot be read. */
+static uint8_t *whole_file(const char *name, size_t *length)
 {
-    size_t room = 65536 + *length, count = *length;
+    FILE *file = fopen(name, "rb");
+    if (file == NULL)
+        return NULL;
+    size_t room = 65536, count = 0;
     uint8_t *bytes = malloc(room);
-    if (bytes != NULL)
-        memcpy(bytes, front, count);
     while (bytes != NULL) {
         count += fread(bytes + count, 1, room - count, file);
         if (count < room)
@@ -28,20 +28,8 @@ static inline uint8_t *with_rest(FILE *file, const uint8_t *front, size_t *lengt
         free(bytes);
         bytes = NULL;
     }
-    *length = count;
-    return bytes;
-}
-
-/* The whole file; NULL if it cannot be read. */
-static inline uint8_t *whole_file(const char *name, size_t *length)
-{
-    FILE *file = fopen(name, "rb");
-    if (file == NULL)
-        return NULL;
-    const uint8_t nothing[1] = {0};
-    *length = 0;
-    uint8_t *bytes = with_rest(file, nothing, length);
     fclose(file);
+    *length = count;
     return bytes;
 }
 

@@ -125,23 +125,23 @@ fn chain(states: usize, m: usize, n: usize) -> (Machine, Machine) {
     (c, a)
 }
 
-// two rings of states that may stay, with observations that come round eight times; a lasso round the first is as long as a lasso may be
+// a ring of 64 states and one of 61, one observation, every state in every set: the run of a lasso round the first comes back to its beginning
+// only after 61 rounds, or 61 x 7 where the sections go round too
 fn rings(m: usize, n: usize) -> (Machine, Machine) {
-    let ring = |sets: usize| {
+    let ring = |states: usize, sets: usize| {
         let mut x = EMPTY;
-        x.states = 64;
+        x.states = states;
         x.sets = sets;
         x.start = 1;
-        for s in 0..64 {
-            x.observations[s] = s as u8 % 8;
-            x.successors[s] = 1 << s | 1 << ((s + 1) % 64);
+        for s in 0..states {
+            x.successors[s] = 1 << ((s + 1) % states);
         }
         for k in 0..sets {
-            x.fairness[k] = !(1 << (8 * k));
+            x.fairness[k] = if states == 64 { u64::MAX } else { (1 << states) - 1 };
         }
         x
     };
-    (ring(m), ring(n))
+    (ring(64, m), ring(61, n))
 }
 
 // walks of a machine from a start state, of a few states, closed where a state comes back; some are damaged
@@ -244,12 +244,19 @@ fn agree(r: &mut Random) {
         // an entry, a byte or a length is damaged
         let n = a.sets * c.states * a.states;
         t[r.below(n)] = [0, 1, 2, 65535, 9][r.below(5)];
-        compare(&file(&c, &a, Some(&t)), &mut counts);
+        let altered = file(&c, &a, Some(&t));
+        compare(&altered, &mut counts);
+        let (stem, cycle) = lasso(r, &c);
+        compare_play(&altered, &stem, &cycle, &mut plays);
+        compare_play(&f, &stem, &[], &mut plays);
+        compare_play(&f, &stem, &[0; 65], &mut plays);
         let at = r.below(f.len());
         f[at] ^= 1 << r.below(8);
         compare(&f, &mut counts);
+        compare_play(&f, &stem, &cycle, &mut plays);
         mend(&mut f, at / 512);
         compare(&f, &mut counts);
+        compare_play(&f, &stem, &cycle, &mut plays);
         f.truncate(r.below(f.len()));
         compare(&f, &mut counts);
     }
@@ -298,13 +305,14 @@ fn solving(name: &str, f: &[u8]) {
 
 fn playing(name: &str, f: &[u8], stem: &[u8], cycle: &[u8]) {
     let mut run = vec![0u8; plain::ROOM];
+    let (s, q) = played(f, stem, cycle, &mut run).unwrap().expect("a run");
     let a = time(|| {
         black_box(played(black_box(f), stem, cycle, &mut run)).unwrap();
     });
     let b = time(|| {
         black_box(plain::play_file(black_box(f), stem, cycle, &mut run)).unwrap();
     });
-    row(name, a, b);
+    row(&format!("{name}, run {s} + {q}"), a, b);
 }
 
 fn main() {
@@ -338,10 +346,6 @@ fn main() {
     plain::solve(&c, &a, &mut t);
     let f = file(&c, &a, Some(&t));
     let round: Vec<u8> = (0..64).collect();
-    judge("read and check, 64 by 64, rings", &f);
-    playing("read, check and play, 64 by 64, rings, loop of 64", &f, &[], &round);
-    let (c, a) = chain(64, 8, 7);
-    plain::solve(&c, &a, &mut t);
-    let f = file(&c, &a, Some(&t));
-    playing("read, check and play, 64 by 64, chain, loop of 64", &f, &[], &round);
+    judge("read and check, 64 by 61, rings", &f);
+    playing("read, check and play, 64 by 61, rings, loop of 64", &f, &[], &round);
 }

@@ -1,6 +1,9 @@
 /*
- * play FILE STEM.. / LOOP..: plays a lasso of the rig, given by its states, by the table of a file, and prints the score's run: 'run', the
+ * playback FILE STEM.. / LOOP..: plays a lasso of the rig, given by its states, by the table of a file, and prints the score's run: 'run', the
  * stem's states, '/', the loop's states. Or it prints 'no table' or the refusal. Exit status 1 if the file or the lasso cannot be read.
+ *
+ *     rt staticlib playback
+ *     cc -o playback clients/playback.c target/staticlib/libplayback.a
  */
 #include "hawkrusset.h"
 #include "whole_file.h"
@@ -29,7 +32,7 @@ int main(int argc, char **argv)
         stroke++;
     uint8_t *lasso = stroke < last ? malloc((size_t)argc) : NULL;
     if (lasso == NULL || !states(argv + 2, stroke, lasso) || !states(stroke + 1, last, lasso + (stroke - argv - 2))) {
-        fprintf(stderr, "usage: play FILE STEM.. / LOOP..\n");
+        fprintf(stderr, "usage: playback FILE STEM.. / LOOP..\n");
         return 1;
     }
     size_t length = 0, stem = (size_t)(stroke - argv - 2), loop = (size_t)(last - stroke - 1);
