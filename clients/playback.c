@@ -7,6 +7,7 @@
  */
 #include "hawkrusset.h"
 #include "whole_file.h"
+#include <string.h>
 
 #define NUMBER(n) ((unsigned long long)(n))
 

@@ -25,11 +25,23 @@ fn arguments(text: &mut [u8]) -> usize
     at
 }
 
+// Reads the show from standard input where the arguments are a lasso; a caller who is to be told how to call it is not kept waiting.
+fn shown(wanted: bool, buffer: &mut [u8]) -> usize
+    ensures { λ r. ⌜ r ≤ length (now (buffer .exit)) ⌝ }
+{
+    if wanted {
+        io::read_full(STDIN_FILENO, buffer)
+    } else {
+        0
+    }
+}
+
 fn main() {
     let mut text = [0u8; 4096];
     let length = arguments(&mut text);
+    let wanted = playline::is_lasso(&text[..length]);
     let mut buffer = [0u8; codec::INPUT_ROOM];
-    let count = io::read_full(STDIN_FILENO, &mut buffer);
+    let count = shown(wanted, &mut buffer);
     let mut out = [0u8; playline::LINE_ROOM];
     let n = playline::play_line(&buffer[..count], &text[..length], &mut out);
     io::write_all(STDOUT_FILENO, &out[..n]);

@@ -127,6 +127,13 @@ fn is_readable(text: &[u8], stroke: usize) -> bool
     true
 }
 
+// Whether a text is a lasso: a stem, a stroke and a loop.
+pub fn is_lasso(text: &[u8]) -> bool
+    ensures { λ r. ⌜ r ≡ readable (now (text .entry)) ⌝ }
+{
+    is_readable(text, stroke_at(text))
+}
+
 // ---- Writing the line
 
 // Writes a blank and a state at a place, and gives the place behind them.
