@@ -7,7 +7,7 @@ use lib.Dec.{eqb, leb, ltb}
 use Rattle.mask.specs.Logic.{and, or}
 use Rattle.mask.specs.Bounded.{every, first}
 use Rattle.text.specs.Decimal.{decimal}
-use Rattle.machine.specs.Lassos as L
+use Rattle.machine.specs.Lassos.{Lasso, given}
 
 -- ---- reading
 unfoldable pub isDigit : ℕ → Bool
@@ -42,8 +42,8 @@ unfoldable pub readable : List ℕ → Bool
 readable t = and (ltb (strokeAt t) (length t)) (every (length t) (λ i. or (eqb i (strokeAt t)) (isPlain (getD t i 0))))
 
 -- the lasso of a readable text
-unfoldable pub lassoIn : List ℕ → L.Lasso
-lassoIn t = L.given (numbersIn (take (strokeAt t) t)) (numbersIn (drop (suc (strokeAt t)) t))
+unfoldable pub lassoIn : List ℕ → Lasso
+lassoIn t = given (numbersIn (take (strokeAt t) t)) (numbersIn (drop (suc (strokeAt t)) t))
 
 -- ---- writing
 -- a blank before each state

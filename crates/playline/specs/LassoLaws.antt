@@ -13,10 +13,10 @@ use lib.ListN.{length, getD, take, drop, set, length-append, length-take, drop-o
 use lib.Seq.{drop-cons, take-all, take-append-le, take-suc-set, getD-append-seam, getD-append-add, take-append-seam, drop-append-add}
 use Rattle.text.specs.Decimal.{decimal}
 use Rattle.text.specs.DecimalLaws.{decimal-one, decimal-more}
-use Rattle.machine.specs.Lassos as L
+use Rattle.machine.specs.Lassos.{given}
 use Rattle.mask.specs.Logic.{and, or}
 use Rattle.mask.specs.Bounded.{every}
-use Rattle.mask.specs.LogicLaws.{and-l, and-r, and-i, and-false-l, and-false-r, and-true-l, or-l, or-r, or-false-l}
+use Rattle.mask.specs.LogicLaws.{and-l, and-i, and-false-l, and-false-r, and-true-l, or-l, or-r, or-false-l}
 use Rattle.mask.specs.BoundedLaws.{every-of, every-not, first-is, first-none}
 use Rattle.playline.specs.declared.Numbers.{Numbers}
 use Rattle.playline.specs.Lasso.{isDigit, grown, numbersFrom, numbersIn, isPlain, strokeAt, readable, lassoIn}
@@ -33,10 +33,6 @@ digit-high b h = sym (and-true-l _ (le-leb 48 b h))
 pub digit-least : (b : ℕ) → isDigit b ≡ true → 48 ≤ b
 unfolding isDigit
 digit-least b t = leb-true 48 b (and-l _ _ t)
-
-pub digit-most : (b : ℕ) → isDigit b ≡ true → b ≤ 57
-unfolding isDigit
-digit-most b t = leb-true b 57 (and-r _ _ t)
 
 pub plain-digit : (b : ℕ) → isDigit b ≡ true → true ≡ isPlain b
 unfolding isPlain
@@ -84,6 +80,9 @@ take-front (suc m) [] b = refl
 take-front (suc m) (x ∷ a) b = ap (λ (l : List ℕ). x ∷ l) (take-front m a b)
 
 -- ---- a text that is read up to a place
+pub drop-next : (l : List ℕ) (i : ℕ) → i < length l → drop i l ≡ getD l i 0 ∷ drop (i + 1) l
+drop-next l i h = drop-cons l i 0 h ∙ ap (λ (k : ℕ). getD l i 0 ∷ drop k l) (sym (add-one i))
+
 -- the numbers that were read and those of what is left are the text's
 pub record Read (text : List ℕ) (list : Numbers) (inside : Bool) (n i : ℕ) : Type 0 where
   pub count : list .count ≤ 65
@@ -97,12 +96,9 @@ unfolding numbersIn
 read-none text list e = record { count = omega arith; all = ap (λ (k : ℕ). take 65 (take k (list .states) ++ numbersFrom false 0 text)) e }
 
 module _ {text : List ℕ} {list : Numbers} {inside : Bool} {n i : ℕ} (r : Read text list inside n i) where
-  next : i < length text → drop i text ≡ getD text i 0 ∷ drop (i + 1) text
-  next h = drop-cons text i 0 h ∙ ap (λ (k : ℕ). getD text i 0 ∷ drop k text) (sym (add-one i))
-
   -- what is left, by the byte at the place
   left : (l : List ℕ) → i < length text → numbersFrom inside n (getD text i 0 ∷ drop (i + 1) text) ≡ l → take 65 (read list ++ l) ≡ numbersIn text
-  left l h e = ap (λ (m : List ℕ). take 65 (read list ++ m)) (sym (ap (numbersFrom inside n) (next h) ∙ e)) ∙ r .all
+  left l h e = ap (λ (m : List ℕ). take 65 (read list ++ m)) (sym (ap (numbersFrom inside n) (drop-next text i h) ∙ e)) ∙ r .all
 
   pub read-digit : i < length text → isDigit (getD text i 0) ≡ true → Read text list true (grown n (getD text i 0)) (i + 1)
   read-digit h t = record { count = r .count; all = left _ h (numbers-digit inside n _ _ t) }
@@ -242,9 +238,9 @@ module _ (front back : List ℕ) where
     pub readable-between : readable (front ++ (47 ∷ back)) ≡ true
     readable-between = sym (readable-whole between (length front) stroke-between (omega (arith, between-length)) fits-between)
 
-    pub lasso-between : lassoIn (front ++ (47 ∷ back)) ≡ L.given (numbersIn front) (numbersIn back)
+    pub lasso-between : lassoIn (front ++ (47 ∷ back)) ≡ given (numbersIn front) (numbersIn back)
     unfolding lassoIn
     lasso-between =
-        ap (λ (k : ℕ). L.given (numbersIn (take k between)) (numbersIn (drop (suc k) between))) (sym stroke-between)
-        ∙ ap₂ (λ (stem loop : List ℕ). L.given (numbersIn stem) (numbersIn loop)) (take-append-seam front (47 ∷ back))
+        ap (λ (k : ℕ). given (numbersIn (take k between)) (numbersIn (drop (suc k) between))) (sym stroke-between)
+        ∙ ap₂ (λ (stem loop : List ℕ). given (numbersIn stem) (numbersIn loop)) (take-append-seam front (47 ∷ back))
         (ap (λ (k : ℕ). drop k between) (sym (add-one (length front))) ∙ drop-append-add front (47 ∷ back) 1)

@@ -5,10 +5,13 @@ use Prim.Native.Nat.{ℕ}
 use lib.ListN.{take, drop, replicate}
 use Rattle.machine.specs.Refusals.{Result, answer, refused}
 use Rattle.machine.specs.Player.{played, runRoom}
-use Rattle.machine.specs.Lassos as L
 use Rattle.report.specs.Text.{noTableText, refusalLine}
 use Rattle.playback.specs.Playing.{RunOutcome, plays, noTable, fileRun, fileRunBuffer}
 use Rattle.playline.specs.Lasso.{readable, lassoIn, lassoText}
+
+-- the room that any line has: four bytes for each state of a run, and the words
+abbrev pub lineRoom : ℕ
+lineRoom = 114700
 
 -- "run", the lasso, a line feed
 unfoldable pub runLine : List ℕ → List ℕ → List ℕ

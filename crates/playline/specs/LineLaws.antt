@@ -6,7 +6,7 @@ use Prim.Native.Nat.{ℕ, suc, _+_, _*_, _-_, _≤_, _<_}
 use native.Mathlib.Numerals.{add-one}
 use native.Mathlib.Omega.{arith}
 use lib.ListN.{length, getD, take, drop, set, length-append, length-drop, replicate, drop-of-length-le}
-use lib.Seq.{sets, length-sets, drop-cons, take-all}
+use lib.Seq.{sets, length-sets, take-all}
 use Rattle.text.specs.declared.Digits.{Digits}
 use Rattle.text.specs.Decimal.{decimal}
 use Rattle.text.specs.Answers.{digitsFor}
@@ -20,6 +20,7 @@ use Rattle.playback.specs.declared.FileRun.{FileRun}
 use Rattle.playback.specs.declared.FileRun.the-variants.{Run, NoTable, Refused}
 use Rattle.playback.specs.Playing.{fileRun, fileRunBuffer, runOutcomeOf}
 use Rattle.playline.specs.Lasso.{numbersIn, strokeAt, readable, lassoIn, statesText, lassoText}
+use Rattle.playline.specs.LassoLaws.{drop-next}
 use Rattle.playline.specs.Line.{runLine, outcomeLine, usageLine, playLine}
 
 -- ---- a state
@@ -49,9 +50,7 @@ written-none out at states = record { answer = refl; end = refl; room = omega ar
 module _ {out₀ : List ℕ} {at : ℕ} {states out : List ℕ} {place i : ℕ} (w : Written out₀ at states out place i) where
   next : i < length states → statesText (drop i states) ≡ (32 ∷ decimal (getD states i 0)) ++ statesText (drop (i + 1) states)
   unfolding statesText
-  next h =
-      ap statesText (drop-cons states i 0 h)
-      ∙ ap (λ (k : ℕ). 32 ∷ (decimal (getD states i 0) ++ statesText (drop k states))) (sym (add-one i))
+  next h = ap statesText (drop-next states i h)
 
   pub written-more : (more : List ℕ) (behind : ℕ) → i < length states → more ≡ sets out place (32 ∷ decimal (getD states i 0))
       → behind ≡ place + suc (length (decimal (getD states i 0))) → behind ≤ place + 4 → Written out₀ at states more behind (i + 1)

@@ -8,15 +8,16 @@ ghost use lib.ListN.{length, take, drop};
 ghost use lib.Seq.{sets};
 ghost use Rattle.mask.specs.Logic.{or};
 ghost use Rattle.text.specs.Decimal.{decimal};
+ghost use Rattle.machine.specs.Player.{runRoom};
 ghost use Rattle.report.specs.Text.{refusalLine};
 ghost use Rattle.playback.specs.declared.FileRun.the-variants.{Run};
 ghost use Rattle.playback.specs.Playing.{runOutcomeOf};
 ghost use Rattle.playline.specs.Lasso.{isDigit, grown, isPlain, numbersIn, strokeAt, readable, statesText};
-ghost use Rattle.playline.specs.Line.{runLine, outcomeLine, playLine};
+ghost use Rattle.playline.specs.Line.{lineRoom, runLine, outcomeLine, playLine};
 use machine::Refusal;
 use playback::FileRun;
 
-// The room that a line of any run has: four bytes for each of 28,672 states, and the words.
+// The room that any line has: four bytes for each state of a run, and the words.
 pub const LINE_ROOM: usize = 114700;
 
 // Numbers that were read, at most 65: the first `count` of `states`.
@@ -30,7 +31,7 @@ struct Numbers {
 fn is_digit(b: u8) -> bool
     ensures { λ r. ⌜ r ≡ isDigit b ⌝ }
 {
-    if b < 48 { false } else { b <= 57 }
+    if b < b'0' { false } else { b <= b'9' }
 }
 
 // The number with one digit more, 255 for any over it.
@@ -38,7 +39,7 @@ fn grown(n: u8, b: u8) -> u8
     requires { ⌜ isDigit b ≡ true ⌝ }
     ensures { λ r. ⌜ r ≡ grown n b ⌝ }
 {
-    let wide = n as u32 * 10 + (b - 48) as u32;
+    let wide = n as u32 * 10 + (b - b'0') as u32;
     if 255 < wide { 255 } else { wide as u8 }
 }
 
@@ -101,7 +102,7 @@ fn stroke_at(text: &[u8]) -> usize
 fn is_plain(b: u8) -> bool
     ensures { λ r. ⌜ r ≡ isPlain b ⌝ }
 {
-    if is_digit(b) { true } else { b == 32 }
+    if is_digit(b) { true } else { b == b' ' }
 }
 
 // Whether a byte may stand at place i of a readable text whose stroke stands at a place.
@@ -180,7 +181,7 @@ fn put_run(out: &mut [u8], stem: &[u8], cycle: &[u8]) -> usize
     end + 1
 }
 
-// The same for a run of s states and q more that stands at a buffer's front.
+// The same for a run at a buffer's front: a stem of s states and a loop of q.
 fn put_run_in(out: &mut [u8], run: &[u8], s: usize, q: usize) -> usize
     requires { ⌜ (s + q ≤ length (now run)) × (4 * (s + q) + 6 ≤ length (now out)) ⌝ }
     ensures length { λ r. ⌜ r ≡ length (runLine (take s (now (run .entry))) (take q (drop s (now (run .entry))))) ⌝ }
@@ -214,9 +215,9 @@ fn put_refused(out: &mut [u8], r: Refusal) -> usize
 
 // Writes the line of what is said, where the run stands in a buffer, and gives its length.
 fn put_outcome(out: &mut [u8], said: FileRun, run: &[u8]) -> usize
-    requires { ⌜ (length (now run) ≤ 28672) × ((114700 ≤ length (now out)) × ((s q : ℕ) → said ≡ Run s q → s + q ≤ length (now run))) ⌝ }
+    requires { ⌜ (length (now run) ≤ runRoom) × ((lineRoom ≤ length (now out)) × ((s q : ℕ) → said ≡ Run s q → s + q ≤ length (now run))) ⌝ }
     ensures length { λ r. ⌜ r ≡ length (outcomeLine (runOutcomeOf said) (now (run .entry))) ⌝ }
-    ensures room { λ r. ⌜ r ≤ 114700 ⌝ }
+    ensures room { λ r. ⌜ r ≤ lineRoom ⌝ }
     ensures bytes { λ _. ⌜ now (out .exit) ≡ sets (now (out .entry)) 0 (outcomeLine (runOutcomeOf said) (now (run .entry))) ⌝ }
 {
     match said {
@@ -229,7 +230,7 @@ fn put_outcome(out: &mut [u8], said: FileRun, run: &[u8]) -> usize
 // Writes the line of a file and of the lasso that the arguments' text writes to the front of `out`, and gives its length.
 pub fn play_line(bytes: &[u8], text: &[u8], out: &mut [u8; LINE_ROOM]) -> usize
     ensures length { λ r. ⌜ r ≡ length (playLine (now (bytes .entry)) (now (text .entry))) ⌝ }
-    ensures room { λ r. ⌜ r ≤ 114700 ⌝ }
+    ensures room { λ r. ⌜ r ≤ lineRoom ⌝ }
     ensures bytes { λ _. ⌜ now (out .exit) ≡ sets (now (out .entry)) 0 (playLine (now (bytes .entry)) (now (text .entry))) ⌝ }
 {
     let stroke = stroke_at(text);

@@ -46,9 +46,11 @@ put-line-requires c κs = search needs
 
 returns : tie.Need-returns
 returns c =
+    let tested = c .before .before .before .before in
+    let start = tested .before .before .before .before in
+    let no = sym (tested .is-readable .ensures) ∙ not-true _ (c .before .before .before .if1 .taken) in
     let put = c .put-line in
-    let no = sym (c .before .before .before .before .is-readable .ensures) ∙ not-true _ (c .before .before .before .if1 .taken) in
-    same-line (c .before .before .before .before .before .before .before .before .args .out .now) (play-usage (c .before .before .before .before .before .before .before .before .args .bytes .now) _ no) (put .ensures .0) (omega (arith, put .ensures .0)) (put .ensures .1)
+    same-line (start .args .out .now) (play-usage (start .args .bytes .now) _ no) (put .ensures .0) (omega (arith, put .ensures .0)) (put .ensures .1)
 
 slice-aggregate-numbers-in : tie.Need-slice-aggregate-numbers-in
 slice-aggregate-numbers-in c = sym (length-take-le _ _ (omega (arith, stroke-low (c .before))))
@@ -101,13 +103,14 @@ put-outcome-requires c κs =
 returns-2 : tie.Need-returns-2
 returns-2 c =
     let play = c .before .before .before .before .play-bytes in
-    let stem = c .before .before .before .before .before .before .before .before .before .before .before .before .numbers-in in
-    let cycle = c .before .before .before .before .before .before .before .before .before .before .numbers-in2 in
-    let else = c .before .before .before .before .before .before .before .before .before .before .before .before .before .before in
-    let start = else .before .before .before .before .before in
+    let cycle = c .before .before .before .before .before .before .before .before .before .before in
+    let stem = cycle .before .before in
+    let found = stem .before .before in
+    let start = found .before .before .before .before .before in
     let put = c .put-outcome in
     same-line (start .args .out .now)
-    (play-said (start .args .bytes .now) (start .args .text .now) _ _ _ _ _ (ready else) (else .before .before .stroke-at .ensures) (stem .ensures .1) (cycle .ensures .1) (play .ensures .0) (play .ensures .1))
+    (play-said (start .args .bytes .now) (start .args .text .now) _ _ _ _ _ (ready found) (found .before .before .stroke-at .ensures)
+    (stem .numbers-in .ensures .1) (cycle .numbers-in2 .ensures .1) (play .ensures .0) (play .ensures .1))
     (put .ensures .0) (put .ensures .1 .0) (put .ensures .1 .1)
 
 pub play-line-spec : {M : Type 1} → statement M

@@ -39,7 +39,7 @@ same-length c =
     let stroke = c .before .before .before .before .before .before .put2 in
     let front = c .before .before .before .before .before .before .before .before .before .before .before .put-states in
     let word = c .before .before .before .before .before .before .before .before .before .before .before .before .before .before .before .put in
-    omega (arith, back .kept, stroke .kept, front .kept, word .kept, length-set (back .last .0) (back .result) 10)
+    simp length-set (omega (arith, back .kept, stroke .kept, front .kept, word .kept))
 
 returns : tie.Need-returns
 returns c =

@@ -40,9 +40,7 @@ add-result : tie.Need-add-result
 add-result c = search needs
 
 same-length : tie.Need-same-length
-same-length c =
-    let start = c .before .before .before .before .before .before .before .before .before in
-    omega (arith, c .before .before .put .kept, length-set (start .args .out .now) (start .args .at) 32)
+same-length c = simp length-set at (c .before .before .put .kept .0)
 
 returns : tie.Need-returns
 returns c =
