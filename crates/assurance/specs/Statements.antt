@@ -22,7 +22,7 @@ use Rattle.theory.specs.Figure2.{figure2, FigureGoal}
 use Rattle.theory.specs.Statements.{IsRank}
 use Rattle.codec.specs.Reader.{taken, readAnswer, readTable}
 use Rattle.codec.specs.Writer.{fileRoom}
-use Rattle.codec.specs.Statements.{AreBytes, WriteRead, ReadWrite, WrittenReads, ReadWrites, FirstBlockTellsSize, EntriesUnread}
+use Rattle.codec.specs.Statements.{AreBytes, WriteRead, ReadWrite, WrittenReads, ReadWrites, FirstBlockTellsSize, TakenFits, EntriesUnread}
 use Rattle.soundness.specs.Statements.{CheckUnread, PlayerUnread}
 use Rattle.restore.specs.Restoring.{restoreAnswer, restoreBuffer}
 use Rattle.solver.specs.Solver.{solveValidity, solvedTable}
@@ -39,6 +39,10 @@ FilesAreWritten = ReadWrite × ReadWrites
 -- "Ours shall know from a file's first block."
 abbrev pub FirstBlockIsEnough : Type 0
 FirstBlockIsEnough = FirstBlockTellsSize
+
+-- "It takes the first 59,904 bytes of longer input as the file": no file that is taken is longer
+abbrev pub TakenIsNotCut : Type 0
+TakenIsNotCut = TakenFits
 
 -- "those past n × P are neither read nor changed": check, player and writer do not read them. That the solver does not change them is SolvedRest
 -- below, and that the reader does not is in WriteRead.

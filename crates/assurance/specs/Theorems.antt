@@ -23,12 +23,12 @@ use Rattle.theory.specs.RankLaws.{table-entries, table-is}
 use Rattle.theory.specs.RankTheorems.{rank-is-goal, rank-is-figure2, rank-is-least, table-holds-ranks, solver-table-passes, solver-table-covers, carried-exactly}
 use Rattle.soundness.specs.Theorems.{carried-is-sound, check-unread, player-unread}
 use Rattle.codec.specs.Format.{fileOf}
-use Rattle.codec.specs.FileLaws.{write-read, read-write, written-reads, read-writes, first-block-tells-size, entries-unread, taken-representable, Was, was-taken, was-well}
+use Rattle.codec.specs.FileLaws.{write-read, read-write, written-reads, read-writes, first-block-tells-size, entries-unread, taken-fits, taken-representable, Was, was-taken, was-well}
 use Rattle.solver.specs.Solver.{solveValidity, solvedTable}
 use Rattle.solver.specs.SolvedLaws.{solve-takes, solved-same, solved-room}
 use Rattle.restore.specs.Restoring.{restored, restoreBuffer}
 use Rattle.restore.specs.RestoringLaws.{restore-valid, restore-made}
-use Rattle.assurance.specs.Statements.{FilesReadBack, FilesAreWritten, FirstBlockIsEnough, EntriesAreUnread, FilesAreSound, LostTableIsReplaced}
+use Rattle.assurance.specs.Statements.{FilesReadBack, FilesAreWritten, FirstBlockIsEnough, TakenIsNotCut, EntriesAreUnread, FilesAreSound, LostTableIsReplaced}
 use Rattle.assurance.specs.Statements.{SolverTakesMachines, SolvedPasses, SolvedCovers, SolvedIsCarried, SolvedIsFigure2, SolvedGoals, SolvedRanks, SolvedRest}
 
 pub files-read-back : FilesReadBack
@@ -39,6 +39,9 @@ files-are-written = (read-write, read-writes)
 
 pub first-block-is-enough : FirstBlockIsEnough
 first-block-is-enough = first-block-tells-size
+
+pub taken-is-not-cut : TakenIsNotCut
+taken-is-not-cut = taken-fits
 
 pub entries-are-unread : EntriesAreUnread
 entries-are-unread = (check-unread, player-unread, entries-unread)

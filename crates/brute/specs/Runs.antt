@@ -18,7 +18,3 @@ asPlace at = record { state = at .state; section = at .section }
 unfoldable pub playedOf : Played → Result Told.Played
 playedOf (Run p q) = answer (Told.played p q)
 playedOf (Refused r) = refused r
-
--- the player's answer where its buffers are long enough
-unfoldable pub playedPlain : Pair → List ℕ → Lasso → Result Told.Played
-playedPlain p T l = andThen (playValidity p T l) (answer (Told.played (stemLength p T l) (loopLength p T l)))

@@ -19,9 +19,9 @@ use Rattle.machine.specs.Lines.{nonBlank}
 use Rattle.machine.specs.LinesLaws.{covers-at}
 use Rattle.machine.specs.Machines.{moves, nA, nC, setsA, successors}
 use Rattle.machine.specs.PartnerLaws.{better-in, better-out, least-miss, least-step, limitOf, partner-view}
-use Rattle.machine.specs.Player.{Place, earlierRound, follow, lastRound, loopLength, loopStart, placeAt, playValidity, played, samePlace, sectionAfter, startPartner, stemLength, stepTo}
+use Rattle.machine.specs.Player.{Place, earlierRound, follow, lastRound, loopLength, loopStart, placeAt, playValidity, played, samePlace, sectionAfter, startPartner, stemLength, stepTo, playAnswer}
 use Rattle.machine.specs.Refusals.{answer, refused, valid}
-use Rattle.machine.specs.RefusalsLaws.{given-of, then-refused}
+use Rattle.machine.specs.RefusalsLaws.{then-of, then-refused}
 use Rattle.machine.specs.Step.{found, least, partner, stateOf}
 use Rattle.machine.specs.Table.{blank, covers, entry, entryIndex}
 use Rattle.machine.specs.PlayerLaws.{section-lt}
@@ -29,7 +29,6 @@ use Rattle.machine.specs.declared.Pair.{Pair}
 use Rattle.machine.specs.declared.Partner.{Partner}
 use Rattle.machine.specs.declared.Partner.the-variants.{Nobody, State}
 use Rattle.machine.specs.declared.Refusal.{Refusal}
-use Rattle.brute.specs.Runs.{playedPlain}
 
 -- the best of the states below n that pass q, and what a later one has to stay below
 pub record Scanned (q : ℕ → Bool) (key : ℕ → ℕ) (n : ℕ) (best : Partner) (limit : ℕ) : Type 0 where
@@ -133,11 +132,11 @@ module _ (p : Pair) (T : List ℕ) (l : Lasso) where
 
 -- ---- the answer
 module _ (p : Pair) (T : List ℕ) (l : Lasso) where
-  pub played-refused : (r : Refusal) → playValidity p T l ≡ refused r → playedPlain p T l ≡ refused r
-  unfolding playedPlain
+  pub played-refused : (r : Refusal) → playValidity p T l ≡ refused r → playAnswer p T l ≡ refused r
+  unfolding playAnswer
   played-refused r e = then-refused _ _ r e
 
   pub played-run : playValidity p T l ≡ valid → (x y : ℕ) → y ≡ lastRound p T l → x ≡ first y (λ x. samePlace p T l x y)
-      → playedPlain p T l ≡ answer (played (loopStart p T l x) ((y - x) * length (l .loop)))
-  unfolding playedPlain stemLength loopLength earlierRound
-  played-run v x y ey ex = given-of _ _ v ∙ rw (← ey, ← ex)
+      → playAnswer p T l ≡ answer (played (loopStart p T l x) ((y - x) * length (l .loop)))
+  unfolding playAnswer stemLength loopLength earlierRound
+  played-run v x y ey ex = then-of _ _ v ∙ rw (← ey, ← ex)

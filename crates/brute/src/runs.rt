@@ -12,8 +12,8 @@ ghost use Rattle.machine.specs.WellFormed.{wellFormed};
 ghost use Rattle.machine.specs.Step.{partner, stateOf};
 ghost use Rattle.machine.specs.Table.{entry};
 ghost use Rattle.machine.specs.Lines.{nonBlank};
-ghost use Rattle.machine.specs.Player.{sectionAfter, stepTo, placeAt, samePlace, lastRound};
-ghost use Rattle.brute.specs.Runs.{asPlace, playedOf, playedPlain};
+ghost use Rattle.machine.specs.Player.{sectionAfter, stepTo, placeAt, samePlace, lastRound, playAnswer};
+ghost use Rattle.brute.specs.Runs.{asPlace, playedOf};
 use crate::lassos::lasso_fits;
 use crate::lassos::moment_at;
 use crate::lines::entry_at;
@@ -161,7 +161,7 @@ fn last_round(p: Pair, table: &[u16], stem: &[u8], cycle: &[u8]) -> usize
 
 // What the player says of any table and any lasso, where its buffers are long enough.
 pub fn plain_play(p: Pair, table: &[u16], stem: &[u8], cycle: &[u8]) -> Played
-    ensures { λ r. ⌜ playedOf r ≡ playedPlain p (now (table .entry)) (given (now (stem .entry)) (now (cycle .entry))) ⌝ }
+    ensures { λ r. ⌜ playedOf r ≡ playAnswer p (now (table .entry)) (given (now (stem .entry)) (now (cycle .entry))) ⌝ }
 {
     let abstraction = p.abstraction;
     let valid = validity(p);

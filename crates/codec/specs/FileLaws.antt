@@ -17,7 +17,7 @@ use Rattle.machine.specs.declared.Machine.{Machine}
 use Rattle.machine.specs.declared.Pair.{Pair}
 use Rattle.machine.specs.declared.Refusal.{Refusal}
 use Rattle.machine.specs.Refusals.{Tested, valid, answer, refused, refusal, andThen, passOn, bufferAfter, bad-block, bad-padding, beyond-counts, no-start, no-successor, bufferValidity}
-use Rattle.machine.specs.RefusalsLaws.{refused-not-answer, refused-is, then-of, then-refused, then-answer, then-cases, given-of, given-at, given-refused, buffer-room, buffer-made}
+use Rattle.machine.specs.RefusalsLaws.{refused-not-answer, refused-is, then-of, then-refused, then-answer, then-cases, given-at, given-refused, buffer-room, buffer-made}
 use Rattle.machine.specs.Machines.{nC, nA, setsC, setsA}
 use Rattle.machine.specs.Table.{entries, tableRoom}
 use Rattle.machine.specs.WellFormed.{wellFormed, beyondCounts, stuckState, contentValidity, pairValidity}
@@ -143,7 +143,7 @@ read-writes f lent buffer p note b room e =
     let long = was-long w in
     let v : writeValidity p (length T) (length buffer) ≡ valid = with-room p (length T) (length buffer) long room ∙ ap pairValidity (sym (w .pair-is)) ∙ w .machines in
     let same = read-write f lent p note b e .1 in (
-      given-of _ _ v ∙ ap answer (sym (file-length p note T) ∙ ap length (sym same)),
+      then-of _ _ v ∙ ap answer (sym (file-length p note T) ∙ ap length (sym same)),
       buffer-made _ _ buffer v ∙ ap (λ (l : List ℕ). l ++ drop (length l) buffer) (sym same),
     )
 

@@ -16,7 +16,7 @@ use Rattle.mask.specs.Tables.{table}
 use Rattle.mask.specs.TablesLaws.{table-length, table-at, table-past, table-cong}
 use Rattle.machine.specs.declared.Pair.{Pair}
 use Rattle.machine.specs.Refusals.{valid, answer, andThen, passOn}
-use Rattle.machine.specs.RefusalsLaws.{given-of, buffer-valid}
+use Rattle.machine.specs.RefusalsLaws.{then-of, buffer-valid}
 use Rattle.machine.specs.Machines.{nC, nA, setsC, setsA}
 use Rattle.machine.specs.Table.{entries, tableRoom, AreEntries}
 use Rattle.machine.specs.WellFormed.{pairValidity}
@@ -200,7 +200,7 @@ unfolding readAnswer readTable
 write-read p note T lent r t b room =
     let w = well-pair p t in
     let v = read-valid p note T w r (well-is-valid p t) (length lent) room in (
-      given-of _ _ v ∙ ap₂ (λ (q : Pair) (n : Bool). answer (taken q n)) (pair-is p note T w r) (note-is p note T w),
+      then-of _ _ v ∙ ap₂ (λ (q : Pair) (n : Bool). answer (taken q n)) (pair-is p note T w r) (note-is p note T w),
       table-after (fileOf p note T) lent _ note v (note-is p note T w) ∙ cases note (entries-are p note T w r b),
     )
   where

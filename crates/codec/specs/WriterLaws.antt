@@ -17,7 +17,7 @@ use Rattle.machine.specs.Machines.{observation, successors, fairSet, nC, nA, se
 use Rattle.machine.specs.Table.{entries, tableRoom}
 use Rattle.machine.specs.declared.Refusal.{Refusal}
 use Rattle.machine.specs.Refusals.{valid, answer, refused, refusal, andThen, short-buffer, bufferValidity}
-use Rattle.machine.specs.RefusalsLaws.{then-of, then-refused, then-answer, given-of, given-at, buffer-valid, buffer-short, buffer-made, buffer-kept}
+use Rattle.machine.specs.RefusalsLaws.{then-of, then-refused, then-answer, given-at, buffer-valid, buffer-short, buffer-made, buffer-kept}
 use Rattle.machine.specs.WellFormed.{pairValidity, wellFormed}
 use Rattle.machine.specs.WellFormedLaws.{WellPair, well-valid, well-is-valid}
 use Rattle.codec.specs.declared.Size.the-variants as size
@@ -213,13 +213,13 @@ module _ (p : Pair) (note : Bool) (T buffer : List ℕ) where
   pub write-valid : {n : ℕ} → writeValidity p (length T) (length buffer) ≡ valid → n ≡ fileLength (nC p) (nA p) (setsC p) (setsA p) note
       → (sizedOf (size.Bytes n) ≡ writeAnswer p note T buffer) × (fileOf p note T ++ drop (length (fileOf p note T)) buffer ≡ writeBuffer p note T buffer)
   unfolding writeAnswer writeBuffer sizedOf
-  write-valid e z = (ap answer z ∙ sym (given-of _ _ e), sym (buffer-made _ _ buffer e))
+  write-valid e z = (ap answer z ∙ sym (then-of _ _ e), sym (buffer-made _ _ buffer e))
 
   -- the writer answers where machines are well formed and both buffers have room
   pub write-answers : wellFormed p ≡ true → tableRoom ≤ length T → fileRoom ≤ length buffer
       → writeAnswer p note T buffer ≡ answer (fileLength (nC p) (nA p) (setsC p) (setsA p) note)
   unfolding writeAnswer
-  write-answers t h k = given-of _ _ (with-room p (length T) (length buffer) h k ∙ well-is-valid p t)
+  write-answers t h k = then-of _ _ (with-room p (length T) (length buffer) h k ∙ well-is-valid p t)
 
   -- and only there
   pub answer-valid : {n : ℕ} → writeAnswer p note T buffer ≡ answer n

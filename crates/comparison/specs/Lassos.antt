@@ -11,9 +11,8 @@ use Rattle.machine.specs.declared.Refusal.{Refusal}
 use Rattle.machine.specs.Machines.{observation, sameObservation}
 use Rattle.machine.specs.WellFormed.{wellFormed}
 use Rattle.machine.specs.Lassos.{Lasso, moment, isPlay, given}
-use Rattle.machine.specs.Player.{placeAt, playerAnswer, playerBuffer}
+use Rattle.machine.specs.Player.{placeAt, playerAnswer, playerBuffer, playAnswer}
 use Rattle.brute.specs.Numbers.{statesOf}
-use Rattle.brute.specs.Runs.{playedPlain}
 use Rattle.comparison.specs.declared.tally.Tally.{Tally}
 use Rattle.comparison.specs.Answers.{playedFour, sameFour}
 use Rattle.comparison.specs.Tallies.{total, ofLasso}
@@ -39,7 +38,7 @@ lassoAgrees p T l B x y = and (sameFour x y) (or (not (eqb (x .number) 0)) (runF
 unfoldable pub lassoTally : Pair → List ℕ → Lasso → Tally
 lassoTally p T l =
     let v = playedFour (playerAnswer p T l zeros) in
-    ofLasso (eqb (v .number) 0) (lassoAgrees p T l (playerBuffer p T l zeros) v (playedFour (playedPlain p T l)))
+    ofLasso (eqb (v .number) 0) (lassoAgrees p T l (playerBuffer p T l zeros) v (playedFour (playAnswer p T l)))
 
 -- lasso number x of a stem of s states and a loop of q: its states are the digits of x, from 0 to `top`
 unfoldable pub numberedLasso : ℕ → ℕ → ℕ → ℕ → Lasso

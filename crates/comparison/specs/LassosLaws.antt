@@ -14,10 +14,9 @@ use Rattle.machine.specs.declared.Refusal.{Refusal}
 use Rattle.machine.specs.WellFormed.{wellFormed}
 use Rattle.machine.specs.Machines.{observation, sameObservation}
 use Rattle.machine.specs.Lassos.{Lasso, moment, isPlay, given}
-use Rattle.machine.specs.Player.{Played, placeAt, playerAnswer, playerBuffer}
+use Rattle.machine.specs.Player.{Played, placeAt, playerAnswer, playerBuffer, playAnswer}
 use Rattle.machine.specs.Refusals.{Result}
 use Rattle.brute.specs.Numbers.{statesOf}
-use Rattle.brute.specs.Runs.{playedPlain}
 use Rattle.comparison.specs.declared.tally.Tally.{Tally}
 use Rattle.comparison.specs.Answers.{playedFour, sameFour}
 use Rattle.comparison.specs.Tallies.{total, ofLasso}
@@ -86,14 +85,14 @@ numbered-is p T L top s q x n t e en et = et ∙ rw (e, en)
 
 -- with a buffer Z of any length
 tally-in : (p : Pair) (T : List ℕ) (l : Lasso) (Z B : List ℕ) (x y : Result Played) (v w : Refusal) (a : Bool) (t : Tally)
-    → B ≡ playerBuffer p T l Z → x ≡ playerAnswer p T l Z → y ≡ playedPlain p T l → v ≡ playedFour x → w ≡ playedFour y
+    → B ≡ playerBuffer p T l Z → x ≡ playerAnswer p T l Z → y ≡ playAnswer p T l → v ≡ playedFour x → w ≡ playedFour y
     → a ≡ lassoAgrees p T l B v w → t ≡ ofLasso (eqb (v .number) 0) a
     → t ≡ (let u = playedFour (playerAnswer p T l Z) in
-    ofLasso (eqb (u .number) 0) (lassoAgrees p T l (playerBuffer p T l Z) u (playedFour (playedPlain p T l))))
+    ofLasso (eqb (u .number) 0) (lassoAgrees p T l (playerBuffer p T l Z) u (playedFour (playAnswer p T l))))
 tally-in p T l Z B x y v w a t eb ex ey ev ew ea et = rw (et, ea, eb, ev, ew, ex, ey)
 
 pub lasso-tally-is : (p : Pair) (T : List ℕ) (l : Lasso) (B : List ℕ) (x y : Result Played) (v w : Refusal) (a : Bool) (t : Tally)
-    → B ≡ playerBuffer p T l zeros → x ≡ playerAnswer p T l zeros → y ≡ playedPlain p T l → v ≡ playedFour x → w ≡ playedFour y
+    → B ≡ playerBuffer p T l zeros → x ≡ playerAnswer p T l zeros → y ≡ playAnswer p T l → v ≡ playedFour x → w ≡ playedFour y
     → a ≡ lassoAgrees p T l B v w → t ≡ ofLasso (eqb (v .number) 0) a → t ≡ lassoTally p T l
 unfolding lassoTally
 lasso-tally-is p T l B x y v w a t = tally-in p T l zeros B x y v w a t

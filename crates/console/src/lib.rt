@@ -9,8 +9,6 @@ use verdict::FileVerdict;
 
 pub const CARRIED: u32 = 100;
 
-pub const NO_TABLE: u32 = 101;
-
 // With the lowest start state that lacks a partner added.
 pub const NOT_CARRIED: u32 = 200;
 
@@ -22,7 +20,7 @@ pub extern "C" fn console_answer(bytes: &[u8]) -> u32
     match verdict::file_verdict(bytes) {
         FileVerdict::Carried(_) => CARRIED,
         FileVerdict::NotCarried(c, _) => NOT_CARRIED + c as u32,
-        FileVerdict::NoTable => NO_TABLE,
+        FileVerdict::NoTable => machine::NO_TABLE,
         FileVerdict::Refused(r) => r.number,
     }
 }

@@ -21,7 +21,7 @@ use Rattle.machine.specs.Ranks.{levelOf, setOf, towerOver, tower, rankIn, solve
 use Rattle.machine.specs.Table.{blank, entryIndex, entry, covers, coveredCount}
 use Rattle.machine.specs.Lines.{nonBlank, lower, atMost, goalLine, rankLine, passes, linesValidity}
 use Rattle.machine.specs.Verdict.{Verdict, carried, notCarried, startCovered, lackingStart, startVerdict, linesVerdict}
-use Rattle.machine.specs.Player.{badLength, badStep, missedSet, lassoValidity, startPartner, startValidity, sectionAfter, follow, stepTo, placeAt, samePlace, lastRound, earlierRound, stemLength, loopLength, run, playValidity, Played, played}
+use Rattle.machine.specs.Player.{badLength, badStep, missedSet, lassoValidity, startPartner, startValidity, sectionAfter, follow, stepTo, placeAt, samePlace, lastRound, earlierRound, stemLength, loopLength, run, playValidity, playAnswer, Played, played}
 
 -- a machine whose start state is 0, from the lists of its states' observations and successor masks and of its sets
 machineOf : List ℕ → List ℕ → List ℕ → Machine
@@ -68,7 +68,7 @@ solveAndCheck : Pair → Reply
 solveAndCheck p = check p (solverTable p)
 
 play : Pair → List ℕ → Lasso → Reply
-play p T l = plays (andThen (playValidity p T l) (answer (played (stemLength p T l) (loopLength p T l)))) (run p T l)
+play p T l = plays (playAnswer p T l) (run p T l)
 
 -- cases 1 to 12
 asked : List Reply
@@ -110,7 +110,7 @@ answered =
     ∷ []
 
 cases : asked ≡ answered
-unfolding machineOf _by_ K S Late Early solve check solveAndCheck play asked answered not and or hasBit every some first sum count everyIn someIn maskOf table observation successors moves starts fairSet inFairSet sameObservation matched next andThen passOn countsOk beyond stateBeyond setBeyond beyondCounts stuckState contentValidity pairValidity moment steps better least partner found stateOf iterate settle pairSet mem sameSet none allMatched goals inX roundX xOver xsOver union levelOver levels turn firstFamily sameFamily family levelOf setOf towerOver tower rankIn solverTable entryIndex entry covers coveredCount nonBlank lower atMost goalLine rankLine passes linesValidity startCovered lackingStart startVerdict linesVerdict badLength badStep missedSet lassoValidity startPartner startValidity sectionAfter follow stepTo placeAt samePlace lastRound earlierRound stemLength loopLength run playValidity
+unfolding machineOf _by_ K S Late Early solve check solveAndCheck play asked answered not and or hasBit every some first sum count everyIn someIn maskOf table observation successors moves starts fairSet inFairSet sameObservation matched next andThen passOn countsOk beyond stateBeyond setBeyond beyondCounts stuckState contentValidity pairValidity moment steps better least partner found stateOf iterate settle pairSet mem sameSet none allMatched goals inX roundX xOver xsOver union levelOver levels turn firstFamily sameFamily family levelOf setOf towerOver tower rankIn solverTable entryIndex entry covers coveredCount nonBlank lower atMost goalLine rankLine passes linesValidity startCovered lackingStart startVerdict linesVerdict badLength badStep missedSet lassoValidity startPartner startValidity sectionAfter follow stepTo placeAt samePlace lastRound earlierRound stemLength loopLength run playValidity playAnswer
 cases = refl
 
 -- a concrete machine of two states, 0 to 0 and 1 to 0, one observation
@@ -141,5 +141,5 @@ answeredMore =
     ∷ []
 
 casesMore : askedMore ≡ answeredMore
-unfolding machineOf _by_ K S Late Early solve check solveAndCheck play askedMore answeredMore Two not and or hasBit every some first sum count everyIn someIn maskOf table observation successors moves starts fairSet inFairSet sameObservation matched next andThen passOn countsOk beyond stateBeyond setBeyond beyondCounts stuckState contentValidity pairValidity moment steps better least partner found stateOf iterate settle pairSet mem sameSet none allMatched goals inX roundX xOver xsOver union levelOver levels turn firstFamily sameFamily family levelOf setOf towerOver tower rankIn solverTable entryIndex entry covers coveredCount nonBlank lower atMost goalLine rankLine passes linesValidity startCovered lackingStart startVerdict linesVerdict badLength badStep missedSet lassoValidity startPartner startValidity sectionAfter follow stepTo placeAt samePlace lastRound earlierRound stemLength loopLength run playValidity
+unfolding machineOf _by_ K S Late Early solve check solveAndCheck play askedMore answeredMore Two not and or hasBit every some first sum count everyIn someIn maskOf table observation successors moves starts fairSet inFairSet sameObservation matched next andThen passOn countsOk beyond stateBeyond setBeyond beyondCounts stuckState contentValidity pairValidity moment steps better least partner found stateOf iterate settle pairSet mem sameSet none allMatched goals inX roundX xOver xsOver union levelOver levels turn firstFamily sameFamily family levelOf setOf towerOver tower rankIn solverTable entryIndex entry covers coveredCount nonBlank lower atMost goalLine rankLine passes linesValidity startCovered lackingStart startVerdict linesVerdict badLength badStep missedSet lassoValidity startPartner startValidity sectionAfter follow stepTo placeAt samePlace lastRound earlierRound stemLength loopLength run playValidity playAnswer
 casesMore = refl

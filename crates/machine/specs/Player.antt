@@ -111,6 +111,10 @@ module _ (p : Pair) (T : List ℕ) where
 pub data Played : Type 0 where
   played : ℕ → ℕ → Played
 
+-- the player's answer where its buffers are long enough
+unfoldable pub playAnswer : Pair → List ℕ → Lasso → Result Played
+playAnswer p T l = andThen (playValidity p T l) (answer (played (stemLength p T l) (loopLength p T l)))
+
 -- "a lent buffer of 28,672 bytes"
 abbrev pub runRoom : ℕ
 runRoom = 28672

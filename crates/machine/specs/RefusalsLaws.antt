@@ -70,10 +70,7 @@ module _ {A : Type 0} where
   then-then (answer t) v w = refl
   then-then (refused r) v w = refl
 
-  -- where nothing is refused there is the answer, and where something is, that
-  pub given-of : (v : Tested) (a : A) → v ≡ valid → andThen v (answer a) ≡ answer a
-  given-of v a e = then-of v (answer a) e
-
+  -- an answer behind tests
   pub given-at : (v : Tested) (a : A) {b : A} → andThen v (answer a) ≡ answer b → (v ≡ valid) × (a ≡ b)
   given-at v a e = let q = then-answer v (answer a) e in (q .0, answer-is (q .1))
 

@@ -19,6 +19,10 @@ pub data Verdict : Type 0 where
   carried : ℕ → Verdict
   notCarried : ℕ → ℕ → Verdict
 
+-- "101 no table", of a file
+abbrev pub no-table : ℕ
+no-table = 101
+
 -- "100 Carried, .. 200 + c NotCarried"
 unfoldable pub verdictNumber : Verdict → ℕ
 verdictNumber (carried count) = 100

@@ -76,6 +76,9 @@ pub const UNFAIR_LASSO: u32 = 15;
 
 pub const NO_START_PARTNER: u32 = 16;
 
+// What is said of a file without a table, where other numbers are refusals'.
+pub const NO_TABLE: u32 = 101;
+
 // Whether something is well formed, and if not where it was stopped.
 pub enum Validity {
     Valid,

@@ -6,6 +6,7 @@ use lib.ListN.{length, replicate}
 use lib.Seq.{sets}
 use Rattle.machine.specs.Refusals.{Result, answer, refused, refusal, fourNumbers, andThen, passOn, bufferValidity, bufferAfter}
 use Rattle.machine.specs.Table.{tableRoom}
+use Rattle.machine.specs.Verdict.{no-table}
 use Rattle.machine.specs.Lassos.{Lasso}
 use Rattle.machine.specs.Player.{Played, played, runRoom, run, playerAnswer}
 use Rattle.codec.specs.Reader.{Taken, taken, pairOf, noteOf, readAnswer, readTable}
@@ -49,5 +50,5 @@ runNumber (refused r) = 0
 -- for C: the refusal's number and spot, or 101 and zeros where there is no table, in a list of four; beside a run it is unchanged
 unfoldable pub runSpot : Result RunOutcome → List ℕ → List ℕ
 runSpot (answer (plays r)) spot = spot
-runSpot (answer noTable) spot = sets spot 0 (fourNumbers (refusal 101 0 0 0))
+runSpot (answer noTable) spot = sets spot 0 (fourNumbers (refusal no-table 0 0 0))
 runSpot (refused r) spot = sets spot 0 (fourNumbers r)

@@ -54,7 +54,7 @@ pub extern "C" fn play_file(
     match play_bytes(bytes, stem, cycle, run) {
         FileRun::Run(s, q) => s as u64 * 65536 + q as u64,
         FileRun::NoTable => {
-            machine::put_refusal(spot, machine::refuse(NO_TABLE, 0, 0, 0));
+            machine::put_refusal(spot, machine::refuse(machine::NO_TABLE, 0, 0, 0));
             0
         }
         FileRun::Refused(r) => {
@@ -63,6 +63,3 @@ pub extern "C" fn play_file(
         }
     }
 }
-
-// What stands in the place of a refusal's number for a file without a table, as in the console's answer.
-pub const NO_TABLE: u32 = 101;

@@ -10,7 +10,7 @@ use Rattle.machine.specs.declared.Pair.{Pair}
 use Rattle.machine.specs.declared.Partner.the-variants.{State, Nobody}
 use Rattle.machine.specs.declared.Refusal.{Refusal}
 use Rattle.machine.specs.Refusals.{valid, answer, refused, refusal, short-buffer, no-start-partner}
-use Rattle.machine.specs.RefusalsLaws.{then-of, then-refused, then-answer, then-cases, given-of, given-refused, buffer-valid, buffer-short, buffer-room, buffer-made, buffer-kept}
+use Rattle.machine.specs.RefusalsLaws.{then-of, then-refused, then-answer, then-cases, given-refused, buffer-valid, buffer-short, buffer-room, buffer-made, buffer-kept}
 use Rattle.machine.specs.WellFormed.{pairValidity}
 use Rattle.machine.specs.Lassos.{Lasso, moment}
 use Rattle.machine.specs.Table.{tableRoom}
@@ -82,7 +82,7 @@ module _ (p : Pair) (T : List ℕ) where
             -- ---- the run
             pub run-answer : playedOf (runOf p T l) ≡ playerAnswer p T l buffer
             unfolding playedOf runOf playerAnswer
-            run-answer = sym (given-of _ _ all-valid)
+            run-answer = sym (then-of _ _ all-valid)
 
             pub run-buffer : written p T l buffer ≡ playerBuffer p T l buffer
             unfolding written playerBuffer

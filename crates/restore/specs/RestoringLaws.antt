@@ -8,7 +8,7 @@ use lib.ListN.{length, getD, drop, replicate, length-replicate}
 use Rattle.machine.specs.declared.Pair.{Pair}
 use Rattle.machine.specs.declared.Refusal.{Refusal}
 use Rattle.machine.specs.Refusals.{answer, refused, valid, refusal, bufferValidity, short-buffer}
-use Rattle.machine.specs.RefusalsLaws.{then-of, then-refused, then-answer, given-of, given-at, given-refused, buffer-valid, buffer-short, buffer-room, buffer-made, buffer-kept}
+use Rattle.machine.specs.RefusalsLaws.{then-of, then-refused, then-answer, given-at, given-refused, buffer-valid, buffer-short, buffer-room, buffer-made, buffer-kept}
 use Rattle.machine.specs.WellFormedLaws.{well-is-valid}
 use Rattle.machine.specs.Ranks.{solverTable}
 use Rattle.machine.specs.Table.{tableRoom}
@@ -39,7 +39,7 @@ module _ (f buffer : List ℕ) where
   pub restore-made : restoreValidity f (length buffer) ≡ valid
       → (restoreAnswer f buffer ≡ answer (length (restored f))) × (restoreBuffer f buffer ≡ restored f ++ drop (length (restored f)) buffer)
   unfolding restoreAnswer restoreBuffer
-  restore-made e = (given-of _ _ e, buffer-made _ _ buffer e)
+  restore-made e = (then-of _ _ e, buffer-made _ _ buffer e)
 
   module _ (room : fileRoom ≤ length buffer) where
     -- the reader is lent a table of exactly the room that it asks for
@@ -88,6 +88,6 @@ restore-small f buffer e =
     let a = then-answer (bufferValidity fileRoom (length buffer)) (readValidity f tableRoom) (t .0) in
     let p = pairOf f in
     let lent : List ℕ = replicate tableRoom 0 in
-    let was = was-taken f lent p (noteOf f) (given-of _ _ (ap (readValidity f) (length-replicate {A = ℕ} tableRoom 0) ∙ a .1)) in
+    let was = was-taken f lent p (noteOf f) (then-of _ _ (ap (readValidity f) (length-replicate {A = ℕ} tableRoom 0) ∙ a .1)) in
     let written = write-answers p true (readTable f lent) buffer (was-well was) (was-long was) (buffer-room fileRoom (length buffer) (a .0)) in
     omega (arith, t .1, file-length p true (solverTable p), answer-small p true (readTable f lent) buffer written)

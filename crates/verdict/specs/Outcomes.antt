@@ -5,7 +5,7 @@ use Prim.Native.Nat.{ℕ}
 use lib.ListN.{replicate}
 use Rattle.machine.specs.Refusals.{Result, answer, refused, passOn}
 use Rattle.machine.specs.Table.{tableRoom}
-use Rattle.machine.specs.Verdict.{Verdict, carried, notCarried, verdictNumber, checkVerdict}
+use Rattle.machine.specs.Verdict.{Verdict, carried, notCarried, no-table, verdictNumber, checkVerdict}
 use Rattle.codec.specs.Reader.{Taken, taken, readAnswer, readTable}
 use Rattle.verdict.specs.declared.FileVerdict.{FileVerdict}
 use Rattle.verdict.specs.declared.FileVerdict.the-variants.{Carried, NotCarried, NoTable, Refused}
@@ -27,7 +27,7 @@ fileOutcome f = let T : List ℕ = replicate tableRoom 0 in passOn (readAnswer f
 -- "a refusal's, 100 Carried, 101 no table, 200 + c NotCarried"
 unfoldable pub outcomeNumber : Result Outcome → ℕ
 outcomeNumber (answer (says v)) = verdictNumber v
-outcomeNumber (answer noTable) = 101
+outcomeNumber (answer noTable) = no-table
 outcomeNumber (refused r) = r .number
 
 -- what document 01 says for each case of the call's answer

@@ -2,7 +2,7 @@
 use Prim.Native.Nat.{ℕ, _+_, _*_, _/_}
 use mathlib.Core.Path.{_≡_, sym, ap, _∙_}
 use Rattle.machine.specs.Refusals.{answer, valid}
-use Rattle.machine.specs.RefusalsLaws.{tested-valid, tested-refused, then-refused, given-of}
+use Rattle.machine.specs.RefusalsLaws.{tested-valid, tested-refused, then-refused, then-of}
 use Rattle.codec.specs.Reader.{firstValidity, sizeOf}
 use Rattle.codec.specs.Answers.{sizedOf}
 use Rattle.codec.specs.ReaderLaws.{first-valid, demanded-is}
@@ -39,7 +39,7 @@ returns-2 : tie.Need-returns-2
 unfolding sizedOf sizeOf
 returns-2 c =
     ap (λ (n : ℕ). answer (512 * ((n + 507) / 508))) (c .payload-demanded .ensures .0)
-    ∙ sym (given-of _ _ (right (c .before)) ∙ ap answer (demanded-is _))
+    ∙ sym (then-of _ _ (right (c .before)) ∙ ap answer (demanded-is _))
 
 pub file-size-spec : {M : Type 1} → statement M
 file-size-spec =

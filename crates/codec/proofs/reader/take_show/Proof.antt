@@ -5,7 +5,7 @@ use mathlib.Core.Path.{_≡_, sym, ap, _∙_}
 use native.Mathlib.Omega.{arith}
 use lib.ListN.{length, length-replicate}
 use Rattle.machine.specs.Refusals.{valid, testedOf}
-use Rattle.machine.specs.RefusalsLaws.{then-answer, then-refused, given-of, tested-valid, tested-refused, buffer-kept}
+use Rattle.machine.specs.RefusalsLaws.{then-answer, then-refused, then-of, tested-valid, tested-refused, buffer-kept}
 use Rattle.machine.specs.WellFormed.{pairValidity}
 use Rattle.codec.specs.Format.{payloadRoom}
 use Rattle.codec.specs.Reader.{pairOf}
@@ -87,14 +87,14 @@ unfolding readOf
 returns-2 c =
     let note = c .before .before .before .before .before in
     let e = right (note .before .before) in
-    let shown = shown-taken _ (given-of _ _ e) (note .before .before .before .before .before .pair-at .ensures) (note .before .note-of .ensures) in
+    let shown = shown-taken _ (then-of _ _ e) (note .before .before .before .before .before .pair-at .ensures) (note .before .note-of .ensures) in
     (shown .0, (shown .1, c .before .before .table-at .ensures ∙ sym (table-after _ _ _ true e (sym (note .before .note-of .ensures) ∙ note .if1 .taken))))
 
 returns-3 : tie.Need-returns-3
 unfolding readOf
 returns-3 c =
     let e = right (c .before .before) in
-    let shown = shown-taken _ (given-of _ _ e) (c .before .before .before .before .before .pair-at .ensures) (c .before .note-of .ensures) in
+    let shown = shown-taken _ (then-of _ _ e) (c .before .before .before .before .before .pair-at .ensures) (c .before .note-of .ensures) in
     (shown .0, (shown .1, sym (table-after _ _ _ false e (sym (c .before .note-of .ensures) ∙ c .if1 .left))))
 
 pub take-show-spec : {M : Type 1} → statement M
