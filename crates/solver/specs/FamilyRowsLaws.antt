@@ -1,4 +1,4 @@
--- Laws of families as rows: a section is taken out and put in, a family comes back from its rows, and the loop over turns.
+-- Laws of families as rows: a section is taken out and put in, and a turn makes one section after the other.
 use mathlib.Core.Bool.{true, false}
 use mathlib.Core.List.{List, []}
 use mathlib.Core.Logic.{by-cases}
@@ -15,16 +15,18 @@ use Rattle.mask.specs.Tables.{table}
 use Rattle.mask.specs.TablesLaws.{table-length, table-at, table-past, table-cong, fill-done}
 use Rattle.mask.specs.FrontLaws.{zeros-at}
 use Rattle.machine.specs.declared.Pair.{Pair}
-use Rattle.machine.specs.Machines.{fairSet, next, setsA, pairs}
+use Rattle.machine.specs.Machines.{fairSet, next, nC, setsA}
 use Rattle.machine.specs.StepLaws.{next-lt}
 use Rattle.machine.specs.WellFormedLaws.{WellPair}
 use Rattle.machine.specs.Observed.{matchedMasks}
 use Rattle.machine.specs.Game.{allMatched, goals, levels, turn, firstFamily, sameFamily, family}
 use Rattle.theory.specs.GameLaws.{set-canonical}
 use Rattle.theory.specs.FamilyLaws.{Tabled, turn-tabled, first-tabled}
-use Rattle.solver.specs.Rows.{rowsOf, pairsIn, flatOf, sectionOf, familyIn, putSection, goalRows, sameRows, sameSections, stepsOf}
-use Rattle.solver.specs.FixLaws.{Images, Following, following-turn, following-stop, following-out}
-use Rattle.solver.specs.SetRowsLaws.{rows-at, rows-same, set-back, matched-rows, goals-is}
+use Rattle.rows.specs.Rows.{rowsOf, pairsIn, goalRows, stepRows, abstractPredecessors}
+use Rattle.rows.specs.SetRowsLaws.{rows-at, set-back, goals-is}
+use Rattle.solver.specs.Ranking.{Holds}
+use Rattle.solver.specs.XLaws.{holds-set}
+use Rattle.solver.specs.Families.{flatOf, sectionOf, familyIn, putSection}
 
 -- ---- a set is put into section j, row by row
 pub record Put (F : List ℕ) (j : ℕ) (S : List ℕ) (c : ℕ) (l : List ℕ) : Type 0 where
@@ -83,10 +85,6 @@ flat-more f j S h s = table-cong 448 _ _ (λ e l. by-cases (ℕ-discrete (e / 64
     (λ k. table-at j f (e / 64) [] k ∙ sym (table-at (j + 1) f (e / 64) [] (omega arith)))
     (λ k. table-past j f (e / 64) [] (omega arith) ∙ sym (table-past (j + 1) f (e / 64) [] (omega arith)))))))
 
--- the loop over turns: after i of at most n turns it holds the family after i turns
-abbrev pub Falling : Pair → ℕ → ℕ → List ℕ → Type 0
-Falling p = Following flatOf (sameFamily p) (turn p) (firstFamily p)
-
 module _ (p : Pair) (w : WellPair p) where
   few : (j : ℕ) → j < setsA p → j < 7
   few j h = omega (arith, w .abstraction .sets-high)
@@ -100,29 +98,17 @@ module _ (p : Pair) (w : WellPair p) where
   family-back Z q =
       table-cong (setsA p) _ _ (λ j h. ap (pairsIn p) (section-flat Z j (few j h)) ∙ set-back p w (getD Z j []) (q .canonical j h)) ∙ sym (q .listed)
 
-  -- two families have the same rows exactly if they are the same
-  pub flat-same : (Z W : List (List ℕ)) → Tabled p Z → Tabled p W → sameSections (setsA p) (flatOf Z) (flatOf W) ≡ sameFamily p Z W
-  unfolding sameSections sameFamily
-  flat-same Z W qz qw = every-cong (setsA p) _ _ (λ j h.
-      ap₂ (sameRows 64) (section-flat Z j (few j h)) (section-flat W j (few j h))
-      ∙ rows-same p w 64 (w .concrete .states-high) (getD Z j []) (getD W j []) (qz .canonical j h) (qw .canonical j h))
-
-  -- all matched pairs in every section
-  pub first-is : {matched : List ℕ} → matched ≡ matchedMasks p → flatOf (table (setsA p) (λ j. matched)) ≡ flatOf (firstFamily p)
-  unfolding flatOf firstFamily
-  first-is {matched} e = table-cong 448 _ _ (λ i h. by-cases (decLt (i / 64) (setsA p))
-      (λ l. rw (table-at (setsA p) (λ j. matched) (i / 64) [] l, table-at (setsA p) (λ j. allMatched p) (i / 64) [] l)
-      (ap (λ (S : List ℕ). getD S (i % 64) 0) (e ∙ matched-rows p w) ∙ rows-at (allMatched p) (i % 64) (omega arith)))
-      (λ l. rw (table-past (setsA p) (λ j. matched) (i / 64) [] (omega arith), table-past (setsA p) (λ j. allMatched p) (i / 64) [] (omega arith))))
-
   -- ---- a turn, section by section
   module _ (F : List ℕ) where
-    pub goals-done : {matched set steps : List ℕ} {i : ℕ} (j : ℕ) → j < setsA p → matched ≡ matchedMasks p → i ≡ next (setsA p) j → set ≡ sectionOf F i
-        → steps ≡ stepsOf p set
-        → goalRows matched (getD (p .abstraction .fairness) j 0) steps ≡ rowsOf (goals p (familyIn p F) j)
-    unfolding fairSet
-    goals-done j h em ei es et =
-        rw (et, es, ei, em) (goals-is p w (familyIn p F) j (sectionOf F (next (setsA p) j)) (section-in F (next (setsA p) j) (next-lt (setsA p) j h)))
+    pub goals-done : {matched predecessors set g : List ℕ} {i : ℕ} (j : ℕ) → j < setsA p → matched ≡ matchedMasks p → predecessors ≡ abstractPredecessors p
+        → i ≡ next (setsA p) j → set ≡ sectionOf F i → g ≡ goalRows matched (fairSet (p .abstraction) j) (stepRows (nC p) (p .concrete .successors) predecessors set)
+        → g ≡ rowsOf (goals p (familyIn p F) j)
+    goals-done j h em ep ei es eg =
+        eg ∙ rw (em, ep, es, ei) (goals-is p w (familyIn p F) j (sectionOf F (next (setsA p) j)) (section-in F (next (setsA p) j) (next-lt (setsA p) j h)))
+
+    pub goals-hold : {g : List ℕ} (j : ℕ) → g ≡ rowsOf (goals p (familyIn p F) j) → Holds p g
+    unfolding goals
+    goals-hold j e = holds-set p w (goals p (familyIn p F) j) (set-canonical p _) e
 
     pub turn-more : {g S : List ℕ} (j : ℕ) → j < setsA p → g ≡ rowsOf (goals p (familyIn p F) j) → S ≡ rowsOf (levels p (pairsIn p g))
         → putSection (flatOf (table j (λ i. levels p (goals p (familyIn p F) i)))) j S ≡ flatOf (table (j + 1) (λ i. levels p (goals p (familyIn p F) i)))
@@ -134,22 +120,3 @@ module _ (p : Pair) (w : WellPair p) where
     pub turn-all : {j : ℕ} → j ≡ setsA p → flatOf (table j (λ i. levels p (goals p (familyIn p F) i))) ≡ flatOf (turn p (familyIn p F))
     unfolding turn
     turn-all e = rw e
-
-  -- ---- the turns
-  flat-images : Images (Tabled p) flatOf (familyIn p) (sameFamily p) (sameSections (setsA p))
-  flat-images = record { reads = family-back; agrees = flat-same }
-
-  keeps : (Z : List (List ℕ)) → Tabled p Z → Tabled p (turn p Z)
-  keeps Z q = turn-tabled p Z
-
-  module _ {n i : ℕ} {y : List ℕ} (d : Falling p n i y) where
-    pub falling-turn : {next : List ℕ} → next ≡ flatOf (turn p (familyIn p y)) → i < n → sameSections (setsA p) y next ≡ false → Falling p n (i + 1) next
-    falling-turn e h t = following-turn flat-images (turn p) keeps (first-tabled p) d e h t
-
-    pub falling-stop : {next : List ℕ} → next ≡ flatOf (turn p (familyIn p y)) → n ≡ setsA p * pairs p → sameSections (setsA p) y next ≡ true → y ≡ flatOf (family p)
-    unfolding family
-    falling-stop e z t = rw (← z) (following-stop flat-images (turn p) keeps (first-tabled p) d e t)
-
-    pub falling-out : n ≡ setsA p * pairs p → n ≤ i → y ≡ flatOf (family p)
-    unfolding family
-    falling-out z h = rw (← z) (following-out flat-images (turn p) keeps (first-tabled p) d h)

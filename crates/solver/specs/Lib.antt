@@ -1,14 +1,17 @@
 -- definitions
 pub mod Solver
-pub mod Rows
+pub mod Entries
+pub mod Families
+pub mod Largest
 pub mod Ranking
+pub mod Sweeps
 -- laws
-pub mod FixLaws
-pub mod RowsLaws
-pub mod SetRowsLaws
-pub mod LevelRowsLaws
-pub mod FamilyRowsLaws
+pub mod LargestLaws
+pub mod XLaws
 pub mod StampLaws
 pub mod RankRowsLaws
+pub mod LevelLaws
+pub mod SweepLaws
+pub mod FamilyRowsLaws
 pub mod SolverLaws
 pub mod SolvedLaws

@@ -1,51 +1,64 @@
--- Ranks as the solver makes them: by the first i sets of the tower X(1, 1), .., X(1, m), X(2, 1), ..
-use mathlib.Core.Bool.{true, cond}
+-- How the solver makes the ranks of a section: set by set of the tower X(1, 1), .., X(1, m), X(2, 1), .., each from the pairs whose entry
+-- so far lets them be in it.
+use mathlib.Core.Bool.{true, false}
 use mathlib.Core.List.{List, []}
 use mathlib.Core.Path.{_≡_}
-use Prim.Native.Nat.{ℕ, suc, _*_, _/_, _%_}
-use lib.Dec.{ltb}
-use lib.ListN.{getD}
+use Prim.Native.Nat.{ℕ, _+_, _*_, _≤_, _<_}
+use lib.ListN.{length, getD}
 use Rattle.mask.specs.Logic.{or}
-use Rattle.mask.specs.Bounded.{some, first}
-use Rattle.mask.specs.Tables.{table}
+use Rattle.mask.specs.Bounded.{some}
 use Rattle.machine.specs.declared.Pair.{Pair}
-use Rattle.machine.specs.Machines.{nA, setsC, pairs}
-use Rattle.machine.specs.Game.{pairSet, mem, level}
-use Rattle.machine.specs.Ranks.{tower, rank}
+use Rattle.machine.specs.Machines.{nC, nA, setsC, matched, pairs}
+use Rattle.machine.specs.Game.{pairSet, mem}
+use Rattle.machine.specs.Ranks.{tower, rankIn}
 use Rattle.machine.specs.Table.{blank}
 use Rattle.machine.specs.Observed.{matchedMasks}
 use Rattle.machine.specs.WellFormed.{wellFormed}
-use Rattle.solver.specs.Rows.{rowsOf, pairsIn}
+use Rattle.rows.specs.Rows.{rowsOf, pairsIn, abstractPredecessors, concretePredecessors}
 
-module _ (p : Pair) (goals : List ℕ) where
-  -- the rank of a pair, where only the first i sets of the tower are looked at
-  unfoldable pub rankUpto : ℕ → ℕ → ℕ → ℕ
-  rankUpto i c a =
-      let f = first i (λ e. mem p (getD (tower p goals) e []) c a) in
-      let r = cond (ltb f i) (suc f) blank in
-      cond (mem p goals c a) 0 r
+-- what is computed once of two machines
+pub record Prepared (p : Pair) (matched dependents predecessors : List ℕ) : Type 0 where
+  pub well : wellFormed p ≡ true
+  pub matched-are : matched ≡ matchedMasks p
+  pub dependents-are : dependents ≡ concretePredecessors p
+  pub predecessors-are : predecessors ≡ abstractPredecessors p
 
-  -- a section's entries, likewise
-  unfoldable pub sectionUpto : ℕ → List ℕ
-  sectionUpto i = table (pairs p) (λ e. rankUpto i (e / nA p) (e % nA p))
+-- the rank of a pair over any goals: the ranks of section j are those over its goals in the family
+unfoldable pub rankOver : Pair → List ℕ → ℕ → ℕ → ℕ
+rankOver p goals c a = rankIn p goals (tower p goals) c a
 
-  -- the pairs that have a rank then
-  unfoldable pub seenUpto : ℕ → List ℕ
-  seenUpto i = pairSet p (λ c a. or (mem p goals c a) (some i (λ e. mem p (getD (tower p goals) e []) c a)))
-
--- the ranks of section j, c by c
-unfoldable pub sectionRanks : Pair → ℕ → List ℕ
-sectionRanks p j = table (pairs p) (λ e. rank p j (e / nA p) (e % nA p))
+-- the goals, and the pairs of the first i sets of the tower
+unfoldable pub seenUpto : Pair → List ℕ → ℕ → List ℕ
+seenUpto p goals i = pairSet p (λ c a. or (mem p goals c a) (some i (λ e. mem p (getD (tower p goals) e []) c a)))
 
 -- rows that hold matched pairs and nothing else
 pub record Holds (p : Pair) (rows : List ℕ) : Type 0 where
   pub only-matched : pairsIn p rows ≡ pairSet p (mem p (pairsIn p rows))
   pub only-rows : rows ≡ rowsOf (pairsIn p rows)
 
--- where the ranks of a section with these goals stand after l levels: the rows of level l, and the section's entries by the sets so far
-pub record LevelRanked (p : Pair) (matched goals : List ℕ) (l : ℕ) (below part : List ℕ) : Type 0 where
-  pub well : wellFormed p ≡ true
-  pub all-matched : matched ≡ matchedMasks p
-  pub held : Holds p goals
-  pub level-is : below ≡ rowsOf (level p (pairsIn p goals) l)
-  pub entries-are : part ≡ sectionUpto p (pairsIn p goals) (l * setsC p)
+-- the entry of a pair in a section
+abbrev pub entryOf : Pair → List ℕ → ℕ → ℕ → ℕ
+entryOf p part c a = getD part (c * nA p + a) 0
+
+-- entries that no rank over the goals is below: what a section's ranks are made from
+pub record Bounded (p : Pair) (goals part : List ℕ) : Type 0 where
+  pub long : length part ≡ pairs p
+  pub low : (c a : ℕ) → c < nC p → a < nA p → entryOf p part c a ≤ rankOver p goals c a
+  pub unmatched : (c a : ℕ) → c < nC p → a < nA p → matched p c a ≡ false → entryOf p part c a ≡ blank
+
+-- the same, and entries are the ranks where these are at most i; since `first` no blank has come or gone
+pub record RankedTo (p : Pair) (goals first : List ℕ) (i : ℕ) (part : List ℕ) : Type 0 where
+  pub bounded : Bounded p goals part
+  pub final : (c a : ℕ) → c < nC p → a < nA p → rankOver p goals c a ≤ i → entryOf p part c a ≡ rankOver p goals c a
+  pub blank-kept : (c a : ℕ) → c < nC p → a < nA p → entryOf p first c a ≡ blank → entryOf p part c a ≡ blank
+  pub blank-old : (c a : ℕ) → c < nC p → a < nA p → entryOf p part c a ≡ blank → entryOf p first c a ≡ blank
+
+-- each entry is its pair's rank
+pub record AreRanks (p : Pair) (goals part : List ℕ) : Type 0 where
+  pub long : length part ≡ pairs p
+  pub ranks : (c a : ℕ) → c < nC p → a < nA p → entryOf p part c a ≡ rankOver p goals c a
+
+-- a level after k of its sets: the pairs that have a rank, and the entries
+pub record LevelMade (p : Pair) (goals first : List ℕ) (l k : ℕ) (seen part : List ℕ) : Type 0 where
+  pub seen-are : seen ≡ rowsOf (seenUpto p goals (l * setsC p + k))
+  pub ranked : RankedTo p goals first (l * setsC p + k) part

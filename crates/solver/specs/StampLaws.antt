@@ -1,4 +1,4 @@
--- Laws of the loops that write entries: a blank part, the states of a row, the rows of a section.
+-- Laws of the loops over entries: the states of a row, the rows of a section, a part that comes back.
 use mathlib.Core.Bool.{Bool, true, false, cond}
 use mathlib.Core.List.{List, _++_}
 use mathlib.Core.Logic.{_⊎_, inl, inr, by-cases}
@@ -9,7 +9,7 @@ use native.Mathlib.Nat.{mul-le-mul-right}
 use native.Mathlib.Omega.{arith}
 use lib.Arith.{digits-div, digits-mod}
 use lib.Bits.{bitAnd, bitXor, differ, and-le-l, xor-step, xor-lt}
-use lib.Dec.{eqb}
+use lib.Dec.{eqb, leb}
 use lib.ListN.{length, getD, set, take, drop, length-set, length-append, length-take, length-drop, List·getD-append}
 use lib.Seq.{getD-set-same, getD-set-other, getD-append-add, getD-take, getD-drop}
 use borrow.Author.Tests.{ne-eqb}
@@ -18,9 +18,10 @@ use Rattle.mask.specs.LogicLaws.{and-i, and-true-r, not-i}
 use Rattle.mask.specs.Bits.{hasBit, lowestOf, restOf}
 use Rattle.mask.specs.BitsLaws.{parity, has-zero, has-suc, has-lt, has-none, has-and, has-rest, lowest-set}
 use Rattle.mask.specs.WalkLaws.{rest-drops, rest-has, rest-small}
-use Rattle.mask.specs.TablesLaws.{table-length, table-at, fill-done}
-use Rattle.solver.specs.Rows.{without, stampRow, stampRows}
-use Rattle.solver.specs.RowsLaws.{area}
+use Rattle.mask.specs.Tables.{maskOf}
+use Rattle.mask.specs.TablesLaws.{table-length, table-at, fill-done, maskOf-cong}
+use Rattle.rows.specs.RowsLaws.{area}
+use Rattle.solver.specs.Entries.{rowUpto, uptoRows, without, stampRow, stampRows}
 
 -- ---- the states of one mask that are not in another
 unlike : Bool → Bool → Bool
@@ -206,3 +207,14 @@ module _ (nA : ℕ) (x y : List ℕ) (v : ℕ) (part : List ℕ) where
   pub stamped-done : {c : ℕ} {l : List ℕ} → length part ≡ c * nA → Stamped c l → l ≡ stampRows nA x y v part
   unfolding stampRows
   stamped-done e d = fill-done 0 (length part) _ _ (d .long) (λ i h. d .done i (omega arith))
+
+-- ---- a row of a section, by its states
+pub row-part : (nA c k : ℕ) (part : List ℕ) (bound : ℕ) → k ≡ nA → c * nA + nA ≤ length part
+    → rowUpto (take k (drop (c * nA) part)) bound ≡ maskOf nA (λ a. leb (getD part (c * nA + a) 0) bound)
+unfolding rowUpto
+row-part nA c k part bound e h = rw (cut-long k (c * nA) part (omega arith), e) (maskOf-cong nA _ _ (λ a l.
+    ap (λ (x : ℕ). leb x bound) (getD-take nA (drop (c * nA) part) a 0 l ∙ getD-drop (c * nA) part a 0)))
+
+pub upto-long : (nC nA : ℕ) (part : List ℕ) (bound : ℕ) → length (uptoRows nC nA part bound) ≡ 64
+unfolding uptoRows
+upto-long nC nA part bound = table-length 64 _

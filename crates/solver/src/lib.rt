@@ -1,383 +1,61 @@
 // The solver: document 01's ranks of two machines, as a table.
-// A set of pairs is 64 rows, for each concrete state the mask of the abstract states beside it; a family is such a set for each section,
-// row j x 64 + c.
-// Cost: one application of "steps into" asks the single step once for each concrete and each abstract state, and meets one row for each
-// concrete move. A level takes one application, and one for each round of each of its m sets.
+// A set of pairs is 64 rows, for each concrete state the mask of the abstract states beside it (crate `rows`).
+// The table is made in place. Each entry begins at 0 and is never above its pair's rank; a section's ranks are made from its entries so far,
+// and a section is made again while the set of the next one changes.
 ghost use mathlib.Core.Path.{_≡_};
-ghost use mathlib.Core.Bool.{true};
-ghost use Prim.Native.Nat.{ℕ, _+_, _*_, _<_, _≤_, _^_};
-ghost use lib.ListN.{length, getD, drop};
+ghost use mathlib.Core.Bool.{true, cond};
+ghost use Prim.Native.Nat.{ℕ, _+_, _-_, _*_, _<_, _≤_, _^_};
+ghost use lib.Bits.{bitOr};
+ghost use lib.ListN.{length, getD, take, drop, replicate};
 ghost use mathlib.Core.List.{_++_};
-ghost use Rattle.mask.specs.Bits.{hasBit};
-ghost use Rattle.machine.specs.Machines.{setsC, setsA, pairs};
+ghost use Rattle.mask.specs.Bits.{fullMask};
+ghost use Rattle.mask.specs.Tables.{table};
+ghost use Rattle.machine.specs.Machines.{nC, nA, setsC, setsA, pairs, fairSet};
 ghost use Rattle.machine.specs.Refusals.{testedOf};
 ghost use Rattle.machine.specs.Table.{blank, tableRoom};
 ghost use Rattle.machine.specs.Ranks.{solverTable};
-ghost use Rattle.machine.specs.Step.{partner, found, alike};
 ghost use Rattle.machine.specs.Observed.{matchedMasks};
 ghost use Rattle.machine.specs.WellFormed.{wellFormed};
-ghost use Rattle.mask.specs.Tables.{table};
-ghost use Rattle.machine.specs.Game.{goals, levelOver, levels, turn, family};
-ghost use Rattle.solver.specs.Ranking.{LevelRanked, sectionRanks};
+ghost use Rattle.machine.specs.Game.{level, levels, turn};
+ghost use Rattle.rows.specs.Rows.{rowsOf, pairsIn, meetOf, predecessorsOf, partnerRows, stepRows, goalRows};
+ghost use Rattle.solver.specs.Entries.{rowUpto, uptoRows, without, stampRow, stampRows};
+ghost use Rattle.solver.specs.Families.{flatOf, sectionOf, familyIn, putSection};
+ghost use Rattle.solver.specs.Largest.{Largest};
+ghost use Rattle.solver.specs.Ranking.{Prepared, Holds, Bounded, RankedTo, AreRanks};
+ghost use Rattle.solver.specs.Sweeps.{Begun, Renewable, Renewed, Sweeping};
 ghost use Rattle.solver.specs.Solver.{solveValidity, solvedTable};
-ghost use Rattle.solver.specs.Rows.{rowsOf, pairsIn, flatOf, familyIn, partnersOf, partnerRows, meetOf, stepRows, goalRows, joinRows, outerRows, xRound, sameRows, xRows, sectionOf, sameSections, putSection, without, stampRow, stampRows, stepsOf, xOf};
 use machine::Pair;
-use machine::Partner;
 use machine::Validity;
 
-// ---- Rows
+// ---- Entries
 
-// Whether the single step names a partner in the row.
-fn finds(moves: u64, row: u64) -> bool
-    ensures { λ r. ⌜ r ≡ found (partner moves (hasBit row) alike) ⌝ }
-{
-    match machine::partner_in(moves, row) {
-        Partner::State(_) => true,
-        Partner::Nobody => false,
-    }
-}
-
-// The states a below na that have a partner in the row.
-fn partners(na: usize, moves: &[u64; 64], row: u64) -> u64
-    requires { ⌜ na ≤ 64 ⌝ }
-    ensures { λ r. ⌜ r ≡ partnersOf na (now (moves .entry)) row ⌝ }
+// The states whose entry in the row is at most the bound.
+fn row_upto(row: &[u16], bound: u16) -> u64
+    requires { ⌜ length (now row) ≤ 64 ⌝ }
+    ensures { λ r. ⌜ r ≡ rowUpto (now (row .entry)) bound ⌝ }
 {
     let mut m: u64 = 0;
-    for a in 0..na {
-        if finds(moves[a], row) {
-            m = m | (1u64 << a);
+    for a in 0..row.len() {
+        if row[a] <= bound {
+            m = mask::with(m, a);
         }
     }
     m
 }
 
-// For each d below nc the states that have a partner in row d of the set.
-fn partner_rows(nc: usize, na: usize, moves: &[u64; 64], set: &[u64; 64]) -> [u64; 64]
-    requires { ⌜ (nc ≤ 64) × (na ≤ 64) ⌝ }
-    ensures { λ r. ⌜ r ≡ partnerRows nc na (now (moves .entry)) (now (set .entry)) ⌝ }
-{
-    let mut out = [0u64; 64];
-    for d in 0..nc {
-        out[d] = partners(na, moves, set[d]);
-    }
-    out
-}
-
-// The states below na that are in the row of each of the moves.
-fn meet(na: usize, moves: u64, rows: &[u64; 64]) -> u64
-    requires { ⌜ na ≤ 64 ⌝ }
-    ensures { λ r. ⌜ r ≡ meetOf na moves (now (rows .entry)) ⌝ }
-{
-    let mut m = mask::full(na);
-    let mut left = moves;
-    while left != 0 {
-        let d = mask::lowest(left);
-        m = m & rows[d];
-        left = mask::rest(left);
-    }
-    m
-}
-
-// For each c below nc the states a such that (c, a) steps into the set.
-fn step_rows(
-    nc: usize,
-    na: usize,
-    concrete: &[u64; 64],
-    abstraction: &[u64; 64],
-    set: &[u64; 64],
-) -> [u64; 64]
-    requires { ⌜ (nc ≤ 64) × (na ≤ 64) ⌝ }
-    ensures { λ r. ⌜ r ≡ stepRows nc na (now (concrete .entry)) (now (abstraction .entry)) (now (set .entry)) ⌝ }
-{
-    let rows = partner_rows(nc, na, abstraction, set);
-    let mut out = [0u64; 64];
-    for c in 0..nc {
-        out[c] = meet(na, concrete[c], &rows);
-    }
-    out
-}
-
-// The goals of a section, from its set and from the pairs that step into the next section.
-fn goal_rows(matched: &[u64; 64], members: u64, steps: &[u64; 64]) -> [u64; 64]
-    ensures { λ r. ⌜ r ≡ goalRows (now (matched .entry)) members (now (steps .entry)) ⌝ }
-{
-    let mut out = [0u64; 64];
-    for c in 0..64 {
-        out[c] = matched[c] & (members & steps[c]);
-    }
-    out
-}
-
-// The matched pairs that are in one of two sets.
-fn join_rows(matched: &[u64; 64], x: &[u64; 64], y: &[u64; 64]) -> [u64; 64]
-    ensures { λ r. ⌜ r ≡ joinRows (now (matched .entry)) (now (x .entry)) (now (y .entry)) ⌝ }
-{
-    let mut out = [0u64; 64];
-    for c in 0..64 {
-        out[c] = matched[c] & (x[c] | y[c]);
-    }
-    out
-}
-
-// The matched pairs whose concrete state, of nc, is outside a set.
-fn outer_rows(nc: usize, matched: &[u64; 64], members: u64) -> [u64; 64]
-    requires { ⌜ nc ≤ 64 ⌝ }
-    ensures { λ r. ⌜ r ≡ outerRows nc (now (matched .entry)) members ⌝ }
+// The pairs of a section whose entry is at most the bound.
+fn upto(nc: usize, na: usize, part: &[u16], bound: u16) -> [u64; 64]
+    requires { ⌜ ((nc ≤ 64) × (na ≤ 64)) × (length (now part) ≡ nc * na) ⌝ }
+    ensures { λ r. ⌜ r ≡ uptoRows nc na (now (part .entry)) bound ⌝ }
 {
     let mut out = [0u64; 64];
     for c in 0..nc {
-        if !mask::has(members, c) {
-            out[c] = matched[c];
-        }
+        let from = c * na;
+        let to = from + na;
+        out[c] = row_upto(&part[from..to], bound);
     }
     out
 }
-
-// One round of X: its base, and the outer pairs that step into it. Rows of steps are not kept: small machines would wait for
-// their copies.
-fn x_round(
-    nc: usize,
-    na: usize,
-    concrete: &[u64; 64],
-    abstraction: &[u64; 64],
-    base: &[u64; 64],
-    outer: &[u64; 64],
-    x: &[u64; 64],
-) -> [u64; 64]
-    requires { ⌜ (nc ≤ 64) × (na ≤ 64) ⌝ }
-    ensures { λ r. ⌜ r ≡ xRound nc na (now (concrete .entry)) (now (abstraction .entry)) (now (base .entry)) (now (outer .entry)) (now (x .entry)) ⌝ }
-{
-    let rows = partner_rows(nc, na, abstraction, x);
-    let mut out = [0u64; 64];
-    for c in 0..nc {
-        let steps = meet(na, concrete[c], &rows);
-        out[c] = base[c] | (outer[c] & steps);
-    }
-    out
-}
-
-// Whether two sets have the same rows below nc.
-fn same_rows(nc: usize, x: &[u64; 64], y: &[u64; 64]) -> bool
-    requires { ⌜ nc ≤ 64 ⌝ }
-    ensures { λ r. ⌜ r ≡ sameRows nc (now (x .entry)) (now (y .entry)) ⌝ }
-{
-    for c in 0..nc {
-        if x[c] != y[c] {
-            return false;
-        }
-    }
-    true
-}
-
-// The largest X over a base: from all matched pairs downward, until a round changes nothing.
-fn x_rows(
-    nc: usize,
-    na: usize,
-    concrete: &[u64; 64],
-    abstraction: &[u64; 64],
-    matched: &[u64; 64],
-    base: &[u64; 64],
-    members: u64,
-) -> [u64; 64]
-    requires { ⌜ (nc ≤ 64) × (na ≤ 64) ⌝ }
-    ensures { λ r. ⌜ r ≡ xRows nc na (now (concrete .entry)) (now (abstraction .entry)) (now (matched .entry)) (now (base .entry)) members ⌝ }
-{
-    let outer = outer_rows(nc, matched, members);
-    let mut x = *matched;
-    for _ in 0..nc * na {
-        let next = x_round(nc, na, concrete, abstraction, base, &outer, &x);
-        if same_rows(nc, &x, &next) {
-            return x;
-        }
-        x = next;
-    }
-    x
-}
-
-// ---- Levels
-
-// What is in each set X of a level whatever it is: goals, and pairs that step into the level below.
-fn level_base(p: Pair, matched: &[u64; 64], goals: &[u64; 64], below: &[u64; 64]) -> [u64; 64]
-    requires { ⌜ wellFormed p ≡ true ⌝ }
-    ensures { λ r. ⌜ r ≡ joinRows (now (matched .entry)) (now (goals .entry)) (stepsOf p (now (below .entry))) ⌝ }
-{
-    let concrete = p.concrete;
-    let abstraction = p.abstraction;
-    let nc = concrete.states;
-    let na = abstraction.states;
-    let concrete_moves = concrete.successors;
-    let abstract_moves = abstraction.successors;
-    let steps = step_rows(nc, na, &concrete_moves, &abstract_moves, below);
-    join_rows(matched, goals, &steps)
-}
-
-// X of set k over a base.
-fn level_x(p: Pair, matched: &[u64; 64], base: &[u64; 64], k: usize) -> [u64; 64]
-    requires { ⌜ (wellFormed p ≡ true) × (k < setsC p) ⌝ }
-    ensures { λ r. ⌜ r ≡ xOf p (now (matched .entry)) (now (base .entry)) k ⌝ }
-{
-    let concrete = p.concrete;
-    let abstraction = p.abstraction;
-    let nc = concrete.states;
-    let na = abstraction.states;
-    let concrete_moves = concrete.successors;
-    let abstract_moves = abstraction.successors;
-    let sets = concrete.fairness;
-    x_rows(
-        nc,
-        na,
-        &concrete_moves,
-        &abstract_moves,
-        matched,
-        base,
-        sets[k],
-    )
-}
-
-// Level l from level l - 1: the union of X(l, 1) .. X(l, m).
-fn level(p: Pair, matched: &[u64; 64], goals: &[u64; 64], below: &[u64; 64]) -> [u64; 64]
-    requires { ⌜ (wellFormed p ≡ true) × (now matched ≡ matchedMasks p) ⌝ }
-    ensures { λ r. ⌜ r ≡ rowsOf (levelOver p (pairsIn p (now (goals .entry))) (pairsIn p (now (below .entry)))) ⌝ }
-{
-    let concrete = p.concrete;
-    let m = concrete.sets;
-    let base = level_base(p, matched, goals, below);
-    let mut out = [0u64; 64];
-    for k in 0..m {
-        let x = level_x(p, matched, &base, k);
-        out = join_rows(matched, &x, &out);
-    }
-    out
-}
-
-// The union of the levels: they grow from the empty set, until a level is the one before.
-fn levels(p: Pair, matched: &[u64; 64], goals: &[u64; 64]) -> [u64; 64]
-    requires { ⌜ (wellFormed p ≡ true) × (now matched ≡ matchedMasks p) ⌝ }
-    ensures { λ r. ⌜ r ≡ rowsOf (levels p (pairsIn p (now (goals .entry)))) ⌝ }
-{
-    let concrete = p.concrete;
-    let abstraction = p.abstraction;
-    let nc = concrete.states;
-    let na = abstraction.states;
-    let mut y = [0u64; 64];
-    for _ in 0..nc * na {
-        let next = level(p, matched, goals, &y);
-        if same_rows(nc, &y, &next) {
-            return y;
-        }
-        y = next;
-    }
-    y
-}
-
-// ---- Families
-
-// The set of section j.
-fn section(family: &[u64; 448], j: usize) -> [u64; 64]
-    requires { ⌜ j < 7 ⌝ }
-    ensures { λ r. ⌜ r ≡ sectionOf (now (family .entry)) j ⌝ }
-{
-    let mut out = [0u64; 64];
-    for c in 0..64 {
-        out[c] = family[j * 64 + c];
-    }
-    out
-}
-
-// Puts a set into section j.
-fn put_section(family: &mut [u64; 448], j: usize, set: &[u64; 64])
-    requires { ⌜ (j < 7) × (length (now family) ≡ 448) ⌝ }
-    ensures { λ _. ⌜ now (family .exit) ≡ putSection (now (family .entry)) j (now (set .entry)) ⌝ }
-{
-    for c in 0..64 {
-        family[j * 64 + c] = set[c];
-    }
-}
-
-// The goals of section j over a family.
-fn goals(p: Pair, matched: &[u64; 64], family: &[u64; 448], j: usize) -> [u64; 64]
-    requires { ⌜ (wellFormed p ≡ true) × ((now matched ≡ matchedMasks p) × (j < setsA p)) ⌝ }
-    ensures { λ r. ⌜ r ≡ rowsOf (goals p (familyIn p (now (family .entry))) j) ⌝ }
-{
-    let concrete = p.concrete;
-    let abstraction = p.abstraction;
-    let nc = concrete.states;
-    let na = abstraction.states;
-    let n = abstraction.sets;
-    let concrete_moves = concrete.successors;
-    let abstract_moves = abstraction.successors;
-    let sets = abstraction.fairness;
-    let next = machine::next_section(n, j);
-    let set = section(family, next);
-    let steps = step_rows(nc, na, &concrete_moves, &abstract_moves, &set);
-    goal_rows(matched, sets[j], &steps)
-}
-
-// A turn: every section's set afresh from a family.
-fn turn(p: Pair, matched: &[u64; 64], family: &[u64; 448]) -> [u64; 448]
-    requires { ⌜ (wellFormed p ≡ true) × (now matched ≡ matchedMasks p) ⌝ }
-    ensures { λ r. ⌜ r ≡ flatOf (turn p (familyIn p (now (family .entry)))) ⌝ }
-{
-    let abstraction = p.abstraction;
-    let n = abstraction.sets;
-    let mut out = [0u64; 448];
-    for j in 0..n {
-        let g = goals(p, matched, family, j);
-        let set = levels(p, matched, &g);
-        put_section(&mut out, j, &set);
-    }
-    out
-}
-
-// All matched pairs in each of n sections.
-fn first_family(n: usize, matched: &[u64; 64]) -> [u64; 448]
-    requires { ⌜ n ≤ 7 ⌝ }
-    ensures { λ r. ⌜ r ≡ flatOf (table n (λ j. now (matched .entry))) ⌝ }
-{
-    let mut out = [0u64; 448];
-    for j in 0..n {
-        put_section(&mut out, j, matched);
-    }
-    out
-}
-
-// Whether two families of n sections have the same rows.
-fn same_family(n: usize, x: &[u64; 448], y: &[u64; 448]) -> bool
-    requires { ⌜ n ≤ 7 ⌝ }
-    ensures { λ r. ⌜ r ≡ sameSections n (now (x .entry)) (now (y .entry)) ⌝ }
-{
-    for j in 0..n {
-        let a = section(x, j);
-        let b = section(y, j);
-        if !same_rows(64, &a, &b) {
-            return false;
-        }
-    }
-    true
-}
-
-// The largest family: turns from all matched pairs, until a turn changes nothing.
-fn largest_family(p: Pair, matched: &[u64; 64]) -> [u64; 448]
-    requires { ⌜ (wellFormed p ≡ true) × (now matched ≡ matchedMasks p) ⌝ }
-    ensures { λ r. ⌜ r ≡ flatOf (family p) ⌝ }
-{
-    let concrete = p.concrete;
-    let abstraction = p.abstraction;
-    let nc = concrete.states;
-    let na = abstraction.states;
-    let n = abstraction.sets;
-    let mut family = first_family(n, matched);
-    for _ in 0..n * (nc * na) {
-        let next = turn(p, matched, &family);
-        if same_family(n, &family, &next) {
-            return family;
-        }
-        family = next;
-    }
-    family
-}
-
-// ---- Ranks
 
 // Makes all entries blank.
 fn clear(part: &mut [u16])
@@ -420,6 +98,64 @@ fn stamp(nc: usize, na: usize, x: &[u64; 64], y: &[u64; 64], v: u16, part: &mut 
     }
 }
 
+// The entries that a section begins with: 0 for matched pairs, which no rank is below, and blank for all others.
+fn first_entries(nc: usize, na: usize, matched: &[u64; 64], part: &mut [u16])
+    requires { ⌜ ((nc ≤ 64) × (na ≤ 64)) × ((length (now part) ≡ nc * na) × ((c : ℕ) → c < nc → getD (now matched) c 0 < 2 ^ na)) ⌝ }
+    ensures { λ _. ⌜ now (part .exit) ≡ stampRows na (now (matched .entry)) (replicate 64 0) 0 (table (nc * na) (λ e. blank)) ⌝ }
+{
+    let none = [0u64; 64];
+    clear(part);
+    stamp(nc, na, matched, &none, 0, part);
+}
+
+// ---- One set X
+
+// What may be in a row of X: its base, and outside the set the states that step into X, by the partner rows of X.
+fn rule_row(moves: u64, reached: &[u64; 64], base: u64, inside: bool) -> u64
+    ensures { λ r. ⌜ r ≡ bitOr base (cond inside 0 (meetOf moves (now (reached .entry)))) ⌝ }
+{
+    let steps = if inside {
+        0
+    } else {
+        rows::meet(moves, reached)
+    };
+    base | steps
+}
+
+// The largest set within the start that meets the rule of X. Rows are due while the rule may lower them: at first all, and then those that
+// move to a row that was lowered.
+fn largest(
+    nc: usize,
+    moves: &[u64; 64],
+    dependents: &[u64; 64],
+    predecessors: &[u64; 64],
+    base: &[u64; 64],
+    members: u64,
+    start: &[u64; 64],
+    first: &[u64; 64],
+) -> [u64; 64]
+    requires { ⌜ ((nc ≤ 64) × (length (now start) ≡ 64)) × ((now dependents ≡ predecessorsOf nc (now moves)) × (now first ≡ partnerRows nc (now predecessors) (now start))) ⌝ }
+    ensures { λ r. ⌜ Largest nc (now (moves .entry)) (now (predecessors .entry)) (now (base .entry)) members (now (start .entry)) r ⌝ }
+{
+    let mut x = *start;
+    let mut reached = *first;
+    let mut due = mask::full(nc);
+    while due != 0 {
+        let c = mask::lowest(due);
+        let old = x[c];
+        let row = old & rule_row(moves[c], &reached, base[c], mask::has(members, c));
+        due = mask::rest(due);
+        if row != old {
+            x[c] = row;
+            reached[c] = rows::partners(predecessors, row);
+            due = due | dependents[c];
+        }
+    }
+    x
+}
+
+// ---- Levels
+
 // The rank of the pairs that X(l + 1, k + 1) is the first to have, with l and k from 0.
 fn rank_of(m: usize, l: usize, k: usize) -> u16
     requires { ⌜ (m ≤ 8) × ((l < 4096) × (k < 4096)) ⌝ }
@@ -428,53 +164,211 @@ fn rank_of(m: usize, l: usize, k: usize) -> u16
     (l * m + k + 1) as u16
 }
 
-// Level l + 1 from level l, with an entry for each pair that X(l + 1, k) has and no set before it.
-fn rank_level(
+// Level l + 1 from level l, with its rank for each pair that X(l + 1, k) has and no set before it. Each X starts from the pairs whose entry is
+// at most (l + 1) x m.
+fn level(
     p: Pair,
     matched: &[u64; 64],
+    dependents: &[u64; 64],
+    predecessors: &[u64; 64],
     goals: &[u64; 64],
     below: &[u64; 64],
     l: usize,
     part: &mut [u16],
 ) -> [u64; 64]
-    requires { ⌜ LevelRanked p (now matched) (now goals) l (now below) (now part) × (l < pairs p) ⌝ }
-    ensures { λ r. ⌜ LevelRanked p (now (matched .entry)) (now (goals .entry)) (l + 1) r (now (part .exit)) ⌝ }
+    requires { ⌜ (Prepared p (now matched) (now dependents) (now predecessors) × Holds p (now goals)) × ((l < pairs p) × ((now below ≡ rowsOf (level p (pairsIn p (now goals)) l)) × RankedTo p (pairsIn p (now goals)) (now part) (l * setsC p) (now part))) ⌝ }
+    ensures { λ r. ⌜ (r ≡ rowsOf (level p (pairsIn p (now (goals .entry))) (l + 1))) × RankedTo p (pairsIn p (now (goals .entry))) (now (part .entry)) ((l + 1) * setsC p) (now (part .exit)) ⌝ }
 {
     let concrete = p.concrete;
     let abstraction = p.abstraction;
     let nc = concrete.states;
-    let na = abstraction.states;
     let m = concrete.sets;
-    let base = level_base(p, matched, goals, below);
-    let mut seen = join_rows(matched, goals, below);
+    let moves = concrete.successors;
+    let steps = rows::step_rows(nc, &moves, predecessors, below);
+    let base = rows::join_rows(matched, goals, &steps);
+    let bound = rank_of(m, l, m - 1);
+    let start = upto(nc, abstraction.states, part, bound);
+    let reached = rows::partner_rows(nc, predecessors, &start);
+    let mut seen = rows::join_rows(matched, goals, below);
     for k in 0..m {
-        let x = level_x(p, matched, &base, k);
+        let sets = concrete.fairness;
+        let x = largest(
+            nc,
+            &moves,
+            dependents,
+            predecessors,
+            &base,
+            sets[k],
+            &start,
+            &reached,
+        );
         let v = rank_of(m, l, k);
-        stamp(nc, na, &x, &seen, v, part);
-        seen = join_rows(matched, &x, &seen);
+        stamp(nc, abstraction.states, &x, &seen, v, part);
+        seen = rows::join_rows(matched, &x, &seen);
     }
     seen
 }
 
-// Writes the ranks of section j.
-fn rank_section(p: Pair, matched: &[u64; 64], largest: &[u64; 448], j: usize, part: &mut [u16])
-    requires { ⌜ ((wellFormed p ≡ true) × (now matched ≡ matchedMasks p)) × ((now largest ≡ flatOf (family p)) × ((j < setsA p) × (length (now part) ≡ pairs p))) ⌝ }
-    ensures { λ _. ⌜ now (part .exit) ≡ sectionRanks p j ⌝ }
+// The union of the levels: they grow from the empty set, until a level is the one before; and the ranks of its pairs.
+fn levels(
+    p: Pair,
+    matched: &[u64; 64],
+    dependents: &[u64; 64],
+    predecessors: &[u64; 64],
+    goals: &[u64; 64],
+    part: &mut [u16],
+) -> [u64; 64]
+    requires { ⌜ (Prepared p (now matched) (now dependents) (now predecessors) × Holds p (now goals)) × Bounded p (pairsIn p (now goals)) (now part) ⌝ }
+    ensures { λ r. ⌜ (r ≡ rowsOf (levels p (pairsIn p (now (goals .entry))))) × RankedTo p (pairsIn p (now (goals .entry))) (now (part .entry)) (pairs p * setsC p) (now (part .exit)) ⌝ }
 {
     let concrete = p.concrete;
     let abstraction = p.abstraction;
     let nc = concrete.states;
     let na = abstraction.states;
-    let g = goals(p, matched, largest, j);
     let mut y = [0u64; 64];
-    clear(part);
-    stamp(nc, na, &g, &y, 0, part);
     for l in 0..nc * na {
-        let next = rank_level(p, matched, &g, &y, l, part);
-        if same_rows(nc, &y, &next) {
-            return;
+        let next = level(p, matched, dependents, predecessors, goals, &y, l, part);
+        if rows::same_rows(nc, &y, &next) {
+            return y;
         }
         y = next;
+    }
+    y
+}
+
+// ---- Sections
+
+// The goals of section j, from the set of the next section.
+fn goals(
+    p: Pair,
+    matched: &[u64; 64],
+    predecessors: &[u64; 64],
+    next: &[u64; 64],
+    j: usize,
+) -> [u64; 64]
+    requires { ⌜ (wellFormed p ≡ true) × (j < setsA p) ⌝ }
+    ensures { λ r. ⌜ r ≡ goalRows (now (matched .entry)) (fairSet (p .abstraction) j) (stepRows (nC p) (p .concrete .successors) (now (predecessors .entry)) (now (next .entry))) ⌝ }
+{
+    let concrete = p.concrete;
+    let abstraction = p.abstraction;
+    let nc = concrete.states;
+    let moves = concrete.successors;
+    let sets = abstraction.fairness;
+    let steps = rows::step_rows(nc, &moves, predecessors, next);
+    rows::goal_rows(matched, sets[j], &steps)
+}
+
+// Makes the ranks of a section from its goals and its entries so far, of which `covered` has the pairs that are not blank; gives its levels.
+fn section(
+    p: Pair,
+    matched: &[u64; 64],
+    dependents: &[u64; 64],
+    predecessors: &[u64; 64],
+    goals: &[u64; 64],
+    covered: &[u64; 64],
+    part: &mut [u16],
+) -> [u64; 64]
+    requires { ⌜ (Prepared p (now matched) (now dependents) (now predecessors) × Holds p (now goals)) × (Bounded p (pairsIn p (now goals)) (now part) × (now covered ≡ uptoRows (nC p) (nA p) (now part) (blank - 1))) ⌝ }
+    ensures { λ r. ⌜ (r ≡ rowsOf (levels p (pairsIn p (now (goals .entry))))) × AreRanks p (pairsIn p (now (goals .entry))) (now (part .exit)) ⌝ }
+{
+    let concrete = p.concrete;
+    let abstraction = p.abstraction;
+    let nc = concrete.states;
+    let na = abstraction.states;
+    let y = levels(p, matched, dependents, predecessors, goals, part);
+    stamp(nc, na, covered, &y, machine::BLANK, part);
+    y
+}
+
+// The pairs of section j that are not blank.
+fn covered(nc: usize, na: usize, j: usize, table: &[u16]) -> [u64; 64]
+    requires { ⌜ ((nc ≤ 64) × (na ≤ 64)) × ((j < 7) × (j * (nc * na) + nc * na ≤ length (now table))) ⌝ }
+    ensures { λ r. ⌜ r ≡ uptoRows nc na (take (nc * na) (drop (j * (nc * na)) (now (table .entry)))) (blank - 1) ⌝ }
+{
+    let pairs = nc * na;
+    let from = j * pairs;
+    let to = from + pairs;
+    upto(nc, na, &table[from..to], machine::BLANK - 1)
+}
+
+// Makes section j anew from the table; whether the set of its pairs has changed.
+fn renew(
+    p: Pair,
+    matched: &[u64; 64],
+    dependents: &[u64; 64],
+    predecessors: &[u64; 64],
+    j: usize,
+    table: &mut [u16],
+) -> bool
+    requires { ⌜ Prepared p (now matched) (now dependents) (now predecessors) × Renewable p j (now table) ⌝ }
+    ensures { λ r. ⌜ Renewed p j (now (table .entry)) r (now (table .exit)) ⌝ }
+{
+    let concrete = p.concrete;
+    let abstraction = p.abstraction;
+    let nc = concrete.states;
+    let na = abstraction.states;
+    let n = abstraction.sets;
+    let pairs = nc * na;
+    let next = machine::next_section(n, j);
+    let ahead = covered(nc, na, next, table);
+    let g = goals(p, matched, predecessors, &ahead, j);
+    let old = covered(nc, na, j, table);
+    let from = j * pairs;
+    let to = from + pairs;
+    let y = section(
+        p,
+        matched,
+        dependents,
+        predecessors,
+        &g,
+        &old,
+        &mut table[from..to],
+    );
+    !rows::same_rows(nc, &old, &y)
+}
+
+// ---- The table
+
+// The first entries of each section.
+fn first_table(p: Pair, matched: &[u64; 64], table: &mut [u16])
+    requires { ⌜ ((wellFormed p ≡ true) × (now matched ≡ matchedMasks p)) × (tableRoom ≤ length (now table)) ⌝ }
+    ensures { λ _. ⌜ Begun (pairs p) (nA p) (now (matched .entry)) (now (table .entry)) (setsA p) (now (table .exit)) ⌝ }
+{
+    let concrete = p.concrete;
+    let abstraction = p.abstraction;
+    let nc = concrete.states;
+    let na = abstraction.states;
+    let n = abstraction.sets;
+    let pairs = nc * na;
+    for j in 0..n {
+        let from = j * pairs;
+        let to = from + pairs;
+        first_entries(nc, na, matched, &mut table[from..to]);
+    }
+}
+
+// Sweeps from the last section to the first, in which a section is made anew while the set of the next one has changed since it was made:
+// bit i of `due` stands for section n - 1 - i, so that the section after which i comes is bit i + 1, and bit 0 after the last.
+fn sweeps(
+    p: Pair,
+    matched: &[u64; 64],
+    dependents: &[u64; 64],
+    predecessors: &[u64; 64],
+    table: &mut [u16],
+)
+    requires { ⌜ Prepared p (now matched) (now dependents) (now predecessors) × Sweeping p (now table) (fullMask (setsA p)) (now table) ⌝ }
+    ensures { λ _. ⌜ now (table .exit) ≡ solverTable p ++ drop (length (solverTable p)) (now (table .entry)) ⌝ }
+{
+    let abstraction = p.abstraction;
+    let n = abstraction.sets;
+    let mut due = mask::full(n);
+    while due != 0 {
+        let i = mask::lowest(due);
+        let j = n - 1 - i;
+        due = mask::rest(due);
+        if renew(p, matched, dependents, predecessors, j, table) {
+            due = mask::with(due, machine::next_section(n, i));
+        }
     }
 }
 
@@ -487,15 +381,13 @@ fn rank_all(p: Pair, table: &mut [u16])
     let abstraction = p.abstraction;
     let nc = concrete.states;
     let na = abstraction.states;
-    let n = abstraction.sets;
+    let concrete_moves = concrete.successors;
+    let abstract_moves = abstraction.successors;
     let matched = machine::matched_masks(p);
-    let family = largest_family(p, &matched);
-    let pairs = nc * na;
-    for j in 0..n {
-        let from = j * pairs;
-        let to = from + pairs;
-        rank_section(p, &matched, &family, j, &mut table[from..to]);
-    }
+    let dependents = rows::predecessors(nc, &concrete_moves);
+    let predecessors = rows::predecessors(na, &abstract_moves);
+    first_table(p, &matched, table);
+    sweeps(p, &matched, &dependents, &predecessors, table);
 }
 
 // Writes the ranks of two machines into a lent table of 28,672 entries or more: exactly n x P entries, and none beside a refusal.
@@ -514,4 +406,96 @@ pub fn solve(p: Pair, table: &mut [u16]) -> Validity
             Validity::Valid
         }
     }
+}
+
+// ---- Turns
+
+// The set of section j of a family: 7 x 64 rows, row j x 64 + c.
+fn section_rows(family: &[u64; 448], j: usize) -> [u64; 64]
+    requires { ⌜ j < 7 ⌝ }
+    ensures { λ r. ⌜ r ≡ sectionOf (now (family .entry)) j ⌝ }
+{
+    let mut out = [0u64; 64];
+    for c in 0..64 {
+        out[c] = family[j * 64 + c];
+    }
+    out
+}
+
+// Puts a set into section j.
+fn put_section(family: &mut [u64; 448], j: usize, set: &[u64; 64])
+    requires { ⌜ (j < 7) × (length (now family) ≡ 448) ⌝ }
+    ensures { λ _. ⌜ now (family .exit) ≡ putSection (now (family .entry)) j (now (set .entry)) ⌝ }
+{
+    for c in 0..64 {
+        family[j * 64 + c] = set[c];
+    }
+}
+
+// Makes the ranks of a section from its goals, with no entries from before; gives its levels.
+fn afresh(
+    p: Pair,
+    matched: &[u64; 64],
+    dependents: &[u64; 64],
+    predecessors: &[u64; 64],
+    goals: &[u64; 64],
+    part: &mut [u16],
+) -> [u64; 64]
+    requires { ⌜ (Prepared p (now matched) (now dependents) (now predecessors) × Holds p (now goals)) × (length (now part) ≡ pairs p) ⌝ }
+    ensures { λ r. ⌜ (r ≡ rowsOf (levels p (pairsIn p (now (goals .entry))))) × AreRanks p (pairsIn p (now (goals .entry))) (now (part .exit)) ⌝ }
+{
+    let concrete = p.concrete;
+    let abstraction = p.abstraction;
+    let nc = concrete.states;
+    let na = abstraction.states;
+    first_entries(nc, na, matched, part);
+    section(p, matched, dependents, predecessors, goals, matched, part)
+}
+
+// The levels over goals, with no entries from before.
+fn levels_afresh(
+    p: Pair,
+    matched: &[u64; 64],
+    dependents: &[u64; 64],
+    predecessors: &[u64; 64],
+    goals: &[u64; 64],
+) -> [u64; 64]
+    requires { ⌜ Prepared p (now matched) (now dependents) (now predecessors) × Holds p (now goals) ⌝ }
+    ensures { λ r. ⌜ r ≡ rowsOf (levels p (pairsIn p (now (goals .entry)))) ⌝ }
+{
+    let concrete = p.concrete;
+    let abstraction = p.abstraction;
+    let pairs = concrete.states * abstraction.states;
+    let mut entries = [0u16; 4096];
+    afresh(
+        p,
+        matched,
+        dependents,
+        predecessors,
+        goals,
+        &mut entries[0..pairs],
+    )
+}
+
+// A turn: every section's set afresh from a family of any content.
+fn turn(
+    p: Pair,
+    matched: &[u64; 64],
+    dependents: &[u64; 64],
+    predecessors: &[u64; 64],
+    family: &[u64; 448],
+) -> [u64; 448]
+    requires { ⌜ Prepared p (now matched) (now dependents) (now predecessors) ⌝ }
+    ensures { λ r. ⌜ r ≡ flatOf (turn p (familyIn p (now (family .entry)))) ⌝ }
+{
+    let abstraction = p.abstraction;
+    let n = abstraction.sets;
+    let mut out = [0u64; 448];
+    for j in 0..n {
+        let next = section_rows(family, machine::next_section(n, j));
+        let g = goals(p, matched, predecessors, &next, j);
+        let set = levels_afresh(p, matched, dependents, predecessors, &g);
+        put_section(&mut out, j, &set);
+    }
+    out
 }

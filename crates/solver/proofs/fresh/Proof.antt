@@ -1,5 +1,5 @@
 use mathlib.Core.Path.{refl}
-use Rattle.solver.specs.Rows.{without}
+use Rattle.solver.specs.Entries.{without}
 use Rattle.solver.proofs.fresh.Statement.{statement}
 use Rattle.solver.proofs.fresh.Tie as tie
 

@@ -1,61 +1,135 @@
--- At the loop's head the set is the union of the sets X so far, and after the last it is the level.
-use mathlib.Core.Path.{_≡_, ap₂, _∙_}
-use Prim.Native.Nat.{_-_, _≤_}
+-- At the loop's head the pairs of all earlier sets have their rank; each set starts from the pairs whose entry lets them be in it, which hold it.
+use mathlib.Core.Path.{_≡_, refl, sym, ap, _∙_}
+use Prim.Native.Nat.{ℕ, _+_, _*_, _-_, _≤_, _<_}
 use native.Mathlib.Omega.{arith}
-use lib.ListN.{replicate}
+use lib.ListN.{length}
 use borrow.Author.Needs.{needs}
-use Rattle.machine.specs.WellFormedLaws.{WellPair, well-pair}
-use Rattle.solver.specs.Rows.{joinRows, joinedOf}
-use Rattle.solver.specs.LevelRowsLaws.{level-rows-none, level-rows-more, level-done}
+use Rattle.machine.specs.declared.Pair.{Pair}
+use Rattle.machine.specs.Game.{level, xOver}
+use Rattle.machine.specs.WellFormedLaws.{WellPair, well-pair, pairs-small}
+use Rattle.rows.specs.Rows.{rowsOf, pairsIn}
+use Rattle.solver.specs.StampLaws.{upto-long}
+use Rattle.solver.specs.Ranking.{LevelMade}
+use Rattle.solver.specs.LevelLaws.{made-start, made-turn, made-done, x-is, x-small}
 use Rattle.solver.proofs.level.Statement.{statement}
 use Rattle.solver.proofs.level.Tie as tie
 
 abbrev Inv-loop : tie.InvT-loop
-Inv-loop p matched goals below m base out₀ k₀ out k = (k ≤ m) × (out ≡ joinedOf p matched base (replicate 64 0) k)
+Inv-loop matched dependents predecessors goals below l part₀ concrete abstraction nc m moves base bound start reached seen₀ k₀ part seen k =
+    let p : Pair = record { concrete = concrete; abstraction = abstraction } in
+    (k ≤ m) × LevelMade p (pairsIn p goals) part₀ l k seen part
 
 abbrev μ-loop : tie.MeasureT-loop
-μ-loop p matched goals below m base out₀ k₀ out k = m - k
+μ-loop matched dependents predecessors goals below l part₀ concrete abstraction nc m moves base bound start reached seen₀ k₀ part seen k = m - k
 
 well : (c : tie.Start Inv-loop μ-loop) → WellPair (c .args .p)
-well c = well-pair (c .args .p) (c .pre .0)
+well c = well-pair (c .args .p) (c .pre .0 .0 .well)
 
--- the entry, from the loop's head; and the turn, from its end
+-- the level's number is small
+few : (c : tie.Start Inv-loop μ-loop) → c .args .l < 4096
+few c = omega (arith, c .pre .1 .0, pairs-small (c .args .p) (well c))
+
+-- the entry, from the loop's head; the turn's head, from where X is made
 abbrev entry : tie.At-loop Inv-loop μ-loop → tie.Start Inv-loop μ-loop
-entry c = c .before .before .before
+entry c = c .before .before .before .before .before .before .before .before .before .before .before .before .before .before .before
 
-abbrev inside : tie.After-join-rows Inv-loop μ-loop → tie.In-loop Inv-loop μ-loop
-inside c = c .before .before .before .before .before
+abbrev head : tie.After-largest Inv-loop μ-loop → tie.At-loop Inv-loop μ-loop
+head c = c .before .before .before .before .before .before .before
 
-level-base-requires : tie.Need-level-base-requires Inv-loop μ-loop
-level-base-requires c κs = c .before .pre .0
-
-loop-holds : tie.Need-loop-holds Inv-loop μ-loop
-loop-holds c = (omega arith, level-rows-none _ _ _ _ _ _ _ _)
-
-level-x-requires : tie.Need-level-x-requires Inv-loop μ-loop
-level-x-requires c κs = let i = c .before in (entry (i .before) .pre .0, i .loop-test .taken)
+step-rows-requires : tie.Need-step-rows-requires Inv-loop μ-loop
+step-rows-requires c κs = search needs
 
 join-rows-requires : tie.Need-join-rows-requires Inv-loop μ-loop
 join-rows-requires c κs = search needs
 
+sub-rank-of : tie.Need-sub-rank-of Inv-loop μ-loop
+sub-rank-of c = well (c .before .before .before .before .before .before .before .before) .concrete .sets-low
+
+rank-of-requires : tie.Need-rank-of-requires Inv-loop μ-loop
+rank-of-requires c κs =
+    let s = c .before .before .before .before .before .before .before .before in
+    (well s .concrete .sets-high, (few s, omega (arith, well s .concrete .sets-high)))
+
+upto-requires : tie.Need-upto-requires Inv-loop μ-loop
+upto-requires c κs =
+    let s = c .before .before .before .before .before .before .before .before .before .before in
+    let w = well s in
+    ((w .concrete .states-high, w .abstraction .states-high), s .pre .1 .1 .1 .bounded .long)
+
+partner-rows-requires : tie.Need-partner-rows-requires Inv-loop μ-loop
+partner-rows-requires c κs = search needs
+
+join-rows-requires-2 : tie.Need-join-rows-requires-2 Inv-loop μ-loop
+join-rows-requires-2 c κs = search needs
+
+loop-holds : tie.Need-loop-holds Inv-loop μ-loop
+loop-holds c =
+    let s = c .before .before .before .before .before .before .before .before .before .before .before .before .before .before in
+    (omega arith, made-start (s .pre .0 .0) (s .pre .0 .1) (s .pre .1 .0) (s .pre .1 .1 .0) (s .pre .1 .1 .1) (c .join-rows2 .ensures))
+
+mul-largest : tie.Need-mul-largest Inv-loop μ-loop
+mul-largest c = let h = c .before .before .before .before in omega (arith, c .before .before .before .loop-test .taken, well (entry h) .concrete .sets-high)
+
+array-read-largest : tie.Need-array-read-largest Inv-loop μ-loop
+array-read-largest c = let h = c .before .before .before .before in omega (arith, c .before .before .before .loop-test .taken, well (entry h) .concrete .sets-high)
+
+largest-requires : tie.Need-largest-requires Inv-loop μ-loop
+largest-requires c κs =
+    let h = c .before .before .before .before .before .before in
+    let s = entry h in
+    ((well s .concrete .states-high, ap length (h .before .before .before .before .upto .ensures) ∙ upto-long _ _ _ _), (s .pre .0 .0 .dependents-are, h .before .before .partner-rows .ensures))
+
+-- what is made is X(l + 1, k + 1)
+made : (c : tie.After-largest Inv-loop μ-loop) →
+    let s = entry (head c) in
+    let p = s .args .p in
+    let G = pairsIn p (s .args .goals .now) in
+    c .largest .result ≡ rowsOf (xOver p G (level p G (s .args .l)) (head c .loop .k))
+made c =
+    let h = head c in
+    let s = entry h in
+    x-is (s .pre .0 .0) (s .pre .0 .1) (s .pre .1 .0) (s .pre .1 .1 .0) (s .pre .1 .1 .1) (h .loop .k) (c .before .before .before .before .before .before .loop-test .taken)
+    (h .before .before .before .before .before .before .before .before .before .step-rows .ensures) (h .before .before .before .before .before .before .before .join-rows .ensures) (h .before .before .before .before .before .before .rank-of .ensures) (h .before .before .before .before .upto .ensures) (c .largest .ensures)
+
+rank-of-requires-2 : tie.Need-rank-of-requires-2 Inv-loop μ-loop
+rank-of-requires-2 c κs =
+    let s = entry (head c) in
+    (well s .concrete .sets-high, (few s, omega (arith, c .before .before .before .before .before .before .loop-test .taken, well s .concrete .sets-high)))
+
+stamp-requires : tie.Need-stamp-requires Inv-loop μ-loop
+stamp-requires c κs =
+    let x = c .before .before .before .before in
+    let h = head x in
+    let s = entry h in
+    let w = well s in
+    ((w .concrete .states-high, w .abstraction .states-high), (h .loop .inv .1 .ranked .bounded .long, x-small (s .pre .0 .0) (s .pre .0 .1) (s .pre .1 .0) (s .pre .1 .1 .0) (s .pre .1 .1 .1) (h .loop .k) (made x)))
+
+join-rows-requires-3 : tie.Need-join-rows-requires-3 Inv-loop μ-loop
+join-rows-requires-3 c κs = search needs
+
 add-k : tie.Need-add-k Inv-loop μ-loop
-add-k c = let i = inside c in omega (arith, i .loop-test .taken, well (entry (i .before)) .concrete .sets-high)
+add-k c = let h = c .before .before .before .before .before .before .before .before .before .before .before .before .before .before .before .before .before in omega (arith, c .before .before .before .before .before .before .before .before .before .before .before .before .before .before .before .before .loop-test .taken, well (entry h) .concrete .sets-high)
 
 loop-less : tie.Need-loop-less Inv-loop μ-loop
-loop-less c = search needs
+loop-less c = omega (arith, c .before .before .before .before .before .before .before .before .before .before .before .before .before .before .before .before .loop-test .taken)
 
 loop-again : tie.Need-loop-again Inv-loop μ-loop
 loop-again c =
-    let l = inside c .before .loop in (
-      omega (arith, inside c .loop-test .taken),
-      c .join-rows .ensures ∙ ap₂ (joinRows _) (c .before .before .before .level-x .ensures) (l .inv .1) ∙ level-rows-more _ _ _ _ _ _ _ _ (l .k),
+    let x = c .before .before .before .before .before .before .before .before .before .before in
+    let h = head x in
+    let s = entry h in (
+      omega (arith, x .before .before .before .before .before .before .loop-test .taken),
+      rw (c .join-rows3 .ensures, c .before .before .before .before .before .stamp .ensures) (made-turn (s .pre .0 .0) (s .pre .0 .1) (s .pre .1 .0) (s .pre .1 .1 .0) (s .pre .1 .1 .1) (x .before .before .before .before .before .before .loop-test .taken) (made x) (c .before .before .before .before .before .before .before .before .before .rank-of2 .ensures) (h .loop .inv .1)),
     )
+
+same-length : tie.Need-same-length Inv-loop μ-loop
+same-length c = let h = c .before in h .loop .inv .1 .ranked .bounded .long ∙ sym (entry h .pre .1 .1 .1 .bounded .long)
 
 returns : tie.Need-returns Inv-loop μ-loop
 returns c =
     let h = c .before in
     let s = entry h in
-    h .loop .inv .1 ∙ level-done (s .args .p) (well s) (s .args .goals .now) (s .args .below .now) (s .pre .1) (h .before .level-base .ensures) (omega arith)
+    made-done (s .pre .0 .0) (s .pre .0 .1) (s .pre .1 .0) (s .pre .1 .1 .0) (s .pre .1 .1 .1) (omega (arith, h .loop .inv .0, c .loop-test .left)) (h .loop .inv .1)
 
 pub level-spec : {M : Type 1} → statement M
 level-spec =
@@ -63,11 +137,22 @@ level-spec =
     (tie.spec
     Inv-loop
     μ-loop
-    level-base-requires
-    loop-holds
-    level-x-requires
+    step-rows-requires
     join-rows-requires
+    sub-rank-of
+    rank-of-requires
+    upto-requires
+    partner-rows-requires
+    join-rows-requires-2
+    loop-holds
+    mul-largest
+    array-read-largest
+    largest-requires
+    rank-of-requires-2
+    stamp-requires
+    join-rows-requires-3
     add-k
     loop-less
     loop-again
+    same-length
     returns)

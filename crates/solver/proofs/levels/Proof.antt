@@ -1,54 +1,74 @@
--- At the loop's head the rows are those of the level that so many turns give; a level that is the one before is the last.
-use mathlib.Core.Path.{_≡_, refl, sym, _∙_}
-use Prim.Native.Nat.{_-_, _≤_}
+-- At the loop's head the rows are those of level l, and its pairs have their ranks; where a level is the one before, all ranks are there.
+use mathlib.Core.Path.{_≡_, refl, sym, ap, _∙_}
+use Prim.Native.Nat.{ℕ, _+_, _*_, _-_, _≤_}
 use native.Mathlib.Omega.{arith}
-use Rattle.machine.specs.Machines.{pairs}
+use borrow.Author.Needs.{needs}
+use Rattle.machine.specs.Game.{level}
+use Rattle.machine.specs.Machines.{setsC, pairs}
 use Rattle.machine.specs.WellFormedLaws.{WellPair, well-pair, pairs-small}
-use Rattle.solver.specs.LevelRowsLaws.{Rising, rising-start, rising-turn, rising-stop, rising-out}
+use Rattle.rows.specs.Rows.{rowsOf, pairsIn}
+use Rattle.solver.specs.Ranking.{RankedTo}
+use Rattle.solver.specs.RankRowsLaws.{ranked-none}
+use Rattle.solver.specs.LevelLaws.{ranked-trans, ranked-self, ranked-at, levels-start, levels-stop, levels-out}
 use Rattle.solver.proofs.levels.Statement.{statement}
 use Rattle.solver.proofs.levels.Tie as tie
 
 abbrev Inv-loop : tie.InvT-loop
-Inv-loop p matched goals nc na y₀ counter₀ end y counter = (end ≡ pairs p) × Rising p goals end counter y
+Inv-loop p matched dependents predecessors goals part₀ nc na y₀ l₀ l-end part y l =
+    ((l-end ≡ pairs p) × (l ≤ l-end)) × ((y ≡ rowsOf (level p (pairsIn p goals) l)) × RankedTo p (pairsIn p goals) part₀ (l * setsC p) part)
 
 abbrev μ-loop : tie.MeasureT-loop
-μ-loop p matched goals nc na y₀ counter₀ end y counter = end - counter
+μ-loop p matched dependents predecessors goals part₀ nc na y₀ l₀ l-end part y l = l-end - l
 
 well : (c : tie.Start Inv-loop μ-loop) → WellPair (c .args .p)
-well c = well-pair (c .args .p) (c .pre .0)
+well c = well-pair (c .args .p) (c .pre .0 .0 .well)
 
--- the turn, from where the next level is compared; and the entry, from its head
-abbrev inside : tie.After-same-rows Inv-loop μ-loop → tie.In-loop Inv-loop μ-loop
-inside c = c .before .before .before .before .before
-
+-- the entry, from the loop's head; the turn, from where the next level is compared, and its level
 abbrev entry : tie.At-loop Inv-loop μ-loop → tie.Start Inv-loop μ-loop
-entry c = c .before .before .before
+entry c = c .before .before .before .before
 
-small : (c : tie.At-loop Inv-loop μ-loop) → pairs (entry c .args .p) ≤ 4096
-small c = pairs-small (entry c .args .p) (well (entry c))
+abbrev inside : tie.After-same-rows Inv-loop μ-loop → tie.In-loop Inv-loop μ-loop
+inside c = c .before .before .before .before .before .before .before .before
 
-mul-end : tie.Need-mul-end Inv-loop μ-loop
-mul-end c = let s = c .before .before in omega (arith, pairs-small (s .args .p) (well s))
+abbrev next : tie.After-same-rows Inv-loop μ-loop → tie.After-level Inv-loop μ-loop
+next c = c .before .before .before .before .before
+
+mul-l-end : tie.Need-mul-l-end Inv-loop μ-loop
+mul-l-end c = let s = c .before .before .before in omega (arith, pairs-small (s .args .p) (well s))
 
 loop-holds : tie.Need-loop-holds Inv-loop μ-loop
-loop-holds c = let s = c .before .before in (refl, rising-start (s .args .p) (well s) (s .args .goals .now))
+loop-holds c =
+    let s = c .before .before .before in
+    ((refl, omega arith), (levels-start (s .pre .0 .0) (s .pre .0 .1), ranked-at (omega arith) (ranked-none (s .args .p) (well s) _ (s .pre .0 .1 .only-matched) (s .pre .1))))
 
 level-requires : tie.Need-level-requires Inv-loop μ-loop
-level-requires c κs = c .before .before .before .before .before .pre
+level-requires c κs =
+    let h = c .before .before .before in
+    let s = entry h in
+    (s .pre .0, (omega (arith, h .loop .inv .0 .0, c .before .before .loop-test .taken), (h .loop .inv .1 .0, ranked-self (h .loop .inv .1 .1))))
 
 same-rows-requires : tie.Need-same-rows-requires Inv-loop μ-loop
-same-rows-requires c κs = well (entry (c .before .before .before .before .before)) .concrete .states-high
+same-rows-requires c κs = search needs
+
+same-length : tie.Need-same-length Inv-loop μ-loop
+same-length c =
+    let b = c .before in
+    next b .level .ensures .1 .bounded .long ∙ sym (entry (inside b .before) .pre .1 .long)
 
 returns : tie.Need-returns Inv-loop μ-loop
 returns c =
     let b = c .before in
     let h = inside b .before in
     let s = entry h in
-    rising-stop (s .args .p) (well s) (s .args .goals .now) (h .loop .inv .1) (b .before .before .before .level .ensures) (h .loop .inv .0)
-    (sym (b .same-rows .ensures) ∙ c .if1 .taken)
+    let n = next b .level .ensures in
+    levels-stop (s .pre .0 .0) (s .pre .0 .1) (omega (arith, h .loop .inv .0 .0, inside b .loop-test .taken)) (h .loop .inv .1 .0) (n .0) (sym (b .same-rows .ensures) ∙ c .if1 .taken)
+    (ranked-trans (h .loop .inv .1 .1) (n .1))
 
-add-counter : tie.Need-add-counter Inv-loop μ-loop
-add-counter c = let i = inside (c .before) in omega (arith, i .loop-test .taken, small (i .before))
+add-l : tie.Need-add-l Inv-loop μ-loop
+add-l c =
+    let i = inside (c .before) in
+    let s = entry (i .before) in
+    omega (arith, i .before .loop .inv .0 .0, i .loop-test .taken, pairs-small (s .args .p) (well s))
 
 loop-less : tie.Need-loop-less Inv-loop μ-loop
 loop-less c = omega (arith, inside (c .before) .loop-test .taken)
@@ -57,17 +77,18 @@ loop-again : tie.Need-loop-again Inv-loop μ-loop
 loop-again c =
     let b = c .before in
     let h = inside b .before in
-    let s = entry h in (
-      refl,
-      rising-turn (s .args .p) (well s) (s .args .goals .now) (h .loop .inv .1) (b .before .before .before .level .ensures) (inside b .loop-test .taken)
-          (sym (b .same-rows .ensures) ∙ c .if1 .left),
-    )
+    let n = next b .level .ensures in
+    ((h .loop .inv .0 .0, omega (arith, inside b .loop-test .taken)), (n .0, ranked-trans (h .loop .inv .1 .1) (n .1)))
+
+same-length-2 : tie.Need-same-length-2 Inv-loop μ-loop
+same-length-2 c = let h = c .before in h .loop .inv .1 .1 .bounded .long ∙ sym (entry h .pre .1 .long)
 
 returns-2 : tie.Need-returns-2 Inv-loop μ-loop
 returns-2 c =
     let h = c .before in
     let s = entry h in
-    rising-out (s .args .p) (well s) (s .args .goals .now) (h .loop .inv .1) (h .loop .inv .0) (c .loop-test .left)
+    let e : h .loop .l ≡ pairs (s .args .p) = omega (arith, h .loop .inv .0 .0, h .loop .inv .0 .1, c .loop-test .left) in
+    (levels-out (s .pre .0 .0) (s .pre .0 .1) e (h .loop .inv .1 .0), ranked-at (ap (λ (n : ℕ). n * setsC (s .args .p)) e) (h .loop .inv .1 .1))
 
 pub levels-spec : {M : Type 1} → statement M
 levels-spec =
@@ -75,12 +96,14 @@ levels-spec =
     (tie.spec
     Inv-loop
     μ-loop
-    mul-end
+    mul-l-end
     loop-holds
     level-requires
     same-rows-requires
+    same-length
     returns
-    add-counter
+    add-l
     loop-less
     loop-again
+    same-length-2
     returns-2)

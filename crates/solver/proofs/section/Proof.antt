@@ -1,69 +1,35 @@
--- At the loop's head all earlier rows are the section's.
-use mathlib.Core.Path.{_≡_, refl}
-use Prim.Native.Nat.{_+_, _*_, _-_, _≤_}
-use native.Mathlib.Omega.{arith}
-use lib.ListN.{getD, replicate}
+-- The pairs of the levels have their ranks, and what else was covered becomes blank.
+use mathlib.Core.Path.{_≡_, sym, ap, ap₂, _∙_}
+use mathlib.Core.List.{List}
 use borrow.Author.Needs.{needs}
-use Rattle.mask.specs.Tables.{front}
-use Rattle.mask.specs.FrontLaws.{front-none, front-turn, front-all}
-use Rattle.solver.specs.Rows.{sectionOf}
+use Rattle.machine.specs.WellFormedLaws.{WellPair, well-pair}
+use Rattle.solver.specs.LevelLaws.{section-done, covered-small}
 use Rattle.solver.proofs.section.Statement.{statement}
 use Rattle.solver.proofs.section.Tie as tie
 
-abbrev Inv-loop : tie.InvT-loop
-Inv-loop family j out₀ c₀ out c = (c ≤ 64) × (out ≡ front c (λ k. getD family (j * 64 + k) 0) (replicate 64 0))
+well : (c : tie.Start) → WellPair (c .args .p)
+well c = well-pair (c .args .p) (c .pre .0 .0 .well)
 
-abbrev μ-loop : tie.MeasureT-loop
-μ-loop family j out₀ c₀ out c = 64 - c
+levels-requires : tie.Need-levels-requires
+levels-requires c κs = let s = c .before .before .before .before in (s .pre .0, s .pre .1 .0)
 
-loop-holds : tie.Need-loop-holds Inv-loop μ-loop
-loop-holds c = (omega arith, front-none _ _)
+stamp-requires : tie.Need-stamp-requires
+stamp-requires c κs =
+    let s = c .before .before .before .before .before .before .before .before .before in
+    let w = well s in
+    ((w .concrete .states-high, w .abstraction .states-high), (c .before .before .before .before .levels .ensures .1 .bounded .long, covered-small (s .pre .0 .0) (s .pre .0 .1) (s .pre .1 .0) (s .pre .1 .1)))
 
-mul-out : tie.Need-mul-out Inv-loop μ-loop
-mul-out c = search needs
+ranked : tie.Need-returns
+ranked c =
+    let s = c .before .before .before .before .before .before .before .before .before .before .before .before in
+    let l = c .before .before .before .before .before .before .before .levels .ensures in
+    (l .0, section-done (s .pre .0 .0) (s .pre .0 .1) (s .pre .1 .0) (s .pre .1 .1) (l .0) (l .1) (c .before .before .stamp .ensures))
 
-add-out : tie.Need-add-out Inv-loop μ-loop
-add-out c = search needs
+same-length : tie.Need-same-length
+same-length c = ranked c .1 .long ∙ sym (c .before .before .before .before .before .before .before .before .before .before .before .before .pre .1 .0 .long)
 
-mul-out-2 : tie.Need-mul-out-2 Inv-loop μ-loop
-mul-out-2 c = search needs
-
-element-copy-out-out : tie.Need-element-copy-out-out Inv-loop μ-loop
-element-copy-out-out c = search needs
-
-mul-out-3 : tie.Need-mul-out-3 Inv-loop μ-loop
-mul-out-3 c = search needs
-
-array-write-out : tie.Need-array-write-out Inv-loop μ-loop
-array-write-out c = search needs
-
-add-c : tie.Need-add-c Inv-loop μ-loop
-add-c c = search needs
-
-loop-less : tie.Need-loop-less Inv-loop μ-loop
-loop-less c = search needs
-
-loop-again : tie.Need-loop-again Inv-loop μ-loop
-loop-again c = (omega arith, front-turn _ _ (c .before .before .loop .inv .1) (omega arith) refl)
-
-returns : tie.Need-returns Inv-loop μ-loop
-unfolding sectionOf
-returns c = front-all _ _ (c .before .loop .inv .1) (omega arith)
+returns : tie.Need-returns
+returns = ranked
 
 pub section-spec : {M : Type 1} → statement M
-section-spec =
-    tie.close
-    (tie.spec
-    Inv-loop
-    μ-loop
-    loop-holds
-    mul-out
-    add-out
-    mul-out-2
-    element-copy-out-out
-    mul-out-3
-    array-write-out
-    add-c
-    loop-less
-    loop-again
-    returns)
+section-spec = tie.close (tie.spec levels-requires stamp-requires same-length returns)

@@ -4,7 +4,7 @@ use Prim.Native.Nat.{ℕ, _+_, _*_, _-_, _≤_}
 use native.Mathlib.Omega.{arith}
 use lib.ListN.{length, take, drop}
 use borrow.Author.Needs.{needs}
-use Rattle.solver.specs.Rows.{stampRow}
+use Rattle.solver.specs.Entries.{stampRow}
 use Rattle.solver.specs.StampLaws.{Stamped, stamped-start, stamped-turn, stamped-done, row-fits, cut-long, without-lt}
 use Rattle.solver.proofs.stamp.Statement.{statement}
 use Rattle.solver.proofs.stamp.Tie as tie

@@ -4,42 +4,69 @@ use mathlib.Core.Path.{_≡_, ap, _∙_}
 use Prim.Native.Nat.{ℕ, _-_, _≤_, _<_}
 use native.Mathlib.Omega.{arith}
 use lib.ListN.{length}
+use borrow.Author.Needs.{needs}
 use Rattle.mask.specs.Tables.{table}
 use Rattle.machine.specs.Machines.{setsA}
+use Rattle.machine.specs.StepLaws.{next-lt}
 use Rattle.machine.specs.WellFormedLaws.{WellPair, well-pair}
 use Rattle.machine.specs.Game.{goals, levels}
-use Rattle.solver.specs.Rows.{flatOf, familyIn, putSection}
-use Rattle.solver.specs.FamilyRowsLaws.{flat-length, flat-none, turn-more, turn-all}
+use Rattle.rows.specs.Rows.{rowsOf}
+use Rattle.solver.specs.Families.{flatOf, familyIn, putSection}
+use Rattle.solver.specs.FamilyRowsLaws.{flat-length, flat-none, goals-done, goals-hold, turn-more, turn-all}
 use Rattle.solver.proofs.turn.Statement.{statement}
 use Rattle.solver.proofs.turn.Tie as tie
 
 abbrev Inv-loop : tie.InvT-loop
-Inv-loop p matched family n out₀ j₀ out j = (j ≤ setsA p) × (out ≡ flatOf (table j (λ i. levels p (goals p (familyIn p family) i))))
+Inv-loop p matched dependents predecessors family n out₀ j₀ out j = (j ≤ setsA p) × (out ≡ flatOf (table j (λ i. levels p (goals p (familyIn p family) i))))
 
 abbrev μ-loop : tie.MeasureT-loop
-μ-loop p matched family n out₀ j₀ out j = n - j
+μ-loop p matched dependents predecessors family n out₀ j₀ out j = n - j
 
 well : (c : tie.At-loop Inv-loop μ-loop) → WellPair (c .before .before .args .p)
-well c = let s = c .before .before in well-pair (s .args .p) (s .pre .0)
+well c = let s = c .before .before in well-pair (s .args .p) (s .pre .well)
 
 -- the turn, from its end
 abbrev inside : tie.After-put-section Inv-loop μ-loop → tie.In-loop Inv-loop μ-loop
-inside c = c .before .before .before .before .before .before
+inside c = c .before .before .before .before .before .before .before .before .before
 
 few : (c : tie.In-loop Inv-loop μ-loop) → c .before .loop .j < 7
 few c = omega (arith, c .loop-test .taken, well (c .before) .abstraction .sets-high)
 
+-- the goals of the section
+goals-are : (c : tie.After-goals Inv-loop μ-loop) →
+    let h = c .before .before .before .before .before in
+    let x = h .before .before .args in
+    c .goals .result ≡ rowsOf (goals (x .p) (familyIn (x .p) (x .family .now)) (h .loop .j))
+goals-are c =
+    let h = c .before .before .before .before .before in
+    let s = h .before .before in
+    goals-done (s .args .p) (well h) (s .args .family .now) (h .loop .j) (c .before .before .before .before .loop-test .taken) (s .pre .matched-are) (s .pre .predecessors-are)
+    (c .before .before .before .next-section .ensures) (c .before .before .section-rows .ensures) (c .goals .ensures)
+
 loop-holds : tie.Need-loop-holds Inv-loop μ-loop
 loop-holds c = (omega arith, flat-none _)
 
-goals-requires : tie.Need-goals-requires Inv-loop μ-loop
-goals-requires c κs = let s = c .before .before .before in (s .pre .0, (s .pre .1, c .loop-test .taken))
+next-section-requires : tie.Need-next-section-requires Inv-loop μ-loop
+next-section-requires c κs = search needs
 
-levels-requires : tie.Need-levels-requires Inv-loop μ-loop
-levels-requires c κs = c .before .before .before .before .before .pre
+section-rows-requires : tie.Need-section-rows-requires Inv-loop μ-loop
+section-rows-requires c κs =
+    let i = c .before in
+    let p = i .before .before .before .args .p in
+    omega (arith, c .next-section .ensures, next-lt (setsA p) (i .before .loop .j) (i .loop-test .taken), well (i .before) .abstraction .sets-high)
+
+goals-requires : tie.Need-goals-requires Inv-loop μ-loop
+goals-requires c κs = let h = c .before .before .before .before in (h .before .before .pre .well, c .before .before .before .loop-test .taken)
+
+levels-afresh-requires : tie.Need-levels-afresh-requires Inv-loop μ-loop
+levels-afresh-requires c κs =
+    let g = c .before in
+    let h = g .before .before .before .before .before in
+    let s = h .before .before in
+    (s .pre, goals-hold (s .args .p) (well h) (s .args .family .now) (h .loop .j) (goals-are g))
 
 put-section-requires : tie.Need-put-section-requires Inv-loop μ-loop
-put-section-requires c κs = let i = c .before .before .before .before .before in (few i, ap length (i .before .loop .inv .1) ∙ flat-length _)
+put-section-requires c κs = let h = c .before .before .before .before .before .before .before .before .before in (few (c .before .before .before .before .before .before .before .before), ap length (h .loop .inv .1) ∙ flat-length _)
 
 add-j : tie.Need-add-j Inv-loop μ-loop
 add-j c = omega (arith, few (inside c))
@@ -52,10 +79,10 @@ loop-again c =
     let i = inside c in
     let h = i .before in
     let x = h .before .before .args in
-    let s = c .before .before .before .levels in (
+    let s = c .before .before .before .levels-afresh in (
       omega (arith, i .loop-test .taken),
       c .put-section .ensures ∙ ap (λ (F : List ℕ). putSection F (h .loop .j) (s .result)) (h .loop .inv .1)
-          ∙ turn-more (x .p) (well h) (x .family .now) (h .loop .j) (i .loop-test .taken) (c .before .before .before .before .before .goals .ensures) (s .ensures),
+          ∙ turn-more (x .p) (well h) (x .family .now) (h .loop .j) (i .loop-test .taken) (goals-are (c .before .before .before .before .before)) (s .ensures),
     )
 
 returns : tie.Need-returns Inv-loop μ-loop
@@ -68,8 +95,10 @@ turn-spec =
     Inv-loop
     μ-loop
     loop-holds
+    next-section-requires
+    section-rows-requires
     goals-requires
-    levels-requires
+    levels-afresh-requires
     put-section-requires
     add-j
     loop-less

@@ -1,0 +1,5 @@
+-- definitions
+pub mod Rows
+-- laws
+pub mod RowsLaws
+pub mod SetRowsLaws
