@@ -84,6 +84,8 @@ same 'console large 59391' 'larger than 59391: 59392' "$("$work/console" samples
 same 'console large 59392' 100 "$("$work/console" samples/large.dom 59392)"
 head -c 512 samples/large.dom >"$work/front"
 same 'console front 4096' 'larger than 4096: 59392' "$("$work/console" "$work/front" 4096)"
+# and no more than its first block: the other 115 are left in the pipe
+same 'console pipe 4096' 58880 "$(cat samples/large.dom | { "$work/console" /dev/stdin 4096 >"$work/log"; wc -c; } | tr -d ' ')"
 from odd case-05; printf x >>"$file"; expect 2 "$file"
 same 'console letters 0' 4 "$("$work/console" "$work/letters" 0)"
 

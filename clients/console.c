@@ -45,8 +45,14 @@ int main(int argc, char **argv)
         return 1;
     }
     FILE *file = fopen(argv[1], "rb");
-    size_t count = file == NULL ? 0 : fread(block, 1, sizeof block, file);
-    if (file == NULL || ferror(file)) {
+    if (file == NULL) {
+        perror(argv[1]);
+        return 1;
+    }
+    /* only one block is read before the size is known: a buffered file would fetch several at the first call, so it has no buffer */
+    setvbuf(file, NULL, _IONBF, 0);
+    size_t count = fread(block, 1, sizeof block, file);
+    if (ferror(file)) {
         perror(argv[1]);
         return 1;
     }
