@@ -1,4 +1,5 @@
-//! A plain implementation of reader, writer, check, player and solver, from the documents alone. It is the measure for speed and the other opinion on results.
+//! A plain implementation of reader, writer, check and player, from the documents alone. It is the measure for speed and the other opinion on results.
+//! The two plain solvers stand in nested.rs and sweeps.rs.
 
 #[derive(Clone, Copy, PartialEq, Eq, Debug)]
 pub struct Machine {
@@ -14,6 +15,9 @@ pub const EMPTY: Machine = Machine { states: 0, sets: 0, start: 0, observations:
 pub const ROOM: usize = 28672;
 pub const BLANK: u16 = 65535;
 pub const FILE_ROOM: usize = 59392;
+
+// a set of pairs: for each concrete state the mask of the abstract states beside it
+pub type Set = [u64; 64];
 
 #[derive(Clone, Copy, PartialEq, Eq, Debug)]
 pub struct Refusal(pub u32, pub usize, pub usize, pub usize);
@@ -48,7 +52,7 @@ pub fn bits(mut m: u64) -> impl Iterator<Item = usize> {
     })
 }
 
-fn full(n: usize) -> u64 {
+pub fn full(n: usize) -> u64 {
     if n >= 64 { u64::MAX } else { (1 << n) - 1 }
 }
 
@@ -204,7 +208,7 @@ pub fn write(c: &Machine, a: &Machine, table: Option<&[u16]>, out: &mut [u8]) ->
 
 // ---- the check
 
-fn matched(c: &Machine, a: &Machine) -> [u64; 64] {
+pub fn matched(c: &Machine, a: &Machine) -> Set {
     let mut out = [0u64; 64];
     for s in 0..c.states {
         for t in 0..a.states {
@@ -351,129 +355,9 @@ pub fn play_file(bytes: &[u8], stem: &[u8], cycle: &[u8], run: &mut [u8]) -> Res
     }
 }
 
-// ---- the solver
+// ---- a show in, the same show with a solver's table out
 
-type Set = [u64; 64];
-
-struct Game<'a> {
-    c: &'a Machine,
-    a: &'a Machine,
-    matched: Set,
-}
-
-impl Game<'_> {
-    #[inline(always)]
-    fn steps(&self, s: &Set) -> Set {
-        let mut part = [0u64; 64];
-        for d in 0..self.c.states {
-            let mut m = 0;
-            for u in 0..self.a.states {
-                if self.a.successors[u] & s[d] != 0 {
-                    m |= 1 << u;
-                }
-            }
-            part[d] = m;
-        }
-        let mut out = [0u64; 64];
-        for x in 0..self.c.states {
-            let mut m = full(self.a.states);
-            for d in bits(self.c.successors[x]) {
-                m &= part[d];
-            }
-            out[x] = m;
-        }
-        out
-    }
-
-    fn goals(&self, j: usize, next: &Set) -> Set {
-        let s = self.steps(next);
-        let mut out = [0u64; 64];
-        for x in 0..self.c.states {
-            out[x] = self.matched[x] & self.a.fairness[j] & s[x];
-        }
-        out
-    }
-
-    fn x(&self, k: usize, base: &Set) -> Set {
-        let mut x = self.matched;
-        loop {
-            let s = self.steps(&x);
-            let mut y = [0u64; 64];
-            for c in 0..self.c.states {
-                let stay = if self.c.fairness[k] >> c & 1 == 0 { s[c] } else { 0 };
-                y[c] = self.matched[c] & (base[c] | stay);
-            }
-            if y == x {
-                return x;
-            }
-            x = y;
-        }
-    }
-
-    fn levels(&self, goals: &Set, mut visit: impl FnMut(usize, usize, &Set)) -> Set {
-        let mut below = [0u64; 64];
-        let mut l = 1;
-        loop {
-            let mut base = self.steps(&below);
-            for c in 0..64 {
-                base[c] |= goals[c];
-            }
-            let mut next = [0u64; 64];
-            for k in 0..self.c.sets {
-                let x = self.x(k, &base);
-                visit(l, k, &x);
-                for c in 0..64 {
-                    next[c] |= x[c];
-                }
-            }
-            if next == below {
-                return below;
-            }
-            below = next;
-            l += 1;
-        }
-    }
-}
-
-pub fn solve(c: &Machine, a: &Machine, t: &mut [u16]) {
-    let g = Game { c, a, matched: matched(c, a) };
-    let n = a.sets;
-    let mut z = [g.matched; 7];
-    loop {
-        let mut w = z;
-        for j in 0..n {
-            let goals = g.goals(j, &z[(j + 1) % n]);
-            w[j] = g.levels(&goals, |_, _, _| ());
-        }
-        if w == z {
-            break;
-        }
-        z = w;
-    }
-    for j in 0..n {
-        let goals = g.goals(j, &z[(j + 1) % n]);
-        let mut rank = [[BLANK; 64]; 64];
-        for s in 0..c.states {
-            for u in bits(goals[s]) {
-                rank[s][u] = 0;
-            }
-        }
-        let mut done = goals;
-        g.levels(&goals, |l, k, x| {
-            for s in 0..c.states {
-                for u in bits(x[s] & !done[s]) {
-                    rank[s][u] = ((l - 1) * c.sets + k + 1) as u16;
-                }
-                done[s] |= x[s];
-            }
-        });
-        for s in 0..c.states {
-            t[(j * c.states + s) * a.states..(j * c.states + s + 1) * a.states].copy_from_slice(&rank[s][..a.states]);
-        }
-    }
-}
-
-pub fn solve_file(bytes: &[u8], out: &mut [u8]) -> Result<usize, Refusal> {
+pub fn solve_file(solve: fn(&Machine, &Machine, &mut [u16]), bytes: &[u8], out: &mut [u8]) -> Result<usize, Refusal> {
     let mut t = [0u16; ROOM];
     let (c, a, _) = read(bytes, &mut t)?;
     solve(&c, &a, &mut t);

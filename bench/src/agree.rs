@@ -1,0 +1,161 @@
+//! Compares results of the proved library with those of the plain implementation.
+use crate::pairs::Random;
+use crate::plain::{self, Answer, Machine, FILE_ROOM};
+use crate::{nested, proved, sweeps};
+
+// walks of a machine from a start state, of a few states, closed where a state comes back; some are damaged
+fn lasso(r: &mut Random, c: &Machine) -> (Vec<u8>, Vec<u8>) {
+    let pick = |r: &mut Random, m: u64| plain::bits(m).nth(r.below(m.count_ones() as usize)).unwrap_or(0);
+    let mut path = vec![pick(r, c.start) as u8];
+    let length = 1 + r.below(12);
+    loop {
+        let next = pick(r, c.successors[*path.last().unwrap() as usize]) as u8;
+        let seen = path.iter().position(|&s| s == next);
+        if let (Some(i), true) = (seen, path.len() >= length) {
+            let mut cycle = path.split_off(i);
+            if r.below(8) == 0 {
+                let at = r.below(cycle.len());
+                cycle[at] ^= 1 << r.below(8);
+            }
+            return (path, cycle);
+        }
+        if path.len() == 64 {
+            return (path, vec![]);
+        }
+        path.push(next);
+    }
+}
+
+pub fn file(c: &Machine, a: &Machine, table: Option<&[u16]>) -> Vec<u8> {
+    let mut out = vec![0u8; FILE_ROOM];
+    let n = plain::write(c, a, table, &mut out);
+    out.truncate(n);
+    out
+}
+
+// one block's check made right again
+fn mend(f: &mut [u8], block: usize) {
+    let b = &mut f[512 * block..512 * block + 512];
+    let s: u32 = (0..510).map(|i| (i as u32 + 1) * b[i] as u32).sum::<u32>() % 65521;
+    b[510] = (s % 256) as u8;
+    b[511] = (s / 256) as u8;
+}
+
+// the same answer, and by all three solvers the same file, or the same refusal and a buffer as it was
+fn compare(f: &[u8], counts: &mut [usize; 4]) {
+    let ours = proved::console(f);
+    let theirs = plain::verdict(f);
+    assert_eq!(ours, theirs.number(), "console");
+    let mut x = vec![0xA5u8; FILE_ROOM];
+    let a = proved::solve(f, &mut x);
+    for solve in [sweeps::solve, nested::solve] {
+        let mut y = vec![0xA5u8; FILE_ROOM];
+        assert_eq!(a, plain::solve_file(solve, f, &mut y), "solve");
+        assert!(x == y, "solved file");
+    }
+    if a.is_err() {
+        assert!(x.iter().all(|&v| v == 0xA5), "a refusal changed the buffer");
+    }
+    counts[match theirs {
+        Answer::Carried(_) => 0,
+        Answer::NotCarried(..) => 1,
+        Answer::NoTable => 2,
+        Answer::Refused(_) => 3,
+    }] += 1;
+}
+
+// the same run, or the same refusal and a buffer as it was
+fn compare_play(f: &[u8], stem: &[u8], cycle: &[u8], counts: &mut [usize; 3]) {
+    let mut x = vec![0xA5u8; plain::ROOM];
+    let mut y = vec![0xA5u8; plain::ROOM];
+    let a = proved::play(f, stem, cycle, &mut x);
+    let b = plain::play_file(f, stem, cycle, &mut y);
+    assert_eq!(a, b, "play");
+    match b {
+        Ok(Some((s, q))) => {
+            assert!(x[..s + q] == y[..s + q], "run");
+            assert!(x[s + q..].iter().all(|&v| v == 0xA5), "past the run");
+        }
+        _ => assert!(x.iter().all(|&v| v == 0xA5), "no run, and the buffer changed"),
+    }
+    counts[match b {
+        Ok(Some(_)) => 0,
+        Ok(None) => 1,
+        Err(_) => 2,
+    }] += 1;
+}
+
+pub fn on_files(r: &mut Random) {
+    let mut counts = [0usize; 4];
+    let mut plays = [0usize; 3];
+    for round in 0..3000 {
+        let (c, a) = r.pair(if round % 50 == 0 { 64 } else { 7 });
+        let mut t = vec![0u16; plain::ROOM];
+        nested::solve(&c, &a, &mut t);
+        let mut f = match round % 4 {
+            0 => file(&c, &a, None),
+            _ => file(&c, &a, Some(&t)),
+        };
+        compare(&f, &mut counts);
+        for _ in 0..4 {
+            let (stem, cycle) = lasso(r, &c);
+            compare_play(&f, &stem, &cycle, &mut plays);
+        }
+        // an entry, a byte or a length is damaged
+        let n = a.sets * c.states * a.states;
+        t[r.below(n)] = [0, 1, 2, 65535, 9][r.below(5)];
+        let altered = file(&c, &a, Some(&t));
+        compare(&altered, &mut counts);
+        let (stem, cycle) = lasso(r, &c);
+        compare_play(&altered, &stem, &cycle, &mut plays);
+        compare_play(&f, &stem, &[], &mut plays);
+        compare_play(&f, &stem, &[0; 65], &mut plays);
+        let at = r.below(f.len());
+        f[at] ^= 1 << r.below(8);
+        compare(&f, &mut counts);
+        compare_play(&f, &stem, &cycle, &mut plays);
+        mend(&mut f, at / 512);
+        compare(&f, &mut counts);
+        compare_play(&f, &stem, &cycle, &mut plays);
+        f.truncate(r.below(f.len()));
+        compare(&f, &mut counts);
+    }
+    println!("agreed: carried {}, not carried {}, no table {}, refused {}", counts[0], counts[1], counts[2], counts[3]);
+    println!("agreed on plays: run {}, no table {}, refused {}", plays[0], plays[1], plays[2]);
+}
+
+// the tables of two files with the same show, entry by entry; how many entries there are
+pub fn same_tables(ours: &[u8], theirs: &[u8]) -> usize {
+    let (mut x, mut y) = (vec![0u16; plain::ROOM], vec![0u16; plain::ROOM]);
+    let (c, a, table) = plain::read(ours, &mut x).expect("a file");
+    assert!(table, "no table");
+    assert_eq!(plain::read(theirs, &mut y), Ok((c, a, true)), "the show");
+    for j in 0..a.sets {
+        for s in 0..c.states {
+            for u in 0..a.states {
+                let at = (j * c.states + s) * a.states + u;
+                assert_eq!(x[at], y[at], "entry of section {}, pair ({s}, {u})", j + 1);
+            }
+        }
+    }
+    a.sets * c.states * a.states
+}
+
+// the proved solver's table of a show, beside that of each of the plain solvers
+pub fn compare_tables(c: &Machine, a: &Machine) -> usize {
+    let f = file(c, a, None);
+    let (mut x, mut y) = (vec![0u8; FILE_ROOM], vec![0u8; FILE_ROOM]);
+    let p = proved::solve(&f, &mut x).expect("a show that is taken");
+    let mut entries = 0;
+    for solve in [sweeps::solve, nested::solve] {
+        let q = plain::solve_file(solve, &f, &mut y).expect("a show that is taken");
+        entries = same_tables(&x[..p], &y[..q]);
+    }
+    entries
+}
+
+// the proved solver's tables beside those of both plain solvers
+pub fn on_pairs(name: &str, pairs: &[(Machine, Machine)]) {
+    let entries: usize = pairs.iter().map(|(c, a)| compare_tables(c, a)).sum();
+    println!("agreed on tables: {name}, entries {entries}");
+}
