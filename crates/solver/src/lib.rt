@@ -311,8 +311,8 @@ fn renew(
     let pairs = nc * na;
     let next = machine::next_section(n, j);
     let ahead = covered(nc, na, next, table);
-    let g = goals(p, matched, predecessors, &ahead, j);
     let old = covered(nc, na, j, table);
+    let g = goals(p, matched, predecessors, &ahead, j);
     let from = j * pairs;
     let to = from + pairs;
     let y = section(

@@ -43,7 +43,7 @@ join-rows-requires : tie.Need-join-rows-requires Inv-loop μ-loop
 join-rows-requires c κs = search needs
 
 sub-rank-of : tie.Need-sub-rank-of Inv-loop μ-loop
-sub-rank-of c = well (c .before .before .before .before .before .before .before .before) .concrete .sets-low
+sub-rank-of c = omega (arith, well (c .before .before .before .before .before .before .before .before) .concrete .sets-low)
 
 rank-of-requires : tie.Need-rank-of-requires Inv-loop μ-loop
 rank-of-requires c κs =
@@ -94,7 +94,8 @@ made c =
 rank-of-requires-2 : tie.Need-rank-of-requires-2 Inv-loop μ-loop
 rank-of-requires-2 c κs =
     let s = entry (head c) in
-    (well s .concrete .sets-high, (few s, omega (arith, c .before .before .before .before .before .before .loop-test .taken, well s .concrete .sets-high)))
+    let k = c .before .before .before .before .before .before .loop-test .taken in
+    (well s .concrete .sets-high, (omega (arith, few s, k, well s .concrete .sets-high), omega (arith, few s, k, well s .concrete .sets-high)))
 
 stamp-requires : tie.Need-stamp-requires Inv-loop μ-loop
 stamp-requires c κs =

@@ -40,15 +40,15 @@ covered-requires c κs =
     let f = fits s (n .result) (rw (n .ensures) (next-lt (setsA (s .args .p)) (s .args .j) (s .pre .1 .section))) in
     ((w .concrete .states-high, w .abstraction .states-high), (f .0, omega (arith, f .1, s .pre .1 .room)))
 
-goals-requires : tie.Need-goals-requires
-goals-requires c κs = let s = c .before .before .before .before .before .before .before in (s .pre .0 .well, s .pre .1 .section)
-
 covered-requires-2 : tie.Need-covered-requires-2
 covered-requires-2 c κs =
-    let s = c .before .before .before .before .before .before .before .before .before in
+    let s = c .before .before .before .before .before .before .before in
     let w = well s in
     let f = fits s (s .args .j) (s .pre .1 .section) in
     ((w .concrete .states-high, w .abstraction .states-high), (f .0, omega (arith, f .1, s .pre .1 .room)))
+
+goals-requires : tie.Need-goals-requires
+goals-requires c κs = let s = c .before .before .before .before .before .before .before .before .before in (s .pre .0 .well, s .pre .1 .section)
 
 mul-from : tie.Need-mul-from
 mul-from c = let s = c .before .before .before .before .before .before .before .before .before .before in omega (arith, fits s (s .args .j) (s .pre .1 .section))
@@ -68,28 +68,27 @@ part-section-start c = omega arith
 part-section-end : tie.Need-part-section-end
 part-section-end c = let s = c .before .before .before .before .before .before .before .before .before .before .before .before in omega (arith, fits s (s .args .j) (s .pre .1 .section), s .pre .1 .room)
 
--- the entry, from where the section's own set is known; what the goals and that set are, and the part that is lent
-abbrev entry : tie.After-covered2 → tie.Start
+-- the entry, from where the goals are known; what the goals and the section's own set are, and the part that is lent
+abbrev entry : tie.After-goals → tie.Start
 entry c = c .before .before .before .before .before .before .before .before .before .before
 
-goals-are : (c : tie.After-covered2) → c .before .before .goals .result ≡ rowsOf (goalsIn (entry c .args .p) (entry c .args .table .now) (entry c .args .j))
+goals-are : (c : tie.After-goals) → c .goals .result ≡ rowsOf (goalsIn (entry c .args .p) (entry c .args .table .now) (entry c .args .j))
 unfolding partOf
 goals-are c =
     let s = entry c in
-    let g = c .before .before in
-    goals-rows (s .args .p) (well s) (s .pre .1) (s .pre .0 .matched-are) (s .pre .0 .predecessors-are) (g .before .before .before .before .next-section .ensures) (g .before .before .covered .ensures) (g .goals .ensures)
+    goals-rows (s .args .p) (well s) (s .pre .1) (s .pre .0 .matched-are) (s .pre .0 .predecessors-are) (c .before .before .before .before .before .before .next-section .ensures) (c .before .before .before .before .covered .ensures) (c .goals .ensures)
 
-held : (c : tie.After-covered2) →
+held : (c : tie.After-goals) →
     let x = entry c .args in
-    let g = c .before .before .goals .result in
+    let g = c .goals .result in
     (pairsIn (x .p) g ≡ goalsIn (x .p) (x .table .now) (x .j)) × Holds (x .p) g
 held c = let s = entry c in goals-held (s .args .p) (well s) (s .pre .1) (goals-are c)
 
-old-is : (c : tie.After-covered2) → c .covered2 .result ≡ uptoRows (nC (entry c .args .p)) (nA (entry c .args .p)) (partOf (entry c .args .p) (entry c .args .table .now) (entry c .args .j)) (blank - 1)
+old-is : (c : tie.After-goals) → c .before .before .covered2 .result ≡ uptoRows (nC (entry c .args .p)) (nA (entry c .args .p)) (partOf (entry c .args .p) (entry c .args .table .now) (entry c .args .j)) (blank - 1)
 unfolding partOf
-old-is c = c .covered2 .ensures
+old-is c = c .before .before .covered2 .ensures
 
-part-is : (c : tie.After-covered2) →
+part-is : (c : tie.After-goals) →
     let x = entry c .args in
     let a = x .j * pairs (x .p) in
     take (a + pairs (x .p) - a) (drop a (x .table .now)) ≡ partOf (x .p) (x .table .now) (x .j)
@@ -135,8 +134,8 @@ renew-spec =
     mul-pairs
     next-section-requires
     covered-requires
-    goals-requires
     covered-requires-2
+    goals-requires
     mul-from
     add-to
     mul-section
