@@ -8,10 +8,10 @@ use native.Mathlib.Decide.{decLt}
 use native.Mathlib.Omega.{arith}
 use lib.Dec.{ltb}
 use lib.ListN.{getD, replicate}
-use lib.Bits.{bitAnd, bitOr, and-le-l, or-lt}
+use lib.Bits.{bitAnd, and-le-l}
 use lib.Pow.{pow-pos}
-use borrow.Author.Tests.{le-ltb, lt-ltb}
-use Rattle.mask.specs.Logic.{not, and, or}
+use borrow.Author.Tests.{lt-ltb}
+use Rattle.mask.specs.Logic.{and, or}
 use Rattle.mask.specs.LogicLaws.{both, clash, and-true-l, and-true-r, and-false-r}
 use Rattle.mask.specs.Bits.{hasBit}
 use Rattle.mask.specs.BitsLaws.{has-and, has-or, has-none}
@@ -21,14 +21,14 @@ use Rattle.mask.specs.Tables.{maskOf, table}
 use Rattle.mask.specs.TablesLaws.{table-at, table-past, table-cong, fill-done, maskOf-lt, maskOf-is, has-maskOf-at}
 use Rattle.mask.specs.FrontLaws.{zeros-at}
 use Rattle.machine.specs.declared.Pair.{Pair}
-use Rattle.machine.specs.Machines.{successors, moves, fairSet, inFairSet, matched, next, nC, nA, setsA, pairs}
+use Rattle.machine.specs.Machines.{successors, moves, fairSet, inFairSet, matched, next, nC, nA, setsA}
 use Rattle.machine.specs.Step.{partner, found, alike, steps}
 use Rattle.machine.specs.PartnerLaws.{partner-found}
 use Rattle.machine.specs.Observed.{matchedMasks}
 use Rattle.machine.specs.ObservedLaws.{matched-length, matched-at, row-out, has-matched, matched-small}
 use Rattle.machine.specs.WellFormedLaws.{WellPair}
-use Rattle.machine.specs.Game.{pairSet, mem, sameSet, allMatched, goals, inX, roundX, xOver}
-use Rattle.theory.specs.GameLaws.{Canonical, pairSet-cong, set-canonical, set-ext, same-of, same-within, same-holds}
+use Rattle.machine.specs.Game.{pairSet, mem, sameSet, allMatched, goals}
+use Rattle.theory.specs.GameLaws.{Canonical, pairSet-cong, set-ext, same-of, same-within, same-holds}
 use Rattle.rows.specs.Rows.{rowsOf, pairsIn, predecessorsOf, partnersOf, partnerRows, meetOf, stepRows, goalRows, joinRows, sameRows, abstractPredecessors, stepsOf}
 use Rattle.rows.specs.RowsLaws.{has-predecessor, no-predecessor, same-yes, same-at}
 

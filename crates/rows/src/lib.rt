@@ -2,8 +2,14 @@
 // all pairs at once. Every call is total: a count over 64 means 64, and any masks have a meaning.
 // Cost: the partners of a row are the union of the predecessors of its states, and a pair's step meets one row for each concrete move.
 ghost use mathlib.Core.Path.{_≡_};
-ghost use Prim.Native.Nat.{_<_, _^_, min};
+ghost use mathlib.Core.Bool.{cond};
+ghost use Prim.Native.Nat.{_<_, _≤_, _^_, min};
 ghost use lib.Bits.{bitOr};
+ghost use lib.ListN.{length};
+ghost use Rattle.mask.specs.Tables.{table};
+ghost use Rattle.machine.specs.Table.{blank};
+ghost use Rattle.rows.specs.Largest.{Known, Largest};
+ghost use Rattle.rows.specs.Entries.{rowUpto, uptoOf, without, stampRow, stampOf, sectionRows};
 ghost use Rattle.rows.specs.Rows.{moversOf, predecessorsOf, partnersOf, partnerRows, meetOf, stepRows, goalRows, joinRows, sameRows};
 
 // The count, 64 for one over 64.
@@ -137,4 +143,131 @@ pub fn same_rows(nc: usize, x: &[u64; 64], y: &[u64; 64]) -> bool
         }
     }
     true
+}
+
+// ---- The largest set within a start
+
+// What may be in a row of X: its base, and outside the set the states that step into X, by the partner rows of X.
+fn rule_row(moves: u64, reached: &[u64; 64], base: u64, inside: bool) -> u64
+    ensures { λ r. ⌜ r ≡ bitOr base (cond inside 0 (meetOf moves (now (reached .entry)))) ⌝ }
+{
+    let steps = if inside { 0 } else { meet(moves, reached) };
+    base | steps
+}
+
+// The largest set within the start that meets the rule of X. Rows are due while the rule may lower them: at first all, and then those that
+// move to a row that was lowered. The predecessors of concrete states and the partner rows of the start are handed in, since many calls share
+// them; of others than these the result is left open.
+pub fn largest(
+    nc: usize,
+    moves: &[u64; 64],
+    dependents: &[u64; 64],
+    predecessors: &[u64; 64],
+    base: &[u64; 64],
+    members: u64,
+    start: &[u64; 64],
+    first: &[u64; 64],
+) -> [u64; 64]
+    ensures { λ r. ⌜ (Known nc (now (moves .entry)) (now (dependents .entry)) (now (predecessors .entry)) (now (start .entry)) (now (first .entry)) → Largest nc (now (moves .entry)) (now (predecessors .entry)) (now (base .entry)) members (now (start .entry)) r) ⌝ }
+{
+    let mut x = *start;
+    let mut reached = *first;
+    let mut due = mask::full(nc);
+    while due != 0 {
+        let c = mask::lowest(due);
+        let old = x[c];
+        let row = old & rule_row(moves[c], &reached, base[c], mask::has(members, c));
+        due = mask::rest(due);
+        if row != old {
+            x[c] = row;
+            reached[c] = partners(predecessors, row);
+            due = joined(due, dependents[c]);
+        }
+    }
+    x
+}
+
+// ---- Entries
+
+// How many rows the entries have: nc where they are a section of nc by na pairs, of at most 64 by 64, and else none.
+fn section_rows(nc: usize, na: usize, entries: usize) -> usize
+    ensures { λ r. ⌜ r ≡ sectionRows nc na entries ⌝ }
+{
+    if 64 < nc {
+        return 0;
+    }
+    if 64 < na {
+        return 0;
+    }
+    if entries == nc * na { nc } else { 0 }
+}
+
+// The states whose entry in the row is at most the bound.
+fn row_upto(row: &[u16], bound: u16) -> u64
+    requires { ⌜ length (now row) ≤ 64 ⌝ }
+    ensures { λ r. ⌜ r ≡ rowUpto (now (row .entry)) bound ⌝ }
+{
+    let mut m: u64 = 0;
+    for a in 0..row.len() {
+        if row[a] <= bound {
+            m = mask::with(m, a);
+        }
+    }
+    m
+}
+
+// The pairs of a section whose entry is at most the bound; none where the entries are no section of nc by na.
+pub fn upto(nc: usize, na: usize, part: &[u16], bound: u16) -> [u64; 64]
+    ensures { λ r. ⌜ r ≡ uptoOf nc na (now (part .entry)) bound ⌝ }
+{
+    let mut out = [0u64; 64];
+    let end = section_rows(nc, na, part.len());
+    for c in 0..end {
+        let from = c * na;
+        let to = from + na;
+        out[c] = row_upto(&part[from..to], bound);
+    }
+    out
+}
+
+// Makes all entries blank.
+pub fn clear(part: &mut [u16])
+    ensures { λ _. ⌜ now (part .exit) ≡ table (length (now (part .entry))) (λ e. blank) ⌝ }
+{
+    for e in 0..part.len() {
+        part[e] = machine::BLANK;
+    }
+}
+
+// The states of x that are not in y.
+fn fresh(x: u64, y: u64) -> u64
+    ensures { λ r. ⌜ r ≡ without x y ⌝ }
+{
+    x ^ (x & y)
+}
+
+// Writes the entry v for each state of the row.
+fn stamp_row(row: u64, v: u16, part: &mut [u16])
+    ensures { λ _. ⌜ now (part .exit) ≡ stampRow row v (now (part .entry)) ⌝ }
+{
+    let mut left = row;
+    while left != 0 {
+        let a = mask::lowest(left);
+        if a < part.len() {
+            part[a] = v;
+        }
+        left = mask::rest(left);
+    }
+}
+
+// Writes the entry v for each pair of x that is not in y; nothing where the entries are no section of nc by na.
+pub fn stamp(nc: usize, na: usize, x: &[u64; 64], y: &[u64; 64], v: u16, part: &mut [u16])
+    ensures { λ _. ⌜ now (part .exit) ≡ stampOf nc na (now (x .entry)) (now (y .entry)) v (now (part .entry)) ⌝ }
+{
+    let end = section_rows(nc, na, part.len());
+    for c in 0..end {
+        let from = c * na;
+        let to = from + na;
+        stamp_row(fresh(x[c], y[c]), v, &mut part[from..to]);
+    }
 }

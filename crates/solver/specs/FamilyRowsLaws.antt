@@ -1,16 +1,13 @@
 -- Laws of families as rows: a section is taken out and put in, and a turn makes one section after the other.
-use mathlib.Core.Bool.{true, false}
 use mathlib.Core.List.{List, []}
 use mathlib.Core.Logic.{by-cases}
-use mathlib.Core.Path.{_≡_, refl, sym, ap, ap₂, _∙_}
+use mathlib.Core.Path.{_≡_, refl, sym, ap, _∙_}
 use Prim.Native.Nat.{ℕ, _+_, _*_, _/_, _%_, _≤_, _<_}
 use native.Mathlib.Decide.{decLt, ℕ-discrete}
 use native.Mathlib.Omega.{arith}
-use lib.Arith.{digits-lt, digits-div, digits-mod}
 use lib.ListN.{length, getD, set, replicate, length-set}
 use lib.Seq.{getD-set-same, getD-set-other}
 use borrow.Author.Tests.{eq-eqb, ne-eqb}
-use Rattle.mask.specs.BoundedLaws.{every-cong}
 use Rattle.mask.specs.Tables.{table}
 use Rattle.mask.specs.TablesLaws.{table-length, table-at, table-past, table-cong, fill-done}
 use Rattle.mask.specs.FrontLaws.{zeros-at}
@@ -19,9 +16,8 @@ use Rattle.machine.specs.Machines.{fairSet, next, nC, setsA}
 use Rattle.machine.specs.StepLaws.{next-lt}
 use Rattle.machine.specs.WellFormedLaws.{WellPair}
 use Rattle.machine.specs.Observed.{matchedMasks}
-use Rattle.machine.specs.Game.{allMatched, goals, levels, turn, firstFamily, sameFamily, family}
+use Rattle.machine.specs.Game.{goals, levels, turn}
 use Rattle.theory.specs.GameLaws.{set-canonical}
-use Rattle.theory.specs.FamilyLaws.{Tabled, turn-tabled, first-tabled}
 use Rattle.rows.specs.Rows.{rowsOf, pairsIn, goalRows, stepRows, abstractPredecessors}
 use Rattle.rows.specs.SetRowsLaws.{rows-at, set-back, goals-is}
 use Rattle.solver.specs.Ranking.{Holds}
@@ -57,18 +53,9 @@ module _ {F : List ℕ} {j : ℕ} {S : List ℕ} where
       (λ q. rw (ne-eqb (e / 64) j q) (by-cases (decLt e (j * 64)) (λ k. d .before e k) (λ k. d .after e (omega arith)))))
 
 -- ---- the rows of a family, and back
-pub flat-at : (Z : List (List ℕ)) (j c : ℕ) → j < 7 → c < 64 → getD (flatOf Z) (j * 64 + c) 0 ≡ getD (getD Z j []) c 0
-unfolding flatOf
-flat-at Z j c hj hc =
-    table-at 448 (λ e. getD (getD Z (e / 64) []) (e % 64) 0) (j * 64 + c) 0 (digits-lt hj hc) ∙ rw (digits-div j hc, digits-mod j hc)
-
 pub flat-length : (Z : List (List ℕ)) → length (flatOf Z) ≡ 448
 unfolding flatOf
 flat-length Z = table-length 448 _
-
-section-flat : (Z : List (List ℕ)) (j : ℕ) → j < 7 → sectionOf (flatOf Z) j ≡ rowsOf (getD Z j [])
-unfolding sectionOf rowsOf
-section-flat Z j h = table-cong 64 _ _ (λ c l. flat-at Z j c h l)
 
 -- the first j sections, and one more
 pub flat-none : (f : ℕ → List ℕ) → replicate 448 0 ≡ flatOf (table 0 f)
@@ -92,11 +79,6 @@ module _ (p : Pair) (w : WellPair p) where
   pub section-in : (F : List ℕ) (j : ℕ) → j < setsA p → pairsIn p (sectionOf F j) ≡ getD (familyIn p F) j []
   unfolding familyIn
   section-in F j h = sym (table-at (setsA p) (λ i. pairsIn p (sectionOf F i)) j [] h)
-
-  pub family-back : (Z : List (List ℕ)) → Tabled p Z → familyIn p (flatOf Z) ≡ Z
-  unfolding familyIn
-  family-back Z q =
-      table-cong (setsA p) _ _ (λ j h. ap (pairsIn p) (section-flat Z j (few j h)) ∙ set-back p w (getD Z j []) (q .canonical j h)) ∙ sym (q .listed)
 
   -- ---- a turn, section by section
   module _ (F : List ℕ) where

@@ -3,7 +3,7 @@ use mathlib.Core.Bool.{true, false}
 use mathlib.Core.List.{List, []}
 use mathlib.Core.Logic.{by-cases}
 use mathlib.Core.Path.{_≡_, refl, sym, ap, ap₂, _∙_}
-use Prim.Native.Nat.{ℕ, suc, _+_, _-_, _*_, _^_, _≤_, _<_}
+use Prim.Native.Nat.{ℕ, suc, _+_, _-_, _*_, _≤_, _<_}
 use native.Mathlib.Decide.{decLt}
 use native.Mathlib.Nat.{mul-le-mul-right}
 use native.Mathlib.Numerals.{add-one}
@@ -20,15 +20,15 @@ use Rattle.machine.specs.Game.{mem, sameSet, none, xOver, level, xSet, levels}
 use Rattle.machine.specs.Ranks.{tower}
 use Rattle.machine.specs.Table.{blank}
 use Rattle.theory.specs.Statements.{Within}
-use Rattle.theory.specs.GameLaws.{xOver-is, xOver-canonical, same-within, same-holds, level-zero, level-canonical, levels-eq, levels-canonical, levels-is, level-levels, level-suc, set-ext}
+use Rattle.theory.specs.GameLaws.{xOver-is, xOver-canonical, same-holds, level-zero, level-canonical, levels-eq, levels-canonical, levels-is, level-levels, level-suc, set-ext}
 use Rattle.theory.specs.TowerLaws.{tower-at}
 use Rattle.rows.specs.Rows.{rowsOf, pairsIn, joinRows, sameRows, stepRows, abstractPredecessors, stepsOf}
-use Rattle.rows.specs.SetRowsLaws.{mem-in, in-at, in-past, rows-small, rows-same, set-back, no-rows}
-use Rattle.solver.specs.Entries.{uptoRows, stampRows}
-use Rattle.solver.specs.Largest.{Largest}
+use Rattle.rows.specs.SetRowsLaws.{mem-in, in-at, in-past, rows-same, set-back, no-rows}
+use Rattle.rows.specs.Entries.{uptoRows, stampRows}
+use Rattle.rows.specs.Largest.{Largest}
 use Rattle.solver.specs.Ranking.{Prepared, Holds, seenUpto, Bounded, RankedTo, AreRanks, LevelMade}
 use Rattle.solver.specs.XLaws.{HoldsMatched, largest-is}
-use Rattle.solver.specs.RankRowsLaws.{places-small, upto-bit, upto-holds, ranked-done, seen-start, seen-more, seen-level, ranked-more, ranked-none, ranked-all, start-holds}
+use Rattle.solver.specs.RankRowsLaws.{places-small, upto-bit, upto-holds, ranked-done, seen-start, seen-more, seen-level, ranked-more, ranked-all, start-holds}
 
 -- no blank comes or goes over two parts either
 pub ranked-trans : {p : Pair} {G first mid part : List ℕ} {i n : ℕ} → RankedTo p G first i mid → RankedTo p G mid n part → RankedTo p G first n part
@@ -100,9 +100,6 @@ module _ {p : Pair} {matched dependents predecessors goals : List ℕ} (m : Prep
         inside : (c a : ℕ) → c < nC p → a < nA p → mem p (xOver p G (pairsIn p below) k) c a ≡ true → hasBit (getD start c 0) a ≡ true
         inside c a hc ha t = rw (es, top) (start-holds p W G (h .only-matched) l k hl hk d c a hc ha (rw below-is at t))
 
-    pub x-small : {x : List ℕ} (k : ℕ) → x ≡ rowsOf (X k) → (c : ℕ) → c < nC p → getD x c 0 < 2 ^ nA p
-    x-small k e c hc = rw e (rows-small p W (X k) (xOver-canonical p G (level p G l) k) c hc)
-
     tower-is : (k : ℕ) → k < setsC p → getD (tower p G) (l * setsC p + k) [] ≡ X k
     unfolding xSet
     tower-is k hk = tower-at p G l k hl hk
@@ -155,9 +152,6 @@ module _ {p : Pair} {matched dependents predecessors goals : List ℕ} (m : Prep
 
   -- ---- what was covered and is outside the levels becomes blank
   module _ {part covered : List ℕ} (b : Bounded p G part) (ec : covered ≡ uptoRows (nC p) (nA p) part (blank - 1)) where
-    pub covered-small : (c : ℕ) → c < nC p → getD covered c 0 < 2 ^ nA p
-    covered-small c hc = rw ec (upto-holds p W (blank - 1) (omega arith) b .small c hc)
-
     covered-set : covered ≡ rowsOf (pairsIn p covered)
     unfolding rowsOf
     covered-set =

@@ -4,7 +4,7 @@ use mathlib.Core.Bool.{Bool, true, false, cond}
 use mathlib.Core.List.{List, []}
 use mathlib.Core.Logic.{_⊎_, inl, inr, ⊎-elim, by-cases}
 use mathlib.Core.Path.{_≡_, refl, sym, ap, ap₂, _∙_}
-use Prim.Native.Nat.{ℕ, zero, suc, _+_, _-_, _*_, _/_, _%_, _^_, _≤_, _<_}
+use Prim.Native.Nat.{ℕ, zero, suc, _+_, _-_, _*_, _/_, _%_, _≤_, _<_}
 use native.Mathlib.Decide.{decLe, ℕ-discrete}
 use native.Mathlib.Nat.{mul-le-mul-right, mod-lt, div-add-mod', div-lt-iff-lt-mul, mul-comm}
 use native.Mathlib.Omega.{arith}
@@ -13,11 +13,11 @@ use lib.Dec.{ltb, leb}
 use lib.ListN.{length, getD}
 use borrow.Author.Tests.{lt-ltb, le-ltb, le-leb, leb-true}
 use Rattle.mask.specs.Logic.{not, and, or}
-use Rattle.mask.specs.LogicLaws.{dec, clash, refute, both, cond-cases, and-i, and-l, and-r, and-false-l, and-false-r, or-l, or-r, or-e, not-i, not-e, not-f}
+use Rattle.mask.specs.LogicLaws.{dec, clash, refute, both, and-i, and-l, and-r, and-false-l, and-false-r, or-l, or-r, or-e, not-i, not-e, not-f}
 use Rattle.mask.specs.Bits.{hasBit}
 use Rattle.mask.specs.Bounded.{some}
 use Rattle.mask.specs.BoundedLaws.{some-at, some-of}
-use Rattle.mask.specs.Tables.{maskOf, table}
+use Rattle.mask.specs.Tables.{maskOf}
 use Rattle.mask.specs.TablesLaws.{table-length, table-at, table-past, maskOf-lt, has-maskOf-at}
 use Rattle.machine.specs.declared.Pair.{Pair}
 use Rattle.machine.specs.Machines.{matched, nC, nA, setsC, pairs}
@@ -27,14 +27,14 @@ use Rattle.machine.specs.Game.{mem, none, xOver, level, xSet, levels}
 use Rattle.machine.specs.Ranks.{tower}
 use Rattle.machine.specs.Table.{blank}
 use Rattle.theory.specs.Statements.{Within}
-use Rattle.theory.specs.GameLaws.{Canonical, mem-pairSet, of-set, in-set, set-canonical, set-ext, pairSet-cong, none-empty, goal, xOver-is, xOver-mono, xOver-canonical, levelOver-mono, Within-refl, level-zero, level-suc, level-later, level-levels, levels-level, level-canonical, levels-is}
-use Rattle.theory.specs.TowerLaws.{x-is, level-x, x-level, tower-length, tower-at}
+use Rattle.theory.specs.GameLaws.{Canonical, of-set, in-set, set-canonical, set-ext, pairSet-cong, none-empty, goal, xOver-mono, levelOver-mono, Within-refl, level-zero, level-suc, level-later, level-levels, levels-level, level-canonical, levels-is}
+use Rattle.theory.specs.TowerLaws.{x-is, level-x, x-level, tower-at}
 use Rattle.theory.specs.RankLaws.{Ranked, is-goal, is-placed, is-outside, ranked, goal-zero, rank-le, rank-bounded, level-rank, covered-levels}
 use Rattle.rows.specs.Rows.{rowsOf, joinRows}
-use Rattle.rows.specs.SetRowsLaws.{rows-at, rows-small, join-is}
-use Rattle.solver.specs.Entries.{uptoRows, without, stampRows}
+use Rattle.rows.specs.SetRowsLaws.{rows-at, join-is}
+use Rattle.rows.specs.Entries.{uptoRows, without, stampRows}
 use Rattle.solver.specs.Ranking.{rankOver, seenUpto, entryOf, Bounded, RankedTo, AreRanks}
-use Rattle.solver.specs.StampLaws.{has-without}
+use Rattle.rows.specs.StampLaws.{has-without}
 use Rattle.solver.specs.XLaws.{HoldsMatched}
 
 swap : (a b c : Bool) → or a (or b c) ≡ or b (or a c)

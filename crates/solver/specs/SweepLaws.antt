@@ -5,7 +5,7 @@ use mathlib.Core.List.{List, [], _++_}
 use mathlib.Core.Logic.{_⊎_, inl, inr, ⊎-elim, by-cases}
 use mathlib.Core.Path.{_≡_, refl, sym, ap, ap₂, _∙_}
 use Prim.Native.Nat.{ℕ, suc, _+_, _-_, _*_, _/_, _%_, _^_, _≤_, _<_}
-use native.Mathlib.Decide.{decLt, decLe, ℕ-discrete}
+use native.Mathlib.Decide.{decLt, ℕ-discrete}
 use native.Mathlib.Nat.{mod-lt, div-add-mod', div-lt-iff-lt-mul, mul-assoc, add-mul, mul-le-mul-right}
 use native.Mathlib.Omega.{arith}
 use lib.Arith.{digits-lt, digits-div, digits-mod}
@@ -14,11 +14,11 @@ use lib.Pow.{pow-lt}
 use lib.Dec.{leb, eqb}
 use lib.ListN.{length, getD, take, drop, replicate, length-append, length-drop, List·getD-append}
 use lib.Seq.{ext-getD, getD-take, getD-drop, getD-append-add}
-use borrow.Author.Tests.{lt-ltb, le-leb, lt-leb, leb-true, eq-eqb, ne-eqb, eqb-true}
+use borrow.Author.Tests.{lt-ltb, lt-leb, eq-eqb, eqb-true}
 use Rattle.mask.specs.Logic.{not, and, or}
-use Rattle.mask.specs.LogicLaws.{dec, clash, refute, both, cond-cases, and-l, and-r, and-i, and-true-l, and-true-r, and-false-l, and-false-r, not-i, not-e, not-f, not-false, or-e, or-none}
+use Rattle.mask.specs.LogicLaws.{dec, clash, refute, and-l, and-r, and-i, and-true-l, and-true-r, and-false-l, not-i, not-e, not-false, or-e, or-none}
 use Rattle.mask.specs.Bits.{hasBit, lowestOf, restOf, withBit, fullMask}
-use Rattle.mask.specs.BitsLaws.{has-none, has-full, full-lt, has-lt, has-with, lowest-set, lowest-lt}
+use Rattle.mask.specs.BitsLaws.{has-none, has-full, full-lt, has-lt, has-with, lowest-set}
 use Rattle.mask.specs.WalkLaws.{rest-has, rest-keeps, rest-small}
 use Rattle.mask.specs.Bounded.{sum, count}
 use Rattle.mask.specs.BoundedLaws.{sum-eq, count-mono}
@@ -26,7 +26,7 @@ use Rattle.mask.specs.Tables.{table}
 use Rattle.mask.specs.TablesLaws.{table-length, table-at}
 use Rattle.mask.specs.FrontLaws.{zeros-at}
 use Rattle.machine.specs.declared.Pair.{Pair}
-use Rattle.machine.specs.Machines.{fairSet, matched, next, nC, nA, setsC, setsA, pairs}
+use Rattle.machine.specs.Machines.{fairSet, matched, next, nC, nA, setsA, pairs}
 use Rattle.machine.specs.StepLaws.{next-lt, next-wrap, next-step}
 use Rattle.machine.specs.Observed.{matchedMasks}
 use Rattle.machine.specs.ObservedLaws.{has-matched}
@@ -34,22 +34,22 @@ use Rattle.machine.specs.WellFormedLaws.{WellPair, some-pairs, section-fits, en
 use Rattle.machine.specs.Game.{pairSet, mem, sameSet, none, allMatched, goals, levels, family}
 use Rattle.machine.specs.Ranks.{rank, solverTable}
 use Rattle.machine.specs.Table.{blank, tableRoom, entryIndex, entry, covers, coveredCount, entries}
-use Rattle.machine.specs.LinesLaws.{covers-at, covers-of, covers-bound, uncovered}
+use Rattle.machine.specs.LinesLaws.{covers-at, covers-of, covers-bound}
 use Rattle.machine.specs.EntriesLaws.{index-entries}
 use Rattle.theory.specs.Statements.{Within}
 use Rattle.theory.specs.Fixpoint.{bit-mono, bit-eq}
-use Rattle.theory.specs.GameLaws.{Canonical, in-set, of-set, mem-pairSet, pairSet-cong, set-canonical, set-ext, same-within, same-holds, same-of, Within-refl, of-allMatched, levels-canonical, levels-mono, levels-matched}
-use Rattle.theory.specs.FamilyLaws.{WithinF, Tabled, tabled, goals-mono, family-is, family-tabled, family-ext}
+use Rattle.theory.specs.GameLaws.{Canonical, mem-pairSet, pairSet-cong, set-canonical, set-ext, same-within, same-holds, same-of, Within-refl, of-allMatched, levels-canonical, levels-mono, levels-matched}
+use Rattle.theory.specs.FamilyLaws.{WithinF, tabled, goals-mono, family-is, family-tabled, family-ext}
 use Rattle.theory.specs.RankLaws.{table-rank, table-entries}
 use Rattle.rows.specs.Rows.{rowsOf, pairsIn, sameRows, goalRows, stepRows, abstractPredecessors}
 use Rattle.rows.specs.SetRowsLaws.{rows-same, set-back, matched-rows, goals-is}
-use Rattle.solver.specs.Entries.{uptoRows, without, stampRows}
+use Rattle.rows.specs.Entries.{uptoRows, without, stampRows}
 use Rattle.solver.specs.Ranking.{rankOver, entryOf, Holds, Bounded, AreRanks}
 use Rattle.solver.specs.Sweeps.{partOf, coveredFamily, goalsIn, Begun, Renewable, Renewed, Sweeping}
-use Rattle.solver.specs.LargestLaws.{wider, weight-falls}
-use Rattle.solver.specs.StampLaws.{has-without, patch, patch-length, patch-before, patch-in, patch-after, cut-long}
+use Rattle.rows.specs.LargestLaws.{wider}
+use Rattle.rows.specs.StampLaws.{has-without, patch, patch-length, patch-before, patch-in, patch-after, cut-long}
 use Rattle.solver.specs.XLaws.{holds-set, holds-rows}
-use Rattle.solver.specs.RankRowsLaws.{upto-bit, upto-holds, how-ranked, rank-top, outside-blank, levels-ranked, places-small, levels-covered, ranks-rise}
+use Rattle.solver.specs.RankRowsLaws.{upto-bit, upto-holds, rank-top, outside-blank, levels-ranked, places-small, levels-covered, ranks-rise}
 
 with-small : (m s : ℕ) → s < 64 → m < 2 ^ 64 → withBit m s < 2 ^ 64
 unfolding withBit

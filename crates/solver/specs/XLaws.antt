@@ -7,9 +7,8 @@ use Prim.Native.Nat.{ℕ, _^_, _≤_, _<_}
 use native.Mathlib.Decide.{decLt}
 use native.Mathlib.Omega.{arith}
 use lib.ListN.{length, getD}
-use lib.Bits.{bitOr}
 use Rattle.mask.specs.Logic.{and, or}
-use Rattle.mask.specs.LogicLaws.{clash, both, and-l, and-r, and-i, and-true-l, or-l, or-r, or-e}
+use Rattle.mask.specs.LogicLaws.{clash, both, and-r, and-i, or-l, or-r, or-e}
 use Rattle.mask.specs.Bits.{hasBit}
 use Rattle.mask.specs.BitsLaws.{has-or, has-none, has-lt, mask-ext}
 use Rattle.mask.specs.TablesLaws.{fill-done, maskOf-is}
@@ -20,11 +19,11 @@ use Rattle.machine.specs.Observed.{matchedMasks}
 use Rattle.machine.specs.WellFormedLaws.{WellPair}
 use Rattle.machine.specs.Game.{pairSet, mem, xOver}
 use Rattle.theory.specs.Statements.{Within}
-use Rattle.theory.specs.GameLaws.{Canonical, mem-pairSet, InX, goal, lower, stay, IsX, xOver-is, xOver-canonical}
+use Rattle.theory.specs.GameLaws.{Canonical, mem-pairSet, InX, goal, lower, stay, xOver-is, xOver-canonical}
 use Rattle.rows.specs.Rows.{rowsOf, pairsIn, meetOf, partnerRows, joinRows, abstractPredecessors, stepsOf}
 use Rattle.rows.specs.SetRowsLaws.{rows-at, rows-small, mem-in, set-back, set-row, set-past, base-is, has-meet}
 use Rattle.solver.specs.Ranking.{Holds}
-use Rattle.solver.specs.Largest.{Inside, ruleRow, Meets, Largest}
+use Rattle.rows.specs.Largest.{Inside, ruleRow, Largest}
 
 -- the rows hold matched pairs of the machines only
 pub record HoldsMatched (p : Pair) (rows : List ℕ) : Type 0 where

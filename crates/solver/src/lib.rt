@@ -3,11 +3,10 @@
 // The table is made in place. Each entry begins at 0 and is never above its pair's rank; a section's ranks are made from its entries so far,
 // and a section is made again while the set of the next one changes.
 ghost use mathlib.Core.Path.{_≡_};
-ghost use mathlib.Core.Bool.{true, cond};
-ghost use Prim.Native.Nat.{ℕ, _+_, _-_, _*_, _<_, _≤_, _^_};
-ghost use lib.Bits.{bitOr};
-ghost use lib.ListN.{length, getD, take, drop, replicate};
+ghost use mathlib.Core.Bool.{true};
 ghost use mathlib.Core.List.{_++_};
+ghost use Prim.Native.Nat.{_+_, _-_, _*_, _<_, _≤_};
+ghost use lib.ListN.{length, take, drop, replicate};
 ghost use Rattle.mask.specs.Bits.{fullMask};
 ghost use Rattle.mask.specs.Tables.{table};
 ghost use Rattle.machine.specs.Machines.{nC, nA, setsC, setsA, pairs, fairSet};
@@ -17,10 +16,9 @@ ghost use Rattle.machine.specs.Ranks.{solverTable};
 ghost use Rattle.machine.specs.Observed.{matchedMasks};
 ghost use Rattle.machine.specs.WellFormed.{wellFormed};
 ghost use Rattle.machine.specs.Game.{level, levels, turn};
-ghost use Rattle.rows.specs.Rows.{rowsOf, pairsIn, meetOf, predecessorsOf, partnerRows, stepRows, goalRows};
-ghost use Rattle.solver.specs.Entries.{rowUpto, uptoRows, without, stampRow, stampRows};
+ghost use Rattle.rows.specs.Rows.{rowsOf, pairsIn, stepRows, goalRows};
+ghost use Rattle.rows.specs.Entries.{uptoRows, stampRows};
 ghost use Rattle.solver.specs.Families.{flatOf, sectionOf, familyIn, putSection};
-ghost use Rattle.solver.specs.Largest.{Largest};
 ghost use Rattle.solver.specs.Ranking.{Prepared, Holds, Bounded, RankedTo, AreRanks};
 ghost use Rattle.solver.specs.Sweeps.{Begun, Renewable, Renewed, Sweeping};
 ghost use Rattle.solver.specs.Solver.{solveValidity, solvedTable};
@@ -29,129 +27,14 @@ use machine::Validity;
 
 // ---- Entries
 
-// The states whose entry in the row is at most the bound.
-fn row_upto(row: &[u16], bound: u16) -> u64
-    requires { ⌜ length (now row) ≤ 64 ⌝ }
-    ensures { λ r. ⌜ r ≡ rowUpto (now (row .entry)) bound ⌝ }
-{
-    let mut m: u64 = 0;
-    for a in 0..row.len() {
-        if row[a] <= bound {
-            m = mask::with(m, a);
-        }
-    }
-    m
-}
-
-// The pairs of a section whose entry is at most the bound.
-fn upto(nc: usize, na: usize, part: &[u16], bound: u16) -> [u64; 64]
-    requires { ⌜ ((nc ≤ 64) × (na ≤ 64)) × (length (now part) ≡ nc * na) ⌝ }
-    ensures { λ r. ⌜ r ≡ uptoRows nc na (now (part .entry)) bound ⌝ }
-{
-    let mut out = [0u64; 64];
-    for c in 0..nc {
-        let from = c * na;
-        let to = from + na;
-        out[c] = row_upto(&part[from..to], bound);
-    }
-    out
-}
-
-// Makes all entries blank.
-fn clear(part: &mut [u16])
-    ensures { λ _. ⌜ now (part .exit) ≡ table (length (now (part .entry))) (λ e. blank) ⌝ }
-{
-    for e in 0..part.len() {
-        part[e] = machine::BLANK;
-    }
-}
-
-// The states of x that are not in y.
-fn fresh(x: u64, y: u64) -> u64
-    ensures { λ r. ⌜ r ≡ without x y ⌝ }
-{
-    x ^ (x & y)
-}
-
-// Writes the entry v for each state of the row.
-fn stamp_row(row: u64, v: u16, part: &mut [u16])
-    requires { ⌜ row < 2 ^ length (now part) ⌝ }
-    ensures { λ _. ⌜ now (part .exit) ≡ stampRow row v (now (part .entry)) ⌝ }
-{
-    let mut left = row;
-    while left != 0 {
-        let a = mask::lowest(left);
-        part[a] = v;
-        left = mask::rest(left);
-    }
-}
-
-// Writes the entry v for each pair of x that is not in y.
-fn stamp(nc: usize, na: usize, x: &[u64; 64], y: &[u64; 64], v: u16, part: &mut [u16])
-    requires { ⌜ ((nc ≤ 64) × (na ≤ 64)) × ((length (now part) ≡ nc * na) × ((c : ℕ) → c < nc → getD (now x) c 0 < 2 ^ na)) ⌝ }
-    ensures { λ _. ⌜ now (part .exit) ≡ stampRows na (now (x .entry)) (now (y .entry)) v (now (part .entry)) ⌝ }
-{
-    for c in 0..nc {
-        let from = c * na;
-        let to = from + na;
-        stamp_row(fresh(x[c], y[c]), v, &mut part[from..to]);
-    }
-}
-
 // The entries that a section begins with: 0 for matched pairs, which no rank is below, and blank for all others.
 fn first_entries(nc: usize, na: usize, matched: &[u64; 64], part: &mut [u16])
-    requires { ⌜ ((nc ≤ 64) × (na ≤ 64)) × ((length (now part) ≡ nc * na) × ((c : ℕ) → c < nc → getD (now matched) c 0 < 2 ^ na)) ⌝ }
+    requires { ⌜ ((nc ≤ 64) × (na ≤ 64)) × (length (now part) ≡ nc * na) ⌝ }
     ensures { λ _. ⌜ now (part .exit) ≡ stampRows na (now (matched .entry)) (replicate 64 0) 0 (table (nc * na) (λ e. blank)) ⌝ }
 {
     let none = [0u64; 64];
-    clear(part);
-    stamp(nc, na, matched, &none, 0, part);
-}
-
-// ---- One set X
-
-// What may be in a row of X: its base, and outside the set the states that step into X, by the partner rows of X.
-fn rule_row(moves: u64, reached: &[u64; 64], base: u64, inside: bool) -> u64
-    ensures { λ r. ⌜ r ≡ bitOr base (cond inside 0 (meetOf moves (now (reached .entry)))) ⌝ }
-{
-    let steps = if inside {
-        0
-    } else {
-        rows::meet(moves, reached)
-    };
-    base | steps
-}
-
-// The largest set within the start that meets the rule of X. Rows are due while the rule may lower them: at first all, and then those that
-// move to a row that was lowered.
-fn largest(
-    nc: usize,
-    moves: &[u64; 64],
-    dependents: &[u64; 64],
-    predecessors: &[u64; 64],
-    base: &[u64; 64],
-    members: u64,
-    start: &[u64; 64],
-    first: &[u64; 64],
-) -> [u64; 64]
-    requires { ⌜ ((nc ≤ 64) × (length (now start) ≡ 64)) × ((now dependents ≡ predecessorsOf nc (now moves)) × (now first ≡ partnerRows nc (now predecessors) (now start))) ⌝ }
-    ensures { λ r. ⌜ Largest nc (now (moves .entry)) (now (predecessors .entry)) (now (base .entry)) members (now (start .entry)) r ⌝ }
-{
-    let mut x = *start;
-    let mut reached = *first;
-    let mut due = mask::full(nc);
-    while due != 0 {
-        let c = mask::lowest(due);
-        let old = x[c];
-        let row = old & rule_row(moves[c], &reached, base[c], mask::has(members, c));
-        due = mask::rest(due);
-        if row != old {
-            x[c] = row;
-            reached[c] = rows::partners(predecessors, row);
-            due = due | dependents[c];
-        }
-    }
-    x
+    rows::clear(part);
+    rows::stamp(nc, na, matched, &none, 0, part);
 }
 
 // ---- Levels
@@ -187,12 +70,12 @@ fn level(
     let steps = rows::step_rows(nc, &moves, predecessors, below);
     let base = rows::join_rows(matched, goals, &steps);
     let bound = rank_of(m, l, m - 1);
-    let start = upto(nc, abstraction.states, part, bound);
+    let start = rows::upto(nc, abstraction.states, part, bound);
     let reached = rows::partner_rows(nc, predecessors, &start);
     let mut seen = rows::join_rows(matched, goals, below);
     for k in 0..m {
         let sets = concrete.fairness;
-        let x = largest(
+        let x = rows::largest(
             nc,
             &moves,
             dependents,
@@ -203,7 +86,7 @@ fn level(
             &reached,
         );
         let v = rank_of(m, l, k);
-        stamp(nc, abstraction.states, &x, &seen, v, part);
+        rows::stamp(nc, abstraction.states, &x, &seen, v, part);
         seen = rows::join_rows(matched, &x, &seen);
     }
     seen
@@ -276,7 +159,7 @@ fn section(
     let nc = concrete.states;
     let na = abstraction.states;
     let y = levels(p, matched, dependents, predecessors, goals, part);
-    stamp(nc, na, covered, &y, machine::BLANK, part);
+    rows::stamp(nc, na, covered, &y, machine::BLANK, part);
     y
 }
 
@@ -288,7 +171,7 @@ fn covered(nc: usize, na: usize, j: usize, table: &[u16]) -> [u64; 64]
     let pairs = nc * na;
     let from = j * pairs;
     let to = from + pairs;
-    upto(nc, na, &table[from..to], machine::BLANK - 1)
+    rows::upto(nc, na, &table[from..to], machine::BLANK - 1)
 }
 
 // Makes section j anew from the table; whether the set of its pairs has changed.

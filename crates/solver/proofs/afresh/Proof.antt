@@ -1,8 +1,5 @@
 -- The first entries bound the ranks over any goals, and cover the matched pairs.
-use mathlib.Core.Path.{_≡_, _∙_}
-use native.Mathlib.Omega.{arith}
 use borrow.Author.Needs.{needs}
-use Rattle.machine.specs.ObservedLaws.{matched-small}
 use Rattle.machine.specs.WellFormedLaws.{WellPair, well-pair}
 use Rattle.solver.specs.SweepLaws.{first-bounded, first-covered}
 use Rattle.solver.proofs.afresh.Statement.{statement}
@@ -15,7 +12,7 @@ first-entries-requires : tie.Need-first-entries-requires
 first-entries-requires c κs =
     let s = c .before .before .before .before in
     let w = well s in
-    ((w .concrete .states-high, w .abstraction .states-high), (s .pre .1, rw (s .pre .0 .0 .matched-are) (matched-small (s .args .p) w)))
+    ((w .concrete .states-high, w .abstraction .states-high), s .pre .1)
 
 section-requires : tie.Need-section-requires
 section-requires c κs =

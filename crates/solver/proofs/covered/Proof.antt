@@ -4,7 +4,8 @@ use Prim.Native.Nat.{ℕ, _+_, _-_, _*_}
 use native.Mathlib.Omega.{arith}
 use lib.ListN.{take, drop}
 use borrow.Author.Needs.{needs}
-use Rattle.solver.specs.Entries.{uptoRows}
+use Rattle.rows.specs.Entries.{uptoRows}
+use Rattle.rows.specs.StampLaws.{upto-is, cut-long}
 use Rattle.solver.proofs.covered.Statement.{statement}
 use Rattle.solver.proofs.covered.Tie as tie
 
@@ -41,7 +42,10 @@ returns c =
     let P = x .nc * x .na in
     let a = x .j * P in
     let e : a + P - a ≡ P = omega arith in
-    c .upto .ensures ∙ ap (λ (k : ℕ). uptoRows (x .nc) (x .na) (take k (drop a (x .table .now))) 65534) e
+    let s = c .before .before .before in
+    let part = take (a + P - a) (drop a (x .table .now)) in
+    c .upto .ensures ∙ upto-is (x .nc) (x .na) part 65534 (s .pre .0 .0) (s .pre .0 .1) (cut-long (a + P - a) a (x .table .now) (omega (arith, s .pre .1 .1)) ∙ e)
+    ∙ ap (λ (k : ℕ). uptoRows (x .nc) (x .na) (take k (drop a (x .table .now))) 65534) e
 
 pub covered-spec : {M : Type 1} → statement M
 covered-spec =

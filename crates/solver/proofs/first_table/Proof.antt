@@ -1,15 +1,13 @@
 -- At the loop's head all earlier sections have their first entries.
 use mathlib.Core.Path.{_≡_, refl, _∙_}
-use Prim.Native.Nat.{ℕ, _+_, _-_, _*_, _<_, _≤_}
+use Prim.Native.Nat.{_+_, _-_, _*_, _≤_}
 use native.Mathlib.Omega.{arith}
 use lib.ListN.{length}
-use borrow.Author.Needs.{needs}
 use Rattle.machine.specs.Machines.{pairs}
-use Rattle.machine.specs.ObservedLaws.{matched-small}
 use Rattle.machine.specs.Table.{tableRoom}
 use Rattle.machine.specs.WellFormedLaws.{WellPair, well-pair, pairs-small, section-fits}
 use Rattle.solver.specs.Sweeps.{Begun}
-use Rattle.solver.specs.StampLaws.{cut-long}
+use Rattle.rows.specs.StampLaws.{cut-long}
 use Rattle.solver.specs.SweepLaws.{begun-start, begun-turn}
 use Rattle.solver.proofs.first_table.Statement.{statement}
 use Rattle.solver.proofs.first_table.Tie as tie
@@ -70,7 +68,7 @@ first-entries-requires c κs =
     let a = h .loop .j * P in
     let k = a + P - a in
     let room : a + k ≤ length (h .loop .table) = omega (arith, fits (c .before), h .loop .inv .1 .long, s .pre .1) in
-    ((w .concrete .states-high, w .abstraction .states-high), (cut-long k a (h .loop .table) room ∙ omega arith, rw (s .pre .0 .1) (matched-small (s .args .p) w)))
+    ((w .concrete .states-high, w .abstraction .states-high), cut-long k a (h .loop .table) room ∙ omega arith)
 
 add-j : tie.Need-add-j Inv-loop μ-loop
 add-j c = let i = inside c in omega (arith, i .loop-test .taken, well (entry (i .before)) .abstraction .sets-high)

@@ -1,16 +1,18 @@
 -- At the loop's head the pairs of all earlier sets have their rank; each set starts from the pairs whose entry lets them be in it, which hold it.
-use mathlib.Core.Path.{_≡_, refl, sym, ap, _∙_}
-use Prim.Native.Nat.{ℕ, _+_, _*_, _-_, _≤_, _<_}
+use mathlib.Core.Path.{_≡_, sym, ap, _∙_}
+use Prim.Native.Nat.{_-_, _≤_, _<_}
 use native.Mathlib.Omega.{arith}
 use lib.ListN.{length}
 use borrow.Author.Needs.{needs}
+use Rattle.machine.specs.Machines.{nC, nA}
 use Rattle.machine.specs.declared.Pair.{Pair}
 use Rattle.machine.specs.Game.{level, xOver}
 use Rattle.machine.specs.WellFormedLaws.{WellPair, well-pair, pairs-small}
 use Rattle.rows.specs.Rows.{rowsOf, pairsIn}
-use Rattle.solver.specs.StampLaws.{upto-long}
+use Rattle.rows.specs.Entries.{uptoRows}
+use Rattle.rows.specs.StampLaws.{upto-is, upto-long, stamp-is}
 use Rattle.solver.specs.Ranking.{LevelMade}
-use Rattle.solver.specs.LevelLaws.{made-start, made-turn, made-done, x-is, x-small}
+use Rattle.solver.specs.LevelLaws.{made-start, made-turn, made-done, x-is}
 use Rattle.solver.proofs.level.Statement.{statement}
 use Rattle.solver.proofs.level.Tie as tie
 
@@ -51,10 +53,7 @@ rank-of-requires c κs =
     (well s .concrete .sets-high, (few s, omega (arith, well s .concrete .sets-high)))
 
 upto-requires : tie.Need-upto-requires Inv-loop μ-loop
-upto-requires c κs =
-    let s = c .before .before .before .before .before .before .before .before .before .before in
-    let w = well s in
-    ((w .concrete .states-high, w .abstraction .states-high), s .pre .1 .1 .1 .bounded .long)
+upto-requires c κs = search needs
 
 partner-rows-requires : tie.Need-partner-rows-requires Inv-loop μ-loop
 partner-rows-requires c κs = search needs
@@ -74,10 +73,16 @@ array-read-largest : tie.Need-array-read-largest Inv-loop μ-loop
 array-read-largest c = let h = c .before .before .before .before in omega (arith, c .before .before .before .loop-test .taken, well (entry h) .concrete .sets-high)
 
 largest-requires : tie.Need-largest-requires Inv-loop μ-loop
-largest-requires c κs =
-    let h = c .before .before .before .before .before .before in
-    let s = entry h in
-    ((well s .concrete .states-high, ap length (h .before .before .before .before .upto .ensures) ∙ upto-long _ _ _ _), (s .pre .0 .0 .dependents-are, h .before .before .partner-rows .ensures))
+largest-requires c κs = search needs
+
+-- the pairs that the sets start from
+start-is : (c : tie.At-loop Inv-loop μ-loop) →
+    let x = entry c .args in
+    c .before .before .before .before .upto .result ≡ uptoRows (nC (x .p)) (nA (x .p)) (x .part .now) (c .before .before .before .before .before .before .rank-of .result)
+start-is c =
+    let s = entry c in
+    let w = well s in
+    c .before .before .before .before .upto .ensures ∙ upto-is _ _ _ _ (w .concrete .states-high) (w .abstraction .states-high) (s .pre .1 .1 .1 .bounded .long)
 
 -- what is made is X(l + 1, k + 1)
 made : (c : tie.After-largest Inv-loop μ-loop) →
@@ -89,7 +94,8 @@ made c =
     let h = head c in
     let s = entry h in
     x-is (s .pre .0 .0) (s .pre .0 .1) (s .pre .1 .0) (s .pre .1 .1 .0) (s .pre .1 .1 .1) (h .loop .k) (c .before .before .before .before .before .before .loop-test .taken)
-    (h .before .before .before .before .before .before .before .before .before .step-rows .ensures) (h .before .before .before .before .before .before .before .join-rows .ensures) (h .before .before .before .before .before .before .rank-of .ensures) (h .before .before .before .before .upto .ensures) (c .largest .ensures)
+    (h .before .before .before .before .before .before .before .before .before .step-rows .ensures) (h .before .before .before .before .before .before .before .join-rows .ensures) (h .before .before .before .before .before .before .rank-of .ensures) (start-is h)
+    (c .largest .ensures (record { few = well s .concrete .states-high; long = ap length (start-is h) ∙ upto-long _ _ _ _; dependents-are = s .pre .0 .0 .dependents-are; first-are = h .before .before .partner-rows .ensures }))
 
 rank-of-requires-2 : tie.Need-rank-of-requires-2 Inv-loop μ-loop
 rank-of-requires-2 c κs =
@@ -98,12 +104,7 @@ rank-of-requires-2 c κs =
     (well s .concrete .sets-high, (omega (arith, few s, k, well s .concrete .sets-high), omega (arith, few s, k, well s .concrete .sets-high)))
 
 stamp-requires : tie.Need-stamp-requires Inv-loop μ-loop
-stamp-requires c κs =
-    let x = c .before .before .before .before in
-    let h = head x in
-    let s = entry h in
-    let w = well s in
-    ((w .concrete .states-high, w .abstraction .states-high), (h .loop .inv .1 .ranked .bounded .long, x-small (s .pre .0 .0) (s .pre .0 .1) (s .pre .1 .0) (s .pre .1 .1 .0) (s .pre .1 .1 .1) (h .loop .k) (made x)))
+stamp-requires c κs = search needs
 
 join-rows-requires-3 : tie.Need-join-rows-requires-3 Inv-loop μ-loop
 join-rows-requires-3 c κs = search needs
@@ -118,9 +119,10 @@ loop-again : tie.Need-loop-again Inv-loop μ-loop
 loop-again c =
     let x = c .before .before .before .before .before .before .before .before .before .before in
     let h = head x in
-    let s = entry h in (
+    let s = entry h in
+    let w = well s in (
       omega (arith, x .before .before .before .before .before .before .loop-test .taken),
-      rw (c .join-rows3 .ensures, c .before .before .before .before .before .stamp .ensures) (made-turn (s .pre .0 .0) (s .pre .0 .1) (s .pre .1 .0) (s .pre .1 .1 .0) (s .pre .1 .1 .1) (x .before .before .before .before .before .before .loop-test .taken) (made x) (c .before .before .before .before .before .before .before .before .before .rank-of2 .ensures) (h .loop .inv .1)),
+      rw (c .join-rows3 .ensures, c .before .before .before .before .before .stamp .ensures, stamp-is _ _ _ _ _ _ (w .concrete .states-high) (w .abstraction .states-high) (h .loop .inv .1 .ranked .bounded .long)) (made-turn (s .pre .0 .0) (s .pre .0 .1) (s .pre .1 .0) (s .pre .1 .1 .0) (s .pre .1 .1 .1) (x .before .before .before .before .before .before .loop-test .taken) (made x) (c .before .before .before .before .before .before .before .before .before .rank-of2 .ensures) (h .loop .inv .1)),
     )
 
 same-length : tie.Need-same-length Inv-loop μ-loop

@@ -1,6 +1,6 @@
 -- The sweeps begin with entries that no rank is below, and what stands past the entries stays.
 use mathlib.Core.List.{List, _++_}
-use mathlib.Core.Path.{_≡_, refl, sym, ap, _∙_}
+use mathlib.Core.Path.{refl, ap, _∙_}
 use Prim.Native.Nat.{ℕ}
 use borrow.Author.Needs.{needs}
 use Rattle.machine.specs.Machines.{nA, setsA, pairs}

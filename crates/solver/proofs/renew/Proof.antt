@@ -12,7 +12,7 @@ use Rattle.machine.specs.StepLaws.{next-lt}
 use Rattle.machine.specs.Table.{blank, tableRoom}
 use Rattle.machine.specs.WellFormedLaws.{WellPair, well-pair, pairs-small, section-fits}
 use Rattle.rows.specs.Rows.{rowsOf, pairsIn}
-use Rattle.solver.specs.Entries.{uptoRows}
+use Rattle.rows.specs.Entries.{uptoRows}
 use Rattle.solver.specs.Ranking.{Holds}
 use Rattle.solver.specs.Sweeps.{partOf, goalsIn}
 use Rattle.solver.specs.SweepLaws.{cut-is, goals-rows, goals-held, renewed}

@@ -1,9 +1,9 @@
 -- The pairs of the levels have their ranks, and what else was covered becomes blank.
-use mathlib.Core.Path.{_≡_, sym, ap, ap₂, _∙_}
-use mathlib.Core.List.{List}
+use mathlib.Core.Path.{sym, _∙_}
 use borrow.Author.Needs.{needs}
 use Rattle.machine.specs.WellFormedLaws.{WellPair, well-pair}
-use Rattle.solver.specs.LevelLaws.{section-done, covered-small}
+use Rattle.rows.specs.StampLaws.{stamp-is}
+use Rattle.solver.specs.LevelLaws.{section-done}
 use Rattle.solver.proofs.section.Statement.{statement}
 use Rattle.solver.proofs.section.Tie as tie
 
@@ -14,16 +14,17 @@ levels-requires : tie.Need-levels-requires
 levels-requires c κs = let s = c .before .before .before .before in (s .pre .0, s .pre .1 .0)
 
 stamp-requires : tie.Need-stamp-requires
-stamp-requires c κs =
-    let s = c .before .before .before .before .before .before .before .before .before in
-    let w = well s in
-    ((w .concrete .states-high, w .abstraction .states-high), (c .before .before .before .before .levels .ensures .1 .bounded .long, covered-small (s .pre .0 .0) (s .pre .0 .1) (s .pre .1 .0) (s .pre .1 .1)))
+stamp-requires c κs = search needs
 
 ranked : tie.Need-returns
 ranked c =
     let s = c .before .before .before .before .before .before .before .before .before .before .before .before in
-    let l = c .before .before .before .before .before .before .before .levels .ensures in
-    (l .0, section-done (s .pre .0 .0) (s .pre .0 .1) (s .pre .1 .0) (s .pre .1 .1) (l .0) (l .1) (c .before .before .stamp .ensures))
+    let w = well s in
+    let l = c .before .before .before .before .before .before .before .levels .ensures in (
+      l .0,
+      section-done (s .pre .0 .0) (s .pre .0 .1) (s .pre .1 .0) (s .pre .1 .1) (l .0) (l .1)
+          (c .before .before .stamp .ensures ∙ stamp-is _ _ _ _ _ _ (w .concrete .states-high) (w .abstraction .states-high) (l .1 .bounded .long)),
+    )
 
 same-length : tie.Need-same-length
 same-length c = ranked c .1 .long ∙ sym (c .before .before .before .before .before .before .before .before .before .before .before .before .pre .1 .0 .long)

@@ -1,17 +1,17 @@
 -- At the loop's head no entry is above its pair's rank and each section that is not due has its ranks; each turn covers fewer entries, or has one
 -- section less due.
-use mathlib.Core.Path.{_≡_, refl, sym, ap, _∙_}
-use Prim.Native.Nat.{ℕ, _+_, _*_, _-_, _^_, _≤_, _<_, min}
+use mathlib.Core.Path.{_≡_, refl, ap, _∙_}
+use Prim.Native.Nat.{_+_, _*_, _^_, _<_, min}
 use native.Mathlib.Nat.{mul-le-mul-right}
 use native.Mathlib.Omega.{arith}
 use borrow.Author.Needs.{needs}
-use Rattle.mask.specs.Bits.{hasBit, fullMask}
+use Rattle.mask.specs.Bits.{hasBit}
 use Rattle.mask.specs.BitsLaws.{lowest-set, rest-lt}
 use Rattle.machine.specs.Machines.{setsA}
 use Rattle.machine.specs.Table.{coveredCount}
 use Rattle.machine.specs.WellFormedLaws.{WellPair, well-pair}
 use Rattle.solver.specs.Sweeps.{Sweeping}
-use Rattle.solver.specs.LargestLaws.{weight-falls}
+use Rattle.rows.specs.LargestLaws.{weight-falls}
 use Rattle.solver.specs.SweepLaws.{sweeping-same, sweeping-changed, sweeping-done, covered-falls, covered-stays}
 use Rattle.solver.proofs.sweeps.Statement.{statement}
 use Rattle.solver.proofs.sweeps.Tie as tie

@@ -8,7 +8,7 @@ use native.Mathlib.Decide.{decLt, ℕ-discrete}
 use native.Mathlib.Nat.{mul-le-mul-right, pow-le-pow-right}
 use native.Mathlib.Omega.{arith}
 use lib.Dec.{ltb}
-use lib.ListN.{length, getD, set, length-set}
+use lib.ListN.{length, getD, set, length-set, List·getD-eq-default}
 use lib.Seq.{getD-set-same, getD-set-other}
 use lib.Bits.{bitAnd, bitOr, and-le-l, or-lt}
 use borrow.Author.Tests.{lt-ltb, le-ltb}
@@ -20,9 +20,9 @@ use Rattle.mask.specs.Bounded.{sum}
 use Rattle.mask.specs.BoundedLaws.{everyIn-at, everyIn-of, everyIn-cong, someIn-at, someIn-of, sum-eq}
 use Rattle.mask.specs.Tables.{maskOf}
 use Rattle.mask.specs.TablesLaws.{table-length, table-at, table-past, fill-done, maskOf-lt, maskOf-cong, has-maskOf-at}
 use Rattle.rows.specs.Rows.{moversOf, predecessorsOf, partnersOf, meetOf, partnerRows}
 use Rattle.rows.specs.RowsLaws.{has-predecessor, predecessor-low}
-use Rattle.solver.specs.Largest.{Inside, ruleRow, Meets, Largest}
+use Rattle.rows.specs.Largest.{Inside, ruleRow, Meets, Largest}
 
 -- a bit of a mask that a test makes is the test's
 has-made : (f : ℕ → Bool) (a : ℕ) → hasBit (maskOf 64 f) a ≡ true → (a < 64) × (f a ≡ true)
@@ -217,20 +217,6 @@ module _ (nC : ℕ) (moves predecessors base : List ℕ) (members : ℕ) where
               (λ q. d .settled b a hb (not-due b (n .0) q) (lower b a u)));
         }
 
-        -- the rows fall as numbers
-        pub lowered-falls : (row ≡ getD x c 0 → ⊥) → sum 64 (λ i. getD X i 0) < sum 64 (λ i. getD x i 0)
-        lowered-falls n = by-cases (decLt (sum 64 (λ i. getD X i 0)) (sum 64 (λ i. getD x i 0))) (λ l. l)
-            (λ l. absurd (n (omega (arith, small, same (omega arith), at-c))))
-          where
-            small : row ≤ getD x c 0
-            small = rw er (and-le-l (getD x c 0) (bitOr (getD base c 0) (cond (hasBit members c) 0 (meetOf (getD moves c 0) reached))))
-
-            lower-row : (i : ℕ) → i < 64 → getD X i 0 ≤ getD x i 0
-            lower-row i h = by-cases (ℕ-discrete i c) (λ q. rw (q, at-c) small) (λ q. rw (getD-set-other x c i row 0 q) (omega arith))
-
-            same : sum 64 (λ i. getD x i 0) ≤ sum 64 (λ i. getD X i 0) → getD x c 0 ≤ getD X c 0
-            same h = sum-eq 64 (λ i. getD X i 0) (λ i. getD x i 0) lower-row h c (omega (arith, due-low))
-
     pub shrinking-done : {x reached : List ℕ} {due : ℕ} → due ≡ 0 → Shrinking start x reached due → Largest nC moves predecessors base members start x
     shrinking-done z d = record {
       long = d .long;
@@ -240,6 +226,23 @@ module _ (nC : ℕ) (moves predecessors base : List ℕ) (members : ℕ) where
       meets = λ c a hc t. d .settled c a hc (ap (λ (m : ℕ). hasBit m c) z ∙ has-none c) t;
       largest = d .holds;
     }
+
+-- rows fall as numbers where one is lowered
+pub lowered-falls : (x : List ℕ) (c row : ℕ) → c < 64 → row ≤ getD x c 0 → (row ≡ getD x c 0 → ⊥) → sum 64 (λ i. getD (set x c row) i 0) < sum 64 (λ i. getD x i 0)
+lowered-falls x c row hc h n = by-cases (decLt (sum 64 (λ i. getD (set x c row) i 0)) (sum 64 (λ i. getD x i 0))) (λ l. l)
+    (λ l. absurd (n (omega (arith, same (omega arith), at-c))))
+  where
+    long : c < length x
+    long = by-cases (decLt c (length x)) (λ l. l) (λ l. absurd (n (omega (arith, List·getD-eq-default x 0 {n = c} (omega arith)))))
+
+    at-c : getD (set x c row) c 0 ≡ row
+    at-c = getD-set-same x c row 0 long
+
+    lower-row : (i : ℕ) → i < 64 → getD (set x c row) i 0 ≤ getD x i 0
+    lower-row i l = by-cases (ℕ-discrete i c) (λ q. rw (q, at-c) h) (λ q. rw (getD-set-other x c i row 0 q) (omega arith))
+
+    same : sum 64 (λ i. getD x i 0) ≤ sum 64 (λ i. getD (set x c row) i 0) → getD x c 0 ≤ getD (set x c row) c 0
+    same l = sum-eq 64 (λ i. getD (set x c row) i 0) (λ i. getD x i 0) lower-row l c hc
 
 -- a number of the loop falls: the sum of the rows, and where that stays the mask of what is due
 pub weight-falls : (s t due next : ℕ) → t < s → next < 2 ^ 64 → t * 2 ^ 64 + next < s * 2 ^ 64 + due

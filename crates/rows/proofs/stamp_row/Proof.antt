@@ -1,10 +1,11 @@
--- At the loop's head all states of the row but those left have the entry; each turn takes the lowest.
+-- At the loop's head all states of the row but those left have the entry, where there is one; each turn takes the lowest.
+use mathlib.Core.Logic.{⊎-elim}
 use native.Mathlib.Omega.{arith}
 use borrow.Author.Needs.{needs}
 use Rattle.mask.specs.BitsLaws.{lowest-le, rest-lt}
-use Rattle.solver.specs.StampLaws.{Stamping, stamping-start, stamping-index, stamping-turn, stamping-done}
-use Rattle.solver.proofs.stamp_row.Statement.{statement}
-use Rattle.solver.proofs.stamp_row.Tie as tie
+use Rattle.rows.specs.StampLaws.{Stamping, stamping-start, stamping-skip, stamping-turn, stamping-done}
+use Rattle.rows.proofs.stamp_row.Statement.{statement}
+use Rattle.rows.proofs.stamp_row.Tie as tie
 
 abbrev Inv-loop : tie.InvT-loop
 Inv-loop row v part₀ left₀ part left = Stamping row v part₀ left part
@@ -19,22 +20,27 @@ lowest-requires : tie.Need-lowest-requires Inv-loop μ-loop
 lowest-requires c κs = search needs
 
 mul-part : tie.Need-mul-part Inv-loop μ-loop
-mul-part c = omega (arith, c .lowest .ensures, lowest-le 64 (c .before .before .loop .left))
+mul-part c = omega (arith, c .before .lowest .ensures, lowest-le 64 (c .before .before .before .loop .left))
 
 slice-write-part : tie.Need-slice-write-part Inv-loop μ-loop
-slice-write-part c =
-    stamping-index (c .lowest .ensures) (c .before .loop-test .taken) (c .before .before .loop .inv) (c .before .before .before .before .pre)
+slice-write-part c = omega (arith, c .if1 .taken)
 
 rest-requires : tie.Need-rest-requires Inv-loop μ-loop
 rest-requires c κs = search needs
 
 loop-less : tie.Need-loop-less Inv-loop μ-loop
-loop-less c = omega (arith, c .rest .ensures, rest-lt (c .before .before .before .loop .left) (omega (arith, c .before .before .loop-test .taken)))
+loop-less c = omega (arith, c .rest .ensures, rest-lt (c .before .before .before .before .loop .left) (omega (arith, c .before .before .before .loop-test .taken)))
 
 loop-again : tie.Need-loop-again Inv-loop μ-loop
 loop-again c =
-    let b = c .before in
-    rw (c .rest .ensures) (stamping-turn (b .lowest .ensures) (b .before .loop-test .taken) (b .before .before .loop .inv) (b .before .before .before .before .pre))
+    let b = c .before .before in
+    let h = b .before .before in
+    let e = b .lowest .ensures in
+    let z = b .before .loop-test .taken in
+    rw (c .rest .ensures) (⊎-elim
+    (λ w. rw (w .1) (stamping-turn e z (h .loop .inv) (omega (arith, w .0 .taken))))
+    (λ w. rw (w .1) (stamping-skip e z (h .loop .inv) (omega (arith, w .0 .left, h .loop .inv .long))))
+    (c .before .if1 .came))
 
 same-length : tie.Need-same-length Inv-loop μ-loop
 same-length c = c .before .loop .inv .long

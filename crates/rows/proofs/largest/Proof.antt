@@ -1,24 +1,25 @@
 -- At the loop's head the set holds whatever meets the rule within the start, and each row that is not due meets the rule; each turn lowers the
 -- sum of the rows, or leaves them and has one row less due.
 use mathlib.Core.Bool.{Bool, cond}
-use mathlib.Core.Path.{_≡_, refl, sym, ap, _∙_}
-use Prim.Native.Nat.{ℕ, _+_, _*_, _^_, _≤_, _<_}
+use mathlib.Core.Path.{_≡_, ap, _∙_}
+use Prim.Native.Nat.{_+_, _*_, _^_, _<_}
 use native.Mathlib.Omega.{arith}
 use lib.ListN.{getD}
-use lib.Bits.{bitAnd, bitOr}
+use lib.Bits.{bitAnd, bitOr, and-le-l}
 use borrow.Author.Needs.{needs}
 use Rattle.mask.specs.Bits.{hasBit}
 use Rattle.mask.specs.BitsLaws.{rest-lt}
 use Rattle.mask.specs.Bounded.{sum}
 use Rattle.rows.specs.Rows.{meetOf}
 use Rattle.rows.specs.RowsLaws.{walk-index}
-use Rattle.solver.specs.LargestLaws.{Shrinking, shrinking-start, shrinking-kept, shrinking-lowered, shrinking-done, lowered-falls, weight-falls, due-low}
-use Rattle.solver.proofs.largest.Statement.{statement}
-use Rattle.solver.proofs.largest.Tie as tie
+use Rattle.rows.specs.Largest.{Known}
+use Rattle.rows.specs.LargestLaws.{Shrinking, shrinking-start, shrinking-kept, shrinking-lowered, shrinking-done, lowered-falls, weight-falls}
+use Rattle.rows.proofs.largest.Statement.{statement}
+use Rattle.rows.proofs.largest.Tie as tie
 
 abbrev Inv-loop : tie.InvT-loop
 Inv-loop nc moves dependents predecessors base members start first x₀ reached₀ due₀ x reached due =
-    Shrinking nc moves predecessors base members start x reached due
+    (due < 2 ^ 64) × (Known nc moves dependents predecessors start first → Shrinking nc moves predecessors base members start x reached due)
 
 abbrev μ-loop : tie.MeasureT-loop
 μ-loop nc moves dependents predecessors base members start first x₀ reached₀ due₀ x reached due = sum 64 (λ i. getD x i 0) * 2 ^ 64 + due
@@ -30,13 +31,13 @@ loop-holds : tie.Need-loop-holds Inv-loop μ-loop
 loop-holds c =
     let s = c .before .before .before in
     let x = s .args in
-    shrinking-start (x .nc) (x .moves .now) (x .predecessors .now) (x .base .now) (x .members) (s .pre .0 .0) (s .pre .0 .1) (s .pre .1 .1) (c .full .ensures)
+    (omega arith, λ k. shrinking-start (x .nc) (x .moves .now) (x .predecessors .now) (x .base .now) (x .members) (k .few) (k .long) (k .first-are) (c .full .ensures))
 
 lowest-requires : tie.Need-lowest-requires Inv-loop μ-loop
 lowest-requires c κs = search needs
 
 index : (c : tie.After-lowest Inv-loop μ-loop) → c .lowest .result < 64
-index c = walk-index (c .lowest .result) (c .lowest .ensures) (c .before .loop-test .taken) (c .before .before .loop .inv .small)
+index c = walk-index (c .lowest .result) (c .lowest .ensures) (c .before .loop-test .taken) (c .before .before .loop .inv .0)
 
 mul-old : tie.Need-mul-old Inv-loop μ-loop
 mul-old c = omega (arith, index c)
@@ -104,35 +105,34 @@ mul-reached c = omega (arith, index (low (c .before .before)))
 array-write-reached : tie.Need-array-write-reached Inv-loop μ-loop
 array-write-reached c = index (low (c .before .before))
 
-mul-due : tie.Need-mul-due Inv-loop μ-loop
-mul-due c = omega (arith, index (low (c .before .before)))
+mul-joined : tie.Need-mul-joined Inv-loop μ-loop
+mul-joined c = omega (arith, index (low (c .before .before)))
 
-element-copy-out-due : tie.Need-element-copy-out-due Inv-loop μ-loop
-element-copy-out-due c = index (low (c .before .before))
+element-copy-out-joined : tie.Need-element-copy-out-joined Inv-loop μ-loop
+element-copy-out-joined c = index (low (c .before .before))
+
+joined-requires : tie.Need-joined-requires Inv-loop μ-loop
+joined-requires c κs = search needs
 
 -- the loop's head after a row was lowered
-lowered : tie.Need-loop-again Inv-loop μ-loop
-lowered c =
-    let t = c .before .before in
+loop-again : tie.Need-loop-again Inv-loop μ-loop
+loop-again c =
+    let t = c .before .before .before in
     let r = t .before in
     let s = entry (head r) in
-    let x = s .args in
-    rw (r .rest .ensures, c .before .partners .ensures)
-    (shrinking-lowered (x .nc) (x .moves .now) (x .predecessors .now) (x .base .now) (x .members) (s .pre .0 .0) (low r .lowest .ensures) (low r .before .loop-test .taken) (head r .loop .inv) (row-is r) (s .pre .1 .0))
+    let x = s .args in (
+      c .joined .ensures .1,
+      λ k. rw (c .joined .ensures .0, r .rest .ensures, c .before .before .partners .ensures)
+          (shrinking-lowered (x .nc) (x .moves .now) (x .predecessors .now) (x .base .now) (x .members) (k .few) (low r .lowest .ensures) (low r .before .loop-test .taken) (head r .loop .inv .1 k) (row-is r) (k .dependents-are)),
+    )
 
 loop-less : tie.Need-loop-less Inv-loop μ-loop
 loop-less c =
-    let t = c .before .before in
+    let t = c .before .before .before in
     let r = t .before in
     let l = head r .loop in
-    let s = entry (head r) in
-    let x = s .args in
     weight-falls (sum 64 (λ i. getD (l .x) i 0)) _ (l .due) _
-    (lowered-falls (x .nc) (x .moves .now) (x .predecessors .now) (x .base .now) (x .members) (s .pre .0 .0) (low r .lowest .ensures) (low r .before .loop-test .taken) (l .inv) (row-is r) (s .pre .1 .0) (t .if1 .taken))
-    (lowered c .small)
-
-loop-again : tie.Need-loop-again Inv-loop μ-loop
-loop-again = lowered
+    (lowered-falls (l .x) (low r .lowest .result) _ (index (low r)) (and-le-l _ _) (t .if1 .taken)) (c .joined .ensures .1)
 
 loop-less-2 : tie.Need-loop-less-2 Inv-loop μ-loop
 loop-less-2 c =
@@ -143,15 +143,17 @@ loop-again-2 : tie.Need-loop-again-2 Inv-loop μ-loop
 loop-again-2 c =
     let r = c .before in
     let s = entry (head r) in
-    let x = s .args in
-    rw (r .rest .ensures)
-    (shrinking-kept (x .nc) (x .moves .now) (x .predecessors .now) (x .base .now) (x .members) (s .pre .0 .0) (low r .lowest .ensures) (low r .before .loop-test .taken) (head r .loop .inv) (row-is r) (c .if1 .left))
+    let x = s .args in (
+      omega (arith, r .rest .ensures, head r .loop .inv .0, rest-lt (head r .loop .due) (omega (arith, low r .before .loop-test .taken))),
+      λ k. rw (r .rest .ensures)
+          (shrinking-kept (x .nc) (x .moves .now) (x .predecessors .now) (x .base .now) (x .members) (k .few) (low r .lowest .ensures) (low r .before .loop-test .taken) (head r .loop .inv .1 k) (row-is r) (c .if1 .left)),
+    )
 
 returns : tie.Need-returns Inv-loop μ-loop
 returns c =
     let s = c .before .before .before .before .before in
     let x = s .args in
-    shrinking-done (x .nc) (x .moves .now) (x .predecessors .now) (x .base .now) (x .members) (s .pre .0 .0) (c .loop-test .left) (c .before .loop .inv)
+    λ k. shrinking-done (x .nc) (x .moves .now) (x .predecessors .now) (x .base .now) (x .members) (k .few) (c .loop-test .left) (c .before .loop .inv .1 k)
 
 pub largest-spec : {M : Type 1} → statement M
 largest-spec =
@@ -176,8 +178,9 @@ largest-spec =
     partners-requires
     mul-reached
     array-write-reached
-    mul-due
-    element-copy-out-due
+    mul-joined
+    element-copy-out-joined
+    joined-requires
     loop-less
     loop-again
     loop-less-2

@@ -1,27 +1,27 @@
 -- Laws of the loops over entries: the states of a row, the rows of a section, a part that comes back.
 use mathlib.Core.Bool.{Bool, true, false, cond}
 use mathlib.Core.List.{List, _++_}
-use mathlib.Core.Logic.{_⊎_, inl, inr, by-cases}
+use mathlib.Core.Logic.{_⊎_, inl, inr, ⊎-elim, by-cases}
 use mathlib.Core.Path.{_≡_, refl, sym, ap, _∙_}
 use Prim.Native.Nat.{ℕ, zero, suc, _+_, _-_, _*_, _/_, _%_, _^_, _≤_, _<_}
-use native.Mathlib.Decide.{decLt, ℕ-discrete}
+use native.Mathlib.Decide.{decLt, decLe, ℕ-discrete}
 use native.Mathlib.Nat.{mul-le-mul-right}
 use native.Mathlib.Omega.{arith}
 use lib.Arith.{digits-div, digits-mod}
-use lib.Bits.{bitAnd, bitXor, differ, and-le-l, xor-step, xor-lt}
+use lib.Bits.{bitAnd, bitXor, differ, xor-step}
 use lib.Dec.{eqb, leb}
 use lib.ListN.{length, getD, set, take, drop, length-set, length-append, length-take, length-drop, List·getD-append}
-use lib.Seq.{getD-set-same, getD-set-other, getD-append-add, getD-take, getD-drop}
-use borrow.Author.Tests.{ne-eqb}
+use lib.Seq.{ext-getD, getD-set-same, getD-set-other, getD-append-add, getD-take, getD-drop}
+use borrow.Author.Tests.{eq-eqb, ne-eqb, le-leb, lt-leb}
 use Rattle.mask.specs.Logic.{not, and, or}
 use Rattle.mask.specs.LogicLaws.{and-i, and-true-r, not-i}
 use Rattle.mask.specs.Bits.{hasBit, lowestOf, restOf}
-use Rattle.mask.specs.BitsLaws.{parity, has-zero, has-suc, has-lt, has-none, has-and, has-rest, lowest-set}
+use Rattle.mask.specs.BitsLaws.{parity, has-zero, has-suc, has-none, has-and, has-rest, lowest-set}
 use Rattle.mask.specs.WalkLaws.{rest-drops, rest-has, rest-small}
 use Rattle.mask.specs.Tables.{maskOf}
 use Rattle.mask.specs.TablesLaws.{table-length, table-at, fill-done, maskOf-cong}
 use Rattle.rows.specs.RowsLaws.{area}
-use Rattle.solver.specs.Entries.{rowUpto, uptoRows, without, stampRow, stampRows}
+use Rattle.rows.specs.Entries.{rowUpto, uptoRows, uptoOf, without, stampRow, stampRows, stampOf, sectionRows}
 
 -- ---- the states of one mask that are not in another
 unlike : Bool → Bool → Bool
@@ -63,10 +63,6 @@ has-without i x y = has-xor i x (bitAnd x y) ∙ ap (unlike (hasBit x i)) (has-a
     go true false = refl
     go false b = refl
 
-pub without-lt : (w x y : ℕ) → x < 2 ^ w → without x y < 2 ^ w
-unfolding without
-without-lt w x y h = xor-lt w x (bitAnd x y) h (omega (arith, and-le-l x y))
-
 -- ---- one row
 -- the states of the row that are not left have their entry, and nothing else is changed
 pub record Stamping (row v : ℕ) (part : List ℕ) (left : ℕ) (l : List ℕ) : Type 0 where
@@ -92,10 +88,19 @@ module _ {row v : ℕ} {part : List ℕ} where
     taken : hasBit row a ≡ true
     taken = d .inside a (ap (hasBit left) e ∙ lowest-set 64 left some-left (d .small))
 
-    pub stamping-index : row < 2 ^ length part → a < length l
-    stamping-index h = rw (d .long) (has-lt (length part) row a h taken)
+    kept : (i : ℕ) → (i ≡ a → ⊥) → hasBit (restOf left) i ≡ hasBit left i
+    kept i s = has-rest 64 left i some-left (d .small) ∙ and-true-r _ (not-i (ne-eqb i (lowestOf 64 left) (λ u. s (u ∙ sym e))))
 
-    pub stamping-turn : row < 2 ^ length part → Stamping row v part (restOf left) (set l a v)
+    -- a state past the entries has none
+    pub stamping-skip : length part ≤ a → Stamping row v part (restOf left) l
+    stamping-skip h = record {
+      small = rest-small 64 left some-left (d .small);
+      inside = λ i t. d .inside i (rest-has 64 left some-left (d .small) i t);
+      long = d .long;
+      entry = λ i q. d .entry i q ∙ rw (kept i (omega arith));
+    }
+
+    pub stamping-turn : a < length l → Stamping row v part (restOf left) (set l a v)
     stamping-turn h = record {
       small = rest-small 64 left some-left (d .small);
       inside = λ i t. d .inside i (rest-has 64 left some-left (d .small) i t);
@@ -107,13 +112,10 @@ module _ {row v : ℕ} {part : List ℕ} where
         here =
             let t : and (hasBit row a) (not (hasBit (restOf left) a)) ≡ true =
             and-i taken (not-i (ap (hasBit (restOf left)) e ∙ rest-drops 64 left some-left (d .small))) in
-            rw t (getD-set-same l a v 0 (stamping-index h))
+            rw t (getD-set-same l a v 0 h)
 
         there : (i : ℕ) → i < length part → (i ≡ a → ⊥) → getD (set l a v) i 0 ≡ cond (and (hasBit row i) (not (hasBit (restOf left) i))) v (getD part i 0)
-        there i q s =
-            let k : hasBit (restOf left) i ≡ hasBit left i =
-            has-rest 64 left i some-left (d .small) ∙ and-true-r _ (not-i (ne-eqb i (lowestOf 64 left) (λ u. s (u ∙ sym e)))) in
-            getD-set-other l a i v 0 s ∙ d .entry i q ∙ rw k
+        there i q s = getD-set-other l a i v 0 s ∙ d .entry i q ∙ rw (kept i s)
 
   pub stamping-done : {left : ℕ} {l : List ℕ} → left ≡ 0 → Stamping row v part left l → l ≡ stampRow row v part
   unfolding stampRow
@@ -218,3 +220,49 @@ row-part nA c k part bound e h = rw (cut-long k (c * nA) part (omega arith), e) 
 pub upto-long : (nC nA : ℕ) (part : List ℕ) (bound : ℕ) → length (uptoRows nC nA part bound) ≡ 64
 unfolding uptoRows
 upto-long nC nA part bound = table-length 64 _
+
+-- ---- entries that are a section, and others
+sections : (nC nA len : ℕ) → ((nC ≤ 64) × (nA ≤ 64) × (len ≡ nC * nA) × (sectionRows nC nA len ≡ nC)) ⊎ (sectionRows nC nA len ≡ 0)
+unfolding sectionRows
+sections nC nA len = by-cases (decLe nC 64)
+    (λ h. by-cases (decLe nA 64)
+    (λ k. by-cases (ℕ-discrete len (nC * nA))
+    (λ e. inl (h, k, e, rw (le-leb nC 64 h, le-leb nA 64 k, eq-eqb len (nC * nA) e)))
+    (λ e. inr (rw (le-leb nC 64 h, le-leb nA 64 k, ne-eqb len (nC * nA) e))))
+    (λ k. inr (rw (le-leb nC 64 h, lt-leb nA 64 (omega arith)))))
+    (λ h. inr (rw (lt-leb nC 64 (omega arith))))
+
+module _ (nC nA len : ℕ) where
+  -- the rows of entries that have some are those of a section
+  pub section-some : {end c : ℕ} → end ≡ sectionRows nC nA len → c < end → (end ≡ nC) × (nC ≤ 64) × (nA ≤ 64) × (len ≡ nC * nA)
+  section-some e l = ⊎-elim (λ q. (e ∙ q .3, q .0, q .1, q .2)) (λ q. absurd (omega arith)) (sections nC nA len)
+
+  pub section-few : {end : ℕ} → end ≡ sectionRows nC nA len → end ≤ 64
+  section-few e = ⊎-elim (λ q. omega (arith, q .3, q .0)) (λ q. omega arith) (sections nC nA len)
+
+  pub section-is : nC ≤ 64 → nA ≤ 64 → len ≡ nC * nA → sectionRows nC nA len ≡ nC
+  unfolding sectionRows
+  section-is h k e = rw (le-leb nC 64 h, le-leb nA 64 k, eq-eqb len (nC * nA) e)
+
+pub upto-is : (nC nA : ℕ) (part : List ℕ) (bound : ℕ) → nC ≤ 64 → nA ≤ 64 → length part ≡ nC * nA → uptoOf nC nA part bound ≡ uptoRows nC nA part bound
+unfolding uptoOf
+upto-is nC nA part bound h k e = rw (section-is nC nA (length part) h k e)
+
+pub stamp-is : (nC nA : ℕ) (x y : List ℕ) (v : ℕ) (part : List ℕ) → nC ≤ 64 → nA ≤ 64 → length part ≡ nC * nA → stampOf nC nA x y v part ≡ stampRows nA x y v part
+unfolding stampOf stampRows
+stamp-is nC nA x y v part h k e = by-cases (ℕ-discrete nC 0)
+    (λ z. let none : length part ≡ 0 = e ∙ rw z (omega arith) in
+    rw (section-is nC nA (length part) h k e, eq-eqb nC 0 z) (ext-getD 0 part _ (sym (table-length _ _)) (λ i l. absurd (omega arith))))
+    (λ z. rw (section-is nC nA (length part) h k e, ne-eqb nC 0 z))
+
+-- all rows are stamped
+pub stamped-whole : (nC nA : ℕ) (x y : List ℕ) (v : ℕ) (part : List ℕ) {end c : ℕ} {l : List ℕ} → end ≡ sectionRows nC nA (length part) → c ≡ end → Stamped nA x y v part c l
+    → l ≡ stampOf nC nA x y v part
+unfolding stampOf
+stamped-whole nC nA x y v part {end} {c} {l} e z d = by-cases (ℕ-discrete end 0)
+    (λ q. rw (← e, eq-eqb end 0 q) (ext-getD 0 l part (d .long) (λ i h. d .rest i (none q i))))
+    (λ q. let s = section-some nC nA (length part) {c = 0} e (omega arith) in
+    rw (← e, ne-eqb end 0 q) (stamped-done nA x y v part (s .3 ∙ ap (λ (n : ℕ). n * nA) (sym (s .0) ∙ sym z)) d))
+  where
+    none : end ≡ 0 → (i : ℕ) → c * nA ≤ i
+    none q i = let y : c ≡ 0 = z ∙ q in rw y (omega arith)

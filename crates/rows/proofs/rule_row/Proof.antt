@@ -1,11 +1,10 @@
 -- The two arms are the definition's.
 use mathlib.Core.Logic.{⊎-elim}
-use mathlib.Core.Path.{_≡_, ap, _∙_}
-use Prim.Native.Nat.{ℕ}
+use mathlib.Core.Path.{ap, _∙_}
 use lib.Bits.{bitOr}
 use borrow.Author.Needs.{needs}
-use Rattle.solver.proofs.rule_row.Statement.{statement}
-use Rattle.solver.proofs.rule_row.Tie as tie
+use Rattle.rows.proofs.rule_row.Statement.{statement}
+use Rattle.rows.proofs.rule_row.Tie as tie
 
 meet-requires : tie.Need-meet-requires
 meet-requires c κs = search needs

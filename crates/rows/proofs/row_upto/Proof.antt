@@ -1,6 +1,6 @@
 -- At the loop's head the mask holds the earlier states whose entry is at most the bound.
 use mathlib.Core.Logic.{⊎-elim}
-use mathlib.Core.Path.{_≡_, refl, sym, ap, _∙_}
+use mathlib.Core.Path.{_≡_, refl, ap, _∙_}
 use Prim.Native.Nat.{ℕ, _-_, _≤_}
 use native.Mathlib.Numerals.{add-one}
 use native.Mathlib.Omega.{arith}
@@ -11,9 +11,9 @@ use borrow.Author.Tests.{le-leb, lt-leb}
 use Rattle.mask.specs.Bits.{withBit}
 use Rattle.mask.specs.Tables.{maskOf}
 use Rattle.mask.specs.TablesLaws.{maskOf-hit, maskOf-miss}
-use Rattle.solver.specs.Entries.{rowUpto}
-use Rattle.solver.proofs.row_upto.Statement.{statement}
-use Rattle.solver.proofs.row_upto.Tie as tie
+use Rattle.rows.specs.Entries.{rowUpto}
+use Rattle.rows.proofs.row_upto.Statement.{statement}
+use Rattle.rows.proofs.row_upto.Tie as tie
 
 abbrev Inv-loop : tie.InvT-loop
 Inv-loop row bound m₀ a₀ a-end m a = (a ≤ a-end) × (a-end ≡ length row) × (m ≡ maskOf a (λ i. leb (getD row i 0) bound))

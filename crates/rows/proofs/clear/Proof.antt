@@ -7,8 +7,8 @@ use borrow.Author.Count.{below-none}
 use borrow.Author.Needs.{needs}
 use Rattle.mask.specs.TablesLaws.{fill-step, fill-done}
 use Rattle.machine.specs.Table.{blank}
-use Rattle.solver.proofs.clear.Statement.{statement}
-use Rattle.solver.proofs.clear.Tie as tie
+use Rattle.rows.proofs.clear.Statement.{statement}
+use Rattle.rows.proofs.clear.Tie as tie
 
 abbrev Inv-loop : tie.InvT-loop
 Inv-loop part₀ e₀ e-end part e = (e ≤ length part₀) × (length part ≡ length part₀) × ((k : ℕ) → k < e → getD part k 0 ≡ blank)

@@ -1,7 +1,7 @@
 use mathlib.Core.Path.{refl}
-use Rattle.solver.specs.Entries.{without}
-use Rattle.solver.proofs.fresh.Statement.{statement}
-use Rattle.solver.proofs.fresh.Tie as tie
+use Rattle.rows.specs.Entries.{without}
+use Rattle.rows.proofs.fresh.Statement.{statement}
+use Rattle.rows.proofs.fresh.Tie as tie
 
 returns : tie.Need-returns
 unfolding without

@@ -6,7 +6,7 @@ use Prim.Native.Nat.{ℕ, _≤_, _<_}
 use lib.ListN.{length, getD}
 use lib.Bits.{bitOr}
 use Rattle.mask.specs.Bits.{hasBit}
-use Rattle.rows.specs.Rows.{meetOf, partnerRows}
+use Rattle.rows.specs.Rows.{predecessorsOf, meetOf, partnerRows}
 
 -- every pair of x is one of y
 abbrev pub Inside : ℕ → List ℕ → List ℕ → Type 0
@@ -28,3 +28,10 @@ module _ (nC : ℕ) (moves predecessors base : List ℕ) (members : ℕ) where
     pub inside : Inside nC x start
     pub meets : Meets x
     pub largest : (u : List ℕ) → Inside nC u start → Meets u → Inside nC u x
+
+-- what is handed in: the predecessors of concrete states, and the partner rows of the start
+pub record Known (nC : ℕ) (moves dependents predecessors start first : List ℕ) : Type 0 where
+  pub few : nC ≤ 64
+  pub long : length start ≡ 64
+  pub dependents-are : dependents ≡ predecessorsOf nC moves
+  pub first-are : first ≡ partnerRows nC predecessors start
