@@ -1,3 +1,4 @@
+-- The lowest state is defined as the number of trailing zeros, which is at most 64.
 use native.Mathlib.Omega.{arith}
 use mathlib.Core.Path.{refl}
 use lib.Count.{trailing-le}

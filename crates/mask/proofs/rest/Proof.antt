@@ -1,3 +1,4 @@
+-- The empty mask meets any mask in nothing, and from any other 1 can be taken.
 use borrow.Author.Needs.{needs}
 use mathlib.Core.Path.{refl}
 use Rattle.mask.specs.Bits.{restOf}

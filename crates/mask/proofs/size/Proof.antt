@@ -1,3 +1,4 @@
+-- The number of ones is the number of states that the mask has, at most 64.
 use native.Mathlib.Omega.{arith}
 use lib.Count.{ones-le}
 use Rattle.mask.specs.WalkLaws.{ones-count}

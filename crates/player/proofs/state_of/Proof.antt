@@ -1,3 +1,4 @@
+-- Each case of the partner is one of the definition.
 use borrow.Author.Needs.{needs}
 use Rattle.machine.specs.Step.{stateOf}
 use Rattle.player.proofs.state_of.Statement.{statement}

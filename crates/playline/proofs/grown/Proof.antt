@@ -1,3 +1,4 @@
+-- A digit is at least 48, so nothing wraps; the smaller of 255 and the wide number is the definition's.
 use native.Mathlib.Omega.{arith}
 use borrow.Author.Needs.{needs}
 use Rattle.playline.specs.Lasso.{grown}

@@ -1,3 +1,4 @@
+-- The two bounds are tested one after the other, as the definition joins them.
 use native.Mathlib.Omega.{arith}
 use Rattle.playline.specs.LassoLaws.{digit-low, digit-high}
 use Rattle.playline.proofs.is_digit.Statement.{statement}

@@ -1,3 +1,4 @@
+-- A digit is plain; of any other byte the blank decides.
 use mathlib.Core.Path.{sym, _∙_}
 use borrow.Author.Needs.{needs}
 use Rattle.playline.specs.LassoLaws.{plain-digit, plain-other}

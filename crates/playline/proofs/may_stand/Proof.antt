@@ -1,3 +1,4 @@
+-- At the stroke's place any byte may stand; at any other a plain one.
 use mathlib.Core.Path.{sym, _∙_}
 use borrow.Author.Needs.{needs}
 use borrow.Author.Tests.{eq-eqb, ne-eqb}

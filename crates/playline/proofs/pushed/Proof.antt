@@ -1,3 +1,4 @@
+-- Below 65 the number is stored behind the others; a list of 65 stays, and so does its front of 65.
 use mathlib.Core.Path.{_≡_}
 use native.Mathlib.Omega.{arith}
 use borrow.Author.Needs.{needs}

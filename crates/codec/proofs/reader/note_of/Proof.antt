@@ -1,3 +1,4 @@
+-- The byte of the header is compared as the definition compares it.
 use Prim.Native.Nat.{ℕ}
 use mathlib.Core.Path.{ap}
 use lib.Dec.{eqb}

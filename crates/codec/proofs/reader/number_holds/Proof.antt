@@ -1,3 +1,4 @@
+-- The block lies in the file, so its first two bytes are the number that the definition compares with i.
 use mathlib.Core.Path.{ap}
 use Prim.Native.Nat.{ℕ}
 use lib.Dec.{eqb}

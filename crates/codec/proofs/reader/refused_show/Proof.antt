@@ -1,3 +1,4 @@
+-- The reading is the refusal, and both machines beside it are the zero machine.
 use mathlib.Core.Path.{refl}
 use Rattle.codec.specs.Reader.{zeroPair}
 use Rattle.codec.specs.Answers.{readOf, readBeside}
