@@ -1,18 +1,18 @@
 -- Laws of the lines: a passing entry as sentences, and the first that fails.
-use mathlib.Core.Bool.{Bool, true, false, cond}
+use mathlib.Core.Bool.{true, false, cond}
 use mathlib.Core.List.{List}
 use mathlib.Core.Logic.{⊎-elim, by-cases}
 use mathlib.Core.Path.{_≡_, sym, ap, _∙_}
 use Prim.Native.Nat.{ℕ, suc, _+_, _-_, _*_, _/_, _≤_, _<_}
 use native.Mathlib.Nat.{div-lt-iff-lt-mul}
-use native.Mathlib.Decide.{ℕ-discrete, decLe}
+use native.Mathlib.Decide.{ℕ-discrete}
 use native.Mathlib.Omega.{arith}
 use lib.Dec.{eqb, leb, ltb}
-use borrow.Author.Tests.{eqb-true, eqb-false, eq-eqb, ne-eqb, leb-true, le-leb, lt-leb, ltb-true, lt-ltb, le-ltb}
+use borrow.Author.Tests.{eqb-true, eqb-false, eq-eqb, ne-eqb, leb-true, le-leb, lt-leb, ltb-true, ltb-false, lt-ltb, le-ltb}
 use Rattle.mask.specs.Logic.{not, and, or}
 use Rattle.mask.specs.LogicLaws.{dec, clash, both, cond-cases, and-l, and-r, and-i, or-l, or-r, or-false-l, not-e, not-i, not-f}
 use Rattle.mask.specs.Bounded.{every, first}
-use Rattle.mask.specs.BoundedLaws.{every-at, every-of, every-not, first-is, first-none, first-before}
+use Rattle.mask.specs.BoundedLaws.{every-at, every-of, every-not, first-is, first-none, first-all}
 use Rattle.machine.specs.declared.Pair.{Pair}
 use Rattle.machine.specs.Refusals.{valid, refused, refusal, failing-entry}
 use Rattle.machine.specs.RefusalsLaws.{valid-next}
@@ -33,9 +33,9 @@ lower-is m l e hm hl = by-cases (ℕ-discrete e 0) (λ z. or-l _ (eq-eqb e 0 z) 
     (λ t. lt-ltb ((e - 1) / m + 1) l (let q : e - 1 < (l - 1) * m = omega (arith, leb-true e ((l - 1) * m) t) in omega (arith, div-lt-iff-lt-mul hm .1 q))))
 
 -- "non-blank", for the 16 bits of an entry, is at most the number before blank
-pub covered-is : (e : ℕ) → e ≤ blank → not (eqb e blank) ≡ leb e 65534
-covered-is e h = by-cases (ℕ-discrete e blank) (λ z. not-f (eq-eqb e blank z) ∙ sym (lt-leb e 65534 (omega arith)))
-    (λ z. not-i (ne-eqb e blank z) ∙ sym (le-leb e 65534 (omega arith)))
+pub covered-is : (e : ℕ) → e ≤ blank → not (eqb e blank) ≡ leb e (blank - 1)
+covered-is e h = by-cases (ℕ-discrete e blank) (λ z. not-f (eq-eqb e blank z) ∙ sym (lt-leb e (blank - 1) (omega arith)))
+    (λ z. not-i (ne-eqb e blank z) ∙ sym (le-leb e (blank - 1) (omega arith)))
 
 module _ (p : Pair) (T : List ℕ) where
   pub covers-at : (j c a : ℕ) → covers p T j c a ≡ true → entry p T j c a ≡ blank → ⊥
@@ -71,16 +71,16 @@ module _ (p : Pair) (T : List ℕ) where
   unfolding lower atMost
   lower-atMost j l c a hm hl = ap (and (matched p c a)) (lower-is (setsC p) l (entry p T j c a) hm hl)
 
-  pub covers-bound : (j c a : ℕ) → entry p T j c a ≤ blank → covers p T j c a ≡ leb (entry p T j c a) 65534
+  pub covers-bound : (j c a : ℕ) → entry p T j c a ≤ blank → covers p T j c a ≡ leb (entry p T j c a) (blank - 1)
   unfolding covers
   covers-bound j c a h = covered-is (entry p T j c a) h
 
-  nonBlank-atMost : (j c a : ℕ) → entry p T j c a ≤ blank → nonBlank p T j c a ≡ atMost p T j 65534 c a
+  nonBlank-atMost : (j c a : ℕ) → entry p T j c a ≤ blank → nonBlank p T j c a ≡ atMost p T j (blank - 1) c a
   unfolding nonBlank atMost
   nonBlank-atMost j c a h = ap (and (matched p c a)) (covers-bound j c a h)
 
   pub goal-bound : (j c a : ℕ) → ((d b : ℕ) → entry p T (next (setsA p) j) d b ≤ blank)
-      → goalLine p T j c a ≡ and (inFairSet (p .abstraction) j a) (steps p (atMost p T (next (setsA p) j) 65534) c a)
+      → goalLine p T j c a ≡ and (inFairSet (p .abstraction) j a) (steps p (atMost p T (next (setsA p) j) (blank - 1)) c a)
   unfolding goalLine
   goal-bound j c a h =
       ap (and (inFairSet (p .abstraction) j a)) (steps-cong p _ _ (λ d b hd hb. nonBlank-atMost (next (setsA p) j) d b (h d b)) c a)
@@ -176,12 +176,4 @@ module _ (p : Pair) (T : List ℕ) where
 
   pub valid-passes : linesValidity p T ≡ valid → passesEach p T ≡ true
   unfolding linesValidity passesEach
-  valid-passes t = every-of _ _ (λ j hj. ⊎-elim (λ u. u) (λ u. absurd (clash (valid-next _ _ valid t .0) (lt-ltb _ _ (earlier j hj u)))) (dec (whole j)))
-    where
-      whole : ℕ → Bool
-      whole j = every (nC p) (λ c. every (nA p) (passes p T j c))
-
-      earlier : (j : ℕ) → j < setsA p → whole j ≡ false → first (setsA p) (λ j. not (whole j)) < setsA p
-      earlier j hj u = by-cases (decLe (setsA p) (first (setsA p) (λ j. not (whole j))))
-          (λ l. absurd (clash (first-before (setsA p) (λ j. not (whole j)) j (omega arith)) (not-i u)))
-          (λ l. omega arith)
+  valid-passes t = first-all (setsA p) (λ j. every (nC p) (λ c. every (nA p) (passes p T j c))) (ltb-false _ _ (valid-next _ _ valid t .0))
