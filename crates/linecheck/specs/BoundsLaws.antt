@@ -18,7 +18,7 @@ use Rattle.machine.specs.declared.Machine.{Machine}
 use Rattle.machine.specs.declared.Pair.{Pair}
 use Rattle.machine.specs.Machines.{matched, moves, successors, inFairSet, fairSet, next, nC, nA, setsC, setsA, pairs}
 use Rattle.machine.specs.Observed.{matchedMasks}
-use Rattle.machine.specs.ObservedLaws.{has-matched}
+use Rattle.machine.specs.ObservedLaws.{has-matched-at}
 use Rattle.machine.specs.WellFormedLaws.{WellPair, bits-small}
 use Rattle.machine.specs.Ranks.{levelOf, setOf}
 use Rattle.machine.specs.Step.{steps, partner, inRow, found}
@@ -85,9 +85,6 @@ pub entry-small : (p : Pair) (T : List ℕ) → ((i : ℕ) → getD T i 0 ≤ bl
 unfolding entry
 entry-small p T small j c a = small _
 
-matched-bit : (p : Pair) → WellPair p → (c a : ℕ) → c < nC p → a < nA p → hasBit (getD (matchedMasks p) c 0) a ≡ matched p c a
-matched-bit p w c a hc ha = has-matched p w c hc a ∙ and-true-l _ (lt-ltb a (nA p) ha)
-
 -- the place that is found for an entry of a well-formed pair
 pub place-at : (p : Pair) → WellPair p → (r j c a : ℕ) → r ≡ placeOf (nC p) (nA p) j c a → j < 7 → c < nC p → a < 64 → r ≡ entryIndex (nC p) (nA p) j c a
 place-at p w r j c a e hj hc ha =
@@ -108,7 +105,7 @@ module _ (p : Pair) (T : List ℕ) (w : WellPair p) (small : (i : ℕ) → getD 
   line-is j c a hc ha h =
       let e = entry p T j c a in
       let most = setsC p * pairs p in
-      let bit = matched-bit p w c a hc ha in
+      let bit = has-matched-at p w c hc a ha in
       let fact = passes-covered p T j c a h in
       let P : Line → Type 0 = λ L. passes p T j c a ≡ asked p T L c a in
       cond-cases (not (hasBit (getD (matchedMasks p) c 0) a)) P fails _
@@ -162,4 +159,4 @@ module _ (p : Pair) (T : List ℕ) (w : WellPair p) (masks : List ℕ) (made : m
   unfolding atMost serves
   step-found hc moves bound key =
       rw made (row-found p T j c from to start end fits (w .abstraction .states-high) moves (getD (matchedMasks p) c 0) bound key)
-      ∙ someIn-cong (nA p) moves _ _ (λ a l e. ap (λ (b : Bool). and b (leb (entry p T j c a) bound)) (matched-bit p w c a hc l))
+      ∙ someIn-cong (nA p) moves _ _ (λ a l e. ap (λ (b : Bool). and b (leb (entry p T j c a) bound)) (has-matched-at p w c hc a l))

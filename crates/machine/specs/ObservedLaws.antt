@@ -9,6 +9,7 @@ use lib.Dec.{ltb}
 use lib.ListN.{length, getD}
 use borrow.Author.Tests.{lt-ltb, le-ltb}
 use Rattle.mask.specs.Logic.{and}
+use Rattle.mask.specs.LogicLaws.{and-true-l}
 use Rattle.mask.specs.Bits.{hasBit, withBit}
 use Rattle.mask.specs.Tables.{maskOf, table}
 use Rattle.mask.specs.TablesLaws.{maskOf-lt, maskOf-hit, maskOf-miss, has-maskOf, table-at, table-length, fill-done}
@@ -94,6 +95,9 @@ module _ (p : Pair) (well : WellPair p) (c : ℕ) (h : c < nC p) where
   pub has-matched : (a : ℕ) → hasBit (getD (matchedMasks p) c 0) a ≡ and (ltb a (nA p)) (matched p c a)
   unfolding matched observation
   has-matched a = rw matched-row (has-same _ (p .abstraction .observations) (nA p) a (well .abstraction .states-high))
+
+  pub has-matched-at : (a : ℕ) → a < nA p → hasBit (getD (matchedMasks p) c 0) a ≡ matched p c a
+  has-matched-at a l = has-matched a ∙ and-true-l _ (lt-ltb a (nA p) l)
 
   pub matched-small : getD (matchedMasks p) c 0 < 2 ^ nA p
   matched-small = rw matched-row (same-small _ (p .abstraction .observations) (nA p) (well .abstraction .states-high))

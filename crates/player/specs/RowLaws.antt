@@ -13,7 +13,7 @@ use Rattle.mask.specs.Bits.{hasBit}
 use Rattle.machine.specs.declared.Pair.{Pair}
 use Rattle.machine.specs.Machines.{nC, nA, setsA}
 use Rattle.machine.specs.Observed.{matchedMasks}
-use Rattle.machine.specs.ObservedLaws.{has-matched}
+use Rattle.machine.specs.ObservedLaws.{has-matched-at}
 use Rattle.machine.specs.Step.{partner, inRow}
 use Rattle.machine.specs.Table.{blank, tableRoom, entryIndex, placeOf, entry}
 use Rattle.machine.specs.RowLaws.{row-room, entry-room, row, row-length, row-at}
@@ -45,7 +45,7 @@ module _ (p : Pair) (T : List ℕ) (w : WellPair p) (small : (i : ℕ) → getD 
 
   in-row : (a : ℕ) → a < nA p → inRow (getD (matchedMasks p) c 0) here (blank - 1) a ≡ nonBlank p T j c a
   unfolding inRow nonBlank
-  in-row a h = ap₂ and (has-matched p w c hc a ∙ and-true-l _ (lt-ltb a (nA p) h))
+  in-row a h = ap₂ and (has-matched-at p w c hc a h)
       (and-true-l _ (lt-ltb a (length here) (omega (arith, row-length p T j c from to start end fits)))
       ∙ ap (λ (e : ℕ). leb e (blank - 1)) (row-at p T j c from to start end fits a h) ∙ sym (covers-bound p T j c a (entry-small p T small j c a)))
 
