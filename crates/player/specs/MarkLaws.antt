@@ -18,9 +18,8 @@ use Rattle.machine.specs.declared.Pair.{Pair}
 use Rattle.machine.specs.Lassos.{Lasso}
 use Rattle.machine.specs.Player.{placeAt, loopStart, samePlace, lastRound, earlierRound}
 use Rattle.soundness.specs.Statements.{IsRun}
-use Rattle.soundness.specs.PlayerLaws.{Playable, player-run}
+use Rattle.soundness.specs.PlayerLaws.{Playable, playable-covered, player-run}
 use Rattle.player.specs.Places.{numberOf, placeNumber, Marks}
-use Rattle.player.specs.PlaceLaws.{on-track}
 
 -- ---- the number of a state and a section
 pub number-low : (a j : ℕ) → numberOf a j < 448
@@ -43,8 +42,8 @@ module _ {p : Pair} {T : List ℕ} {l : Lasso} (k : Playable p T l) where
   number-same : (x y : ℕ) → placeNumber p T l x ≡ placeNumber p T l y → samePlace p T l x y ≡ true
   unfolding placeNumber samePlace
   number-same x y e =
-      let u = on-track k (loopStart p T l x) in
-      let v = on-track k (loopStart p T l y) in
+      let u = playable-covered k (loopStart p T l x) in
+      let v = playable-covered k (loopStart p T l y) in
       let w = k .well .abstraction in
       let same = number-one _ _ _ _ (omega (arith, u .bound, w .states-high)) (omega (arith, u .section-bound, w .sets-high))
       (omega (arith, v .bound, w .states-high)) (omega (arith, v .section-bound, w .sets-high)) e in

@@ -18,10 +18,8 @@ use Rattle.machine.specs.Step.{partner, stateOf}
 use Rattle.machine.specs.Table.{entry}
 use Rattle.machine.specs.Lines.{nonBlank}
 use Rattle.machine.specs.Player.{startPartner, sectionAfter, follow, stepTo, placeAt}
-use Rattle.soundness.specs.PlayLaws.{play-at, again-times, moment-again}
-use Rattle.soundness.specs.AnswerLaws.{Covered}
-use Rattle.soundness.specs.SoundLaws.{covered-at}
-use Rattle.soundness.specs.PlayerLaws.{Playable, good-play}
+use Rattle.soundness.specs.PlayLaws.{again-times, moment-again}
+use Rattle.soundness.specs.PlayerLaws.{Playable, playable-covered}
 use Rattle.player.specs.declared.Place.{Place}
 use Rattle.player.specs.Places.{momentOf, onward, startsBefore, Placed, OnPlay, Stepped}
 
@@ -116,20 +114,16 @@ module _ (p : Pair) (T : List ℕ) (l : Lasso) (t : ℕ) where
   rule-state d j a e f g = cc
 
 module _ {p : Pair} {T : List ℕ} {l : Lasso} (k : Playable p T l) where
-  -- wherever the rule leads, the table covers the pair
-  pub on-track : (t : ℕ) → Covered p T (moment l t) (placeAt p T l t)
-  on-track = covered-at p T (k .well) (k .passing) l (play-at (p .concrete) l (good-play (p .concrete) l (k .good))) (k .partnered)
-
   -- the concrete state at a position is one of the machine's
   pub beside-lt : {at : Place} → Placed l at → moment l (at .position) < nC p
   beside-lt {at} h = k .good .right (at .position) (h .within) .bound
 
   module _ {at : Place} (h : OnPlay p T l at) where
     pub state-lt : at .a < nA p
-    state-lt = omega (arith, h .state, on-track (momentOf (length (l .loop)) at) .bound)
+    state-lt = omega (arith, h .state, playable-covered k (momentOf (length (l .loop)) at) .bound)
 
-    pub section-lt : at .j < setsA p
-    section-lt = omega (arith, h .section, on-track (momentOf (length (l .loop)) at) .section-bound)
+    pub place-section-lt : at .j < setsA p
+    place-section-lt = omega (arith, h .section, playable-covered k (momentOf (length (l .loop)) at) .section-bound)
 
     -- a place made by the rule from the states at this position and the next
     pub steps-on : (to : Place) → let o = onward (length (l .stem)) (lassoLength l) at in to .position ≡ o .position → to .round ≡ o .round

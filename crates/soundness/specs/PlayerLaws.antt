@@ -29,7 +29,8 @@ use Rattle.machine.specs.RefusalsLaws.{valid-next, valid-if, then-answer}
 use Rattle.soundness.specs.Statements.{IsRun}
 use Rattle.soundness.specs.Plays.{runBetween}
 use Rattle.soundness.specs.PlayLaws.{play-at, play-parts, start-of, table-cut}
-use Rattle.soundness.specs.SoundLaws.{rounds-between, place-eq, returns, closes, agrees}
+use Rattle.soundness.specs.AnswerLaws.{Covered}
+use Rattle.soundness.specs.SoundLaws.{rounds-between, place-eq, covered-at, returns, closes, agrees}
 
 -- ---- a lasso that is not refused is a play of at most 64 states
 module _ (m : Machine) (l : Lasso) where
@@ -151,6 +152,10 @@ module _ (p : Pair) (T : List ℕ) (l : Lasso) where
       let z = lastRound p T l in
       rw (sym (rounds-between (length (l .stem)) (length (l .loop)) x z (omega arith)))
       (table-cut (loopStart p T l x) ((z - x) * length (l .loop)) (λ t. placeAt p T l t .state))
+
+-- wherever the rule leads, the table covers the pair
+pub playable-covered : {p : Pair} {T : List ℕ} {l : Lasso} → Playable p T l → (t : ℕ) → Covered p T (moment l t) (placeAt p T l t)
+playable-covered {p} {T} {l} k = covered-at p T (k .well) (k .passing) l (play-at (p .concrete) l (good-play (p .concrete) l (k .good))) (k .partnered)
 
 -- 448 rounds of a lasso of at most 64 states fit the buffer
 room : (stem loop rounds : ℕ) → stem + loop ≤ 64 → rounds ≤ 448 → 0 < rounds → stem + rounds * loop ≤ runRoom

@@ -21,9 +21,7 @@ use Rattle.machine.specs.EntriesLaws.{entry-same, covers-same, lines-same}
 use Rattle.machine.specs.Lines.{nonBlank}
 use Rattle.machine.specs.Player.{Place, startPartner, startValidity, sectionAfter, follow, stepTo, placeAt, samePlace, lastRound, earlierRound, stemLength, loopLength, run, played, playValidity, allValidity, playerAnswer, playerBuffer}
 use Rattle.soundness.specs.PlayLaws.{play-at}
-use Rattle.soundness.specs.AnswerLaws.{Covered}
-use Rattle.soundness.specs.SoundLaws.{covered-at}
-use Rattle.soundness.specs.PlayerLaws.{GoodLasso, good-lasso, good-play, Playable, playable}
+use Rattle.soundness.specs.PlayerLaws.{GoodLasso, good-lasso, good-play, Playable, playable, playable-covered}
 
 module _ (p : Pair) (T U : List ℕ) (same : SameEntries p T U) where
   -- ---- the rule's partners, among moves to states of the machine
@@ -58,14 +56,11 @@ module _ (p : Pair) (T U : List ℕ) (same : SameEntries p T U) where
   within l g = play-at (p .concrete) l (good-play (p .concrete) l g) .bound
 
   module _ (l : Lasso) (k : Playable p T l) where
-    covered : (t : ℕ) → Covered p T (moment l t) (placeAt p T l t)
-    covered = covered-at p T (k .well) (k .passing) l (play-at (p .concrete) l (good-play (p .concrete) l (k .good))) (k .partnered)
-
     place-unread : (t : ℕ) → placeAt p T l t ≡ placeAt p U l t
     unfolding placeAt
     place-unread zero = rw (start-unread (k .well) (moment l 0) (within l (k .good) 0))
     place-unread (suc t) =
-        step-unread (k .well) (moment l t) (moment l (suc t)) (placeAt p T l t) (within l (k .good) t) (within l (k .good) (suc t)) (covered t .bound) (covered t .section-bound) (covered (suc t) .section-bound)
+        step-unread (k .well) (moment l t) (moment l (suc t)) (placeAt p T l t) (within l (k .good) t) (within l (k .good) (suc t)) (playable-covered k t .bound) (playable-covered k t .section-bound) (playable-covered k (suc t) .section-bound)
         ∙ ap (λ at. stepTo p U (moment l t) at (moment l (suc t))) (place-unread t)
 
     same-unread : (x y : ℕ) → samePlace p T l x y ≡ samePlace p U l x y

@@ -15,7 +15,7 @@ use Rattle.machine.specs.PlayerLaws.{after-lt}
 use Rattle.player.specs.declared.Place.{Place}
 use Rattle.player.specs.Places.{Placed}
 use Rattle.player.specs.RowLaws.{index-is, index-lt}
-use Rattle.player.specs.PlaceLaws.{onward-placed, beside-lt, state-lt, section-lt, steps-on}
+use Rattle.player.specs.PlaceLaws.{onward-placed, beside-lt, state-lt, place-section-lt, steps-on}
 use Rattle.player.proofs.Place.step.Statement.{statement}
 use Rattle.player.proofs.Place.step.Tie as tie
 
@@ -29,7 +29,7 @@ a-lt : (c : tie.After-successors) → top c .args .self .a < nA (top c .args .p)
 a-lt c = state-lt (top c .pre .1 .0) (top c .pre .1 .1 .0)
 
 j-lt : (c : tie.After-successors) → top c .args .self .j < setsA (top c .args .p)
-j-lt c = section-lt (top c .pre .1 .0) (top c .pre .1 .1 .0)
+j-lt c = place-section-lt (top c .pre .1 .0) (top c .pre .1 .1 .0)
 
 state-at-requires : tie.Need-state-at-requires
 state-at-requires c κs = search needs
