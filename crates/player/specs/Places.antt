@@ -5,7 +5,7 @@ use mathlib.Core.Path.{_≡_}
 use Prim.Native.Nat.{ℕ, suc, _+_, _-_, _*_, _%_, _≤_, _<_}
 use lib.Dec.{eqb, ltb}
 use lib.ListN.{length, getD, drop}
-use Rattle.mask.specs.Tables.{table}
+use Rattle.mask.specs.Tables.{front}
 use Rattle.machine.specs.declared.Pair.{Pair}
 use Rattle.machine.specs.Observed.{matchedMasks}
 use Rattle.machine.specs.Lassos.{Lasso, lassoLength}
@@ -69,7 +69,7 @@ module _ (p : Pair) (T : List ℕ) (l : Lasso) where
 
   -- a buffer into which the states of the first t moments are written
   unfoldable pub writtenTo : ℕ → List ℕ → List ℕ
-  writtenTo t buffer = table t (λ t. placeAt p T l t .state) ++ drop t buffer
+  writtenTo t buffer = front t (λ t. placeAt p T l t .state) buffer
 
   -- and one into which the whole run is
   unfoldable pub written : List ℕ → List ℕ

@@ -4,9 +4,8 @@ use mathlib.Core.Path.{_≡_, refl}
 use Prim.Native.Nat.{ℕ, _+_, _-_, _*_, _≤_, _<_}
 use native.Mathlib.Omega.{arith}
 use lib.ListN.{length, set}
-use Rattle.mask.specs.Tables.{table}
 use Rattle.mask.specs.TablesLaws.{table-length}
-use Rattle.mask.specs.FrontLaws.{front-turn}
+use Rattle.mask.specs.FrontLaws.{front-none, front-turn}
 use Rattle.machine.specs.declared.Pair.{Pair}
 use Rattle.machine.specs.WellFormedLaws.{mul-bound}
 use Rattle.machine.specs.Lassos.{Lasso}
@@ -19,8 +18,8 @@ use Rattle.player.specs.Places.{momentOf, Placed, writtenTo, written}
 
 module _ (p : Pair) (T : List ℕ) (l : Lasso) where
   pub written-none : (buffer : List ℕ) → buffer ≡ writtenTo p T l 0 buffer
-  unfolding writtenTo table
-  written-none buffer = refl
+  unfolding writtenTo
+  written-none buffer = front-none (λ t. placeAt p T l t .state) buffer
 
   pub written-more : (t : ℕ) (buffer : List ℕ) → t < length buffer → set (writtenTo p T l t buffer) t (placeAt p T l t .state) ≡ writtenTo p T l (t + 1) buffer
   unfolding writtenTo
