@@ -7,7 +7,6 @@ use Prim.Native.Nat.{ℕ, _-_, _*_, _≤_, _<_}
 use native.Mathlib.Decide.{ℕ-discrete}
 use native.Mathlib.Omega.{arith}
 use borrow.Author.Tests.{eq-eqb, ne-eqb}
-use Rattle.mask.specs.Logic.{and}
 use Rattle.mask.specs.LogicLaws.{dec, clash}
 use Rattle.mask.specs.Bits.{hasBit}
 use Rattle.mask.specs.BoundedLaws.{someIn-at, someIn-of}
@@ -172,9 +171,9 @@ module _ (p : Pair) (T : List ℕ) where
           least = λ i l u v. x .keyed i (small l) u v;
         }
 
-    pub answer : (c d : ℕ) (at : Place) → c < nC p → Covered c at → d < nC p → moves (p .concrete) c d ≡ true → Answer c d at (stepTo p T c at d)
+    pub step-answers : (c d : ℕ) (at : Place) → c < nC p → Covered c at → d < nC p → moves (p .concrete) c d ≡ true → Answer c d at (stepTo p T c at d)
     unfolding stepTo
-    answer c d at hc h hd m = answer-of c d at hc h hd m _ (follow-least c d at (h .bound) (candidate c d at hc h hd m))
+    step-answers c d at hc h hd m = answer-of c d at hc h hd m _ (follow-least c d at (h .bound) (candidate c d at hc h hd m))
 
     -- the rule's start, where there is a partner
     pub start-place : (c : ℕ) → found (startPartner p T c) ≡ true → Covered c (record { state = stateOf (startPartner p T c); section = 0 })

@@ -24,7 +24,7 @@ use Rattle.soundness.specs.Pigeonhole.{pigeonhole}
 use Rattle.soundness.specs.Cycle.{zero-met, sections-met}
 use Rattle.soundness.specs.Plays.{runBetween, Again, Play}
 use Rattle.soundness.specs.PlayLaws.{again-times, moment-again, fair-round, lassoOf-moment, lassoOf-play}
-use Rattle.soundness.specs.AnswerLaws.{Covered, entryAt, Answer, passing-at, answer, start-place}
+use Rattle.soundness.specs.AnswerLaws.{Covered, entryAt, Answer, passing-at, step-answers, start-place}
 
 -- from the loop start after x rounds to that after z rounds
 pub rounds-between : (stem loop x z : ℕ) → x ≤ z → stem + x * loop + (z - x) * loop ≡ stem + z * loop
@@ -39,7 +39,7 @@ module _ (p : Pair) (T : List ℕ) (w : WellPair p) (passing : passesEach p T �
     (partnered : found (startPartner p T (moment l 0)) ≡ true) where
   answered-from : (t : ℕ) → Covered p T (moment l t) (placeAt p T l t) → Answer p T (moment l t) (moment l (suc t)) (placeAt p T l t) (placeAt p T l (suc t))
   unfolding placeAt
-  answered-from t h = answer p T w passing (moment l t) (moment l (suc t)) (placeAt p T l t) (y .bound t) h (y .bound (suc t)) (y .step t)
+  answered-from t h = step-answers p T w passing (moment l t) (moment l (suc t)) (placeAt p T l t) (y .bound t) h (y .bound (suc t)) (y .step t)
 
   pub covered-at : (t : ℕ) → Covered p T (moment l t) (placeAt p T l t)
   unfolding placeAt
