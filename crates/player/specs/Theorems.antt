@@ -12,7 +12,7 @@ use Rattle.machine.specs.Lassos.{Lasso}
 use Rattle.machine.specs.Player.{runRoom, allValidity, playerAnswer, playerBuffer, playValidity, run, stemLength, loopLength}
 use Rattle.soundness.specs.Statements.{IsRun}
 use Rattle.soundness.specs.PlayerLaws.{playable, good-play, player-run}
-use Rattle.player.specs.Statements.{lassoIn, RunGiven, GivenRunIsRight, RefusalKeepsBuffer}
+use Rattle.player.specs.Statements.{runIn, RunGiven, GivenRunIsRight, RefusalKeepsBuffer}
 
 pub refusal-keeps-buffer : RefusalKeepsBuffer
 unfolding playerAnswer playerBuffer
@@ -42,7 +42,7 @@ module _ (p : Pair) (T : List ℕ) (l : Lasso) (buffer : List ℕ) (tested : all
   run-is = player-run p T l (playable p T l (tests .1))
 
   -- the bytes that the answer tells of are the run
-  bytes-are : lassoIn (stemLength p T l) (loopLength p T l) (playerBuffer p T l buffer)
+  bytes-are : runIn (stemLength p T l) (loopLength p T l) (playerBuffer p T l buffer)
       ≡ record { stem = take (stemLength p T l) (run p T l); loop = drop (stemLength p T l) (run p T l) }
   bytes-are =
       let s = stemLength p T l in
