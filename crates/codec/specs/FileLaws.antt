@@ -25,7 +25,7 @@ use Rattle.machine.specs.WellFormedLaws.{valid-is-well}
 use Rattle.codec.specs.Format.{letters, fileLength, fileOf}
 use Rattle.codec.specs.Reader.{inputRoom, taken, checkHolds, numberHolds, blockHolds, headerByte, noteOf, headerHolds, countsHold, firstValidity, demanded, badBlock, paddingHolds, blocksValidity, payloadOf, machineAt, pairOf, entriesOf, readValidity, readAnswer, readTable, sizeOf}
 use Rattle.codec.specs.Writer.{fileRoom, writeValidity, writeAnswer, writeBuffer}
-use Rattle.codec.specs.Statements.{Representable, WriteRead, ReadWrite, NoTable, FirstBlock, FirstBlockTellsSize, TakenRepresentable, TakenFits, WriteAnswers, WrittenReads, ReadWrites, EntriesUnread}
+use Rattle.codec.specs.Statements.{Representable, WriteRead, ReadWrite, TableUnread, FirstBlock, FirstBlockTellsSize, TakenRepresentable, TakenFits, WriteAnswers, WrittenReads, ReadWrites, EntriesUnread}
 use Rattle.codec.specs.NumberLaws.{number-cong}
 use Rattle.codec.specs.FormatLaws.{check-cong, file-length, file-cong}
 use Rattle.codec.specs.WriterLaws as writer
@@ -120,8 +120,8 @@ read-write f lent p note b e =
         → getD (cond n (entriesOf f ++ drop (length (entriesOf f)) lent) lent) k 0 ≡ getD (entriesOf f) k 0
     entry n t k h = rw t (List·getD-append (entriesOf f) (drop (length (entriesOf f)) lent) 0 k h)
 
-pub no-table : NoTable
-no-table p T U = file-cong p false T U (λ t. absurd (false≢true t))
+pub table-unread : TableUnread
+table-unread p T U = file-cong p false T U (λ t. absurd (false≢true t))
 
 -- ---- what the calls say and write
 pub write-answers : WriteAnswers

@@ -48,8 +48,8 @@ ReadWrite = (f lent : List ℕ) (p : Pair) (note : Bool) → AreBytes f → read
     → (f ≡ fileOf p note (entriesOf f)) × (f ≡ fileOf p note (readTable f lent))
 
 -- a file without a table takes nothing of one
-abbrev pub NoTable : Type 0
-NoTable = (p : Pair) (T U : List ℕ) → fileOf p false T ≡ fileOf p false U
+abbrev pub TableUnread : Type 0
+TableUnread = (p : Pair) (T U : List ℕ) → fileOf p false T ≡ fileOf p false U
 
 -- ---- what the first block tells
 -- refusals up to 6 rest on the first block and the length alone
