@@ -10,7 +10,7 @@ use lib.Seq.{sets, length-sets, take-all}
 use Rattle.text.specs.declared.Digits.{Digits}
 use Rattle.text.specs.Decimal.{decimal}
 use Rattle.text.specs.Answers.{digitsFor}
-use Rattle.text.specs.DigitsLaws.{digits-start, digits-word}
+use Rattle.text.specs.DigitsLaws.{digits-word}
 use Rattle.codec.specs.ListLaws.{sets-then}
 use Rattle.machine.specs.declared.Refusal.{Refusal}
 use Rattle.machine.specs.Lassos.{Lasso, given}
@@ -26,14 +26,10 @@ use Rattle.playline.specs.Line.{runLine, outcomeLine, usageLine, playLin
 -- ---- a state
 -- its digits, as they were made
 module _ (s : ℕ) (d : Digits) (made : d ≡ digitsFor s) where
-  pub digits-place : d .start + length (decimal s) ≡ 20
-  digits-place = ap (λ (x : Digits). x .start + length (decimal s)) made ∙ digits-start s
-
   pub state-bytes : (out after : List ℕ) (at : ℕ) → after ≡ sets (set out at 32) (at + 1) (take (20 - d .start) (drop (d .start) (d .bytes)))
       → after ≡ sets out at (32 ∷ decimal s)
   state-bytes out after at e =
-      e ∙ ap (λ (x : Digits). sets (set out at 32) (at + 1) (take (20 - x .start) (drop (x .start) (x .bytes)))) made
-      ∙ ap (sets (set out at 32) (at + 1)) (digits-word s)
+      e ∙ ap (sets (set out at 32) (at + 1)) (digits-word s d made)
       ∙ ap (λ (k : ℕ). sets (set out at 32) k (decimal s)) (add-one at)
 
 -- ---- states

@@ -9,7 +9,7 @@ use lib.Seq.{sets, sets-eq, take-append-seam, drop-append-add}
 use Rattle.text.specs.declared.Digits.{Digits}
 use Rattle.text.specs.Decimal.{decimal}
 use Rattle.text.specs.Answers.{digitsFor}
-use Rattle.text.specs.DigitsLaws.{digits-start, digits-word}
+use Rattle.text.specs.DigitsLaws.{digits-place, digits-word}
 use Rattle.report.specs.declared.Line.{Line}
 use Rattle.report.specs.Answers.{lineOf}
 
@@ -54,15 +54,17 @@ more-line line s t ds k after h len e f =
     (omega (arith, at, len, length-append s (ds ++ (after ∷ [])), length-append ds (after ∷ [])))
 
 module _ (n : ℕ) (d : Digits) (made : d ≡ digitsFor n) where
-  digits-length : 20 - d .start ≡ length (decimal n)
-  digits-length = omega (arith, ap (λ (x : Digits). x .start) made, digits-start n)
-
   pub numbered-line : (line : Line) (s t : List ℕ) (after : ℕ) → line .length + 21 ≤ 128 → line ≡ lineOf s
       → t ≡ sets (line .text) (line .length) (take (20 - d .start) (drop (d .start) (d .bytes)))
       → _≡_ {A = Line} (record { text = set t (line .length + (20 - d .start)) after; length = line .length + (20 - d .start) + 1 }) (lineOf (s ++ (decimal n ++ (after ∷ []))))
   numbered-line line s t after h e f =
-      more-line line s t (decimal n) (20 - d .start) after (omega arith) digits-length e
-      (f ∙ ap (sets (line .text) (line .length)) (ap (λ (x : Digits). take (20 - x .start) (drop (x .start) (x .bytes))) made ∙ digits-word n))
+      more-line line s t (decimal n) (20 - d .start) after (omega arith) (omega (arith, digits-place n d made)) e
+      (f ∙ ap (sets (line .text) (line .length)) (digits-word n d made))
+
+-- a line lies within its array
+pub line-within : (s : List ℕ) (l : Line) → l ≡ lineOf s → l .length ≤ length (l .text)
+unfolding lineOf
+line-within s l e = rw e (omega (arith, length-append s (replicate (128 - length s) 0)))
 
 -- what a line's first `length` bytes are: its text
 pub line-text : (s : List ℕ) → take (lineOf s .length) (lineOf s .text) ≡ s

@@ -62,14 +62,19 @@ module _ {n : ℕ} {bytes : List ℕ} {start rest : ℕ} (p : Partly n bytes sta
       λ i. record { bytes = bytes-end i; start = left i }
 
 -- ---- the digits that were made
-pub digits-start : (n : ℕ) → digitsFor n .start + length (decimal n) ≡ 20
-unfolding digitsFor
-digits-start n = omega (arith, decimal-most n)
+module _ (n : ℕ) (d : Digits) (made : d ≡ digitsFor n) where
+  pub digits-place : d .start + length (decimal n) ≡ 20
+  unfolding digitsFor
+  digits-place = omega (arith, ap (λ (x : Digits). x .start) made, decimal-most n)
 
--- the digits are what stands from `start` on
-pub digits-word : (n : ℕ) → take (20 - digitsFor n .start) (drop (digitsFor n .start) (digitsFor n .bytes)) ≡ decimal n
-unfolding digitsFor
-digits-word n =
-    let before = 20 - length (decimal n) in
-    ap (take (20 - before)) (drop-at (replicate before 0) (decimal n) before (length-replicate {A = ℕ} before 0))
-    ∙ take-all (20 - before) (decimal n) (omega (arith, decimal-most n))
+  pub digits-start : d .start ≤ 20
+  digits-start = omega (arith, digits-place)
+
+  -- they are what stands from `start` on
+  pub digits-word : take (20 - d .start) (drop (d .start) (d .bytes)) ≡ decimal n
+  unfolding digitsFor
+  digits-word =
+      let before = 20 - length (decimal n) in
+      ap (λ (x : Digits). take (20 - x .start) (drop (x .start) (x .bytes))) made
+      ∙ ap (take (20 - before)) (drop-at (replicate before 0) (decimal n) before (length-replicate {A = ℕ} before 0))
+      ∙ take-all (20 - before) (decimal n) (omega (arith, decimal-most n))

@@ -1,27 +1,23 @@
 -- The line that is put is the front of the text that was made.
-use mathlib.Core.Path.{_≡_, sym, ap, _∙_}
-use Prim.Native.Nat.{_≤_}
+use mathlib.Core.Path.{sym, ap, _∙_}
 use native.Mathlib.Omega.{arith}
 use lib.ListN.{length, take, length-take}
 use lib.Seq.{length-take-le}
 use Rattle.report.specs.declared.Line.{Line}
-use Rattle.report.specs.LineLaws.{line-text}
+use Rattle.report.specs.LineLaws.{line-within, line-text}
 use Rattle.playline.specs.LineLaws.{same-line}
 use borrow.Author.Needs.{needs}
 use Rattle.playline.proofs.put_refused.Statement.{statement}
 use Rattle.playline.proofs.put_refused.Tie as tie
 
-within : (c : tie.After-refusal-line) → c .refusal-line .result .length ≤ length (c .refusal-line .result .text)
-within c = let full : length (c .refusal-line .result .text) ≡ 128 = search needs in omega (arith, c .refusal-line .ensures .1)
-
 refusal-line-requires : tie.Need-refusal-line-requires
 refusal-line-requires c κs = search needs
 
 array-share-prefix-text : tie.Need-array-share-prefix-text
-array-share-prefix-text c = within (c .before .before)
+array-share-prefix-text c = line-within _ _ (c .before .before .refusal-line .ensures .0)
 
 slice-aggregate-put-line : tie.Need-slice-aggregate-put-line
-slice-aggregate-put-line c = sym (length-take-le _ _ (within (c .before .before .before)))
+slice-aggregate-put-line c = sym (length-take-le _ _ (line-within _ _ (c .before .before .before .refusal-line .ensures .0)))
 
 put-line-requires : tie.Need-put-line-requires
 put-line-requires c κs = search needs

@@ -1,16 +1,13 @@
 -- A blank and at most three digits are put at the place.
 use mathlib.Core.Path.{_≡_}
-use Prim.Native.Nat.{_≤_}
 use native.Mathlib.Omega.{arith}
 use lib.ListN.{length, length-set}
+use Rattle.text.specs.DigitsLaws.{digits-place, digits-start}
 use Rattle.playline.specs.LassoLaws.{byte-decimal, decimal-length}
-use Rattle.playline.specs.LineLaws.{digits-place, state-bytes}
+use Rattle.playline.specs.LineLaws.{state-bytes}
 use borrow.Author.Needs.{needs}
 use Rattle.playline.proofs.put_state.Statement.{statement}
 use Rattle.playline.proofs.put_state.Tie as tie
-
-start-low : (c : tie.After-digits-of) → c .digits-of .result .start ≤ 20
-start-low c = omega (arith, digits-place _ _ (c .digits-of .ensures))
 
 digits-of-requires : tie.Need-digits-of-requires
 digits-of-requires c κs = search needs
@@ -22,10 +19,10 @@ add-put : tie.Need-add-put
 add-put c = search needs
 
 sub-put : tie.Need-sub-put
-sub-put c = start-low (c .before .before)
+sub-put c = digits-start _ _ (c .before .before .digits-of .ensures)
 
 part-put-start : tie.Need-part-put-start
-part-put-start c = start-low (c .before .before .before)
+part-put-start c = digits-start _ _ (c .before .before .before .digits-of .ensures)
 
 part-put-end : tie.Need-part-put-end
 part-put-end c = let full : length (c .before .before .before .digits-of .result .bytes) ≡ 20 = search needs in omega (arith, full)
@@ -34,7 +31,7 @@ put-requires : tie.Need-put-requires
 put-requires c κs = search needs
 
 sub-result : tie.Need-sub-result
-sub-result c = omega (arith, start-low (c .before .before .before .before .before .before .before))
+sub-result c = omega (arith, digits-start _ _ (c .before .before .before .before .before .before .before .digits-of .ensures))
 
 add-result : tie.Need-add-result
 add-result c = search needs

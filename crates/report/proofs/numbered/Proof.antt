@@ -1,9 +1,7 @@
 -- The digits and the byte after them go behind the text, which is then the longer text.
-use mathlib.Core.Path.{_≡_, ap}
+use mathlib.Core.Path.{_≡_}
 use lib.ListN.{length}
-use Prim.Native.Nat.{_≤_}
 use native.Mathlib.Omega.{arith}
-use Rattle.text.specs.declared.Digits.{Digits}
 use Rattle.text.specs.DigitsLaws.{digits-start}
 use Rattle.report.specs.LineLaws.{numbered-line}
 use borrow.Author.Needs.{needs}
@@ -16,14 +14,11 @@ digits-of-requires c κs = search needs
 slice-aggregate-put : tie.Need-slice-aggregate-put
 slice-aggregate-put c = search needs
 
-start-low : (c : tie.After-digits-of) → c .digits-of .result .start ≤ 20
-start-low c = omega (arith, ap (λ (x : Digits). x .start) (c .digits-of .ensures), digits-start (c .before .before .args .n))
-
 sub-put : tie.Need-sub-put
-sub-put c = start-low (c .before .before)
+sub-put c = digits-start _ _ (c .before .before .digits-of .ensures)
 
 part-put-start : tie.Need-part-put-start
-part-put-start c = start-low (c .before .before .before)
+part-put-start c = digits-start _ _ (c .before .before .before .digits-of .ensures)
 
 part-put-end : tie.Need-part-put-end
 part-put-end c = let full : length (c .before .before .before .digits-of .result .bytes) ≡ 20 = search needs in omega (arith, full)
@@ -32,7 +27,7 @@ put-requires : tie.Need-put-requires
 put-requires c κs = search needs
 
 sub-end : tie.Need-sub-end
-sub-end c = start-low (c .before .before .before .before .before .before)
+sub-end c = digits-start _ _ (c .before .before .before .before .before .before .digits-of .ensures)
 
 add-end : tie.Need-add-end
 add-end c = search needs

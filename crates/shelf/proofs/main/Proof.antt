@@ -1,9 +1,7 @@
 -- What was read is a front of the buffer, and the line lies within its array.
-use mathlib.Core.Path.{_≡_, sym}
-use Prim.Native.Nat.{_≤_}
-use native.Mathlib.Omega.{arith}
-use lib.ListN.{length}
+use mathlib.Core.Path.{sym}
 use lib.Seq.{length-take-le}
+use Rattle.report.specs.LineLaws.{line-within}
 use borrow.Author.Needs.{needs}
 use Rattle.shelf.proofs.main.Statement.{statement}
 use Rattle.shelf.proofs.main.Tie as tie
@@ -23,15 +21,11 @@ slice-aggregate-shelf-line c = search needs
 shelf-line-requires : tie.Need-shelf-line-requires
 shelf-line-requires c κs = search needs
 
--- the line lies within its array
-within : (c : tie.After-shelf-line) → c .shelf-line .result .length ≤ length (c .shelf-line .result .text)
-within c = let full : length (c .shelf-line .result .text) ≡ 128 = search needs in omega (arith, full, c .shelf-line .ensures .1)
-
 array-share-prefix-text : tie.Need-array-share-prefix-text
-array-share-prefix-text c = within (c .before)
+array-share-prefix-text c = line-within _ _ (c .before .shelf-line .ensures .0)
 
 slice-aggregate-write-all : tie.Need-slice-aggregate-write-all
-slice-aggregate-write-all c = sym (length-take-le _ _ (within (c .before .before)))
+slice-aggregate-write-all c = sym (length-take-le _ _ (line-within _ _ (c .before .before .shelf-line .ensures .0)))
 
 write-all-requires : tie.Need-write-all-requires
 write-all-requires c κs = search needs

@@ -1,10 +1,11 @@
 -- The call fills the buffer and gives a length within it; what is written is that front, or the line of the refusal.
-use mathlib.Core.Path.{_≡_, sym, _∙_}
+use mathlib.Core.Path.{sym, _∙_}
 use Prim.Native.Nat.{ℕ, _≤_}
 use native.Mathlib.Omega.{arith}
 use lib.ListN.{length, length-replicate}
 use lib.Seq.{length-take-le}
 use Rattle.codec.specs.AnswersLaws.{sized-bytes}
+use Rattle.report.specs.LineLaws.{line-within}
 use Rattle.restore.specs.RestoringLaws.{restore-small}
 use borrow.Author.Needs.{needs}
 use Rattle.solve.proofs.main.Statement.{statement}
@@ -53,15 +54,11 @@ enum-known-size-2 c = search needs
 refusal-line-requires : tie.Need-refusal-line-requires
 refusal-line-requires c κs = search needs
 
--- the line lies within its array
-within : (c : tie.After-refusal-line) → c .refusal-line .result .length ≤ length (c .refusal-line .result .text)
-within c = let full : length (c .refusal-line .result .text) ≡ 128 = search needs in omega (arith, full, c .refusal-line .ensures .1)
-
 array-share-prefix-text : tie.Need-array-share-prefix-text
-array-share-prefix-text c = within (c .before)
+array-share-prefix-text c = line-within _ _ (c .before .refusal-line .ensures .0)
 
 slice-aggregate-write-all-2 : tie.Need-slice-aggregate-write-all-2
-slice-aggregate-write-all-2 c = sym (length-take-le _ _ (within (c .before .before)))
+slice-aggregate-write-all-2 c = sym (length-take-le _ _ (line-within _ _ (c .before .before .refusal-line .ensures .0)))
 
 write-all-requires-2 : tie.Need-write-all-requires-2
 write-all-requires-2 c κs = search needs
