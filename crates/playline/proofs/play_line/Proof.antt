@@ -6,6 +6,7 @@ use native.Mathlib.Omega.{arith}
 use lib.ListN.{length, length-replicate}
 use lib.Seq.{length-take-le}
 use borrow.Author.Tests.{not-true, not-false}
+use Rattle.machine.specs.Player.{runRoom}
 use Rattle.playback.specs.PlayingLaws.{told-small}
 use Rattle.playline.specs.Lasso.{readable}
 use Rattle.playline.specs.LassoLaws.{readable-stroke}
@@ -29,8 +30,8 @@ counts c =
     let cycle : length (c .numbers-in2 .result .states) ≡ 65 = search needs in
     (omega (arith, c .before .before .numbers-in .ensures .0), omega (arith, c .numbers-in2 .ensures .0))
 
-run-long : (c : tie.After-play-bytes) → length (c .play-bytes .last .1 .1 .1 .0) ≡ 28672
-run-long c = c .play-bytes .kept .1 .1 .1 .0 ∙ length-replicate {A = ℕ} 28672 0
+run-long : (c : tie.After-play-bytes) → length (c .play-bytes .last .1 .1 .1 .0) ≡ runRoom
+run-long c = c .play-bytes .kept .1 .1 .1 .0 ∙ length-replicate {A = ℕ} runRoom 0
 
 stroke-at-requires : tie.Need-stroke-at-requires
 stroke-at-requires c κs = search needs
@@ -97,7 +98,7 @@ slice-aggregate-put-outcome c = search needs
 put-outcome-requires : tie.Need-put-outcome-requires
 put-outcome-requires c κs =
     let play = c .before .before .before .play-bytes in
-    let long : length (play .last .1 .1 .1 .0) ≡ 28672 = run-long (c .before .before .before) in
+    let long : length (play .last .1 .1 .1 .0) ≡ runRoom = run-long (c .before .before .before) in
     (omega arith, (search needs, λ s q e. omega (arith, told-small _ _ _ (play .ensures .0) e)))
 
 returns-2 : tie.Need-returns-2

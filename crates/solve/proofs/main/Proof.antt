@@ -4,6 +4,7 @@ use Prim.Native.Nat.{ℕ, _≤_}
 use native.Mathlib.Omega.{arith}
 use lib.ListN.{length, length-replicate}
 use lib.Seq.{length-take-le}
+use Rattle.codec.specs.Writer.{fileRoom}
 use Rattle.codec.specs.AnswersLaws.{sized-bytes}
 use Rattle.report.specs.LineLaws.{line-within}
 use Rattle.restore.specs.RestoringLaws.{restore-small}
@@ -37,7 +38,7 @@ fits : (c : tie.After-known-told) → c .before .size .given .0 .0 ≤ length (c
 fits c =
     let made = c .before .before .before .before .solve-bytes in
     let small = restore-small _ _ (sized-bytes (made .ensures .0) (c .before .size .given .1)) in
-    omega (arith, small, made .kept .1 .0 ∙ length-replicate {A = ℕ} 59392 0)
+    omega (arith, small, made .kept .1 .0 ∙ length-replicate {A = ℕ} fileRoom 0)
 
 array-share-prefix-out : tie.Need-array-share-prefix-out
 array-share-prefix-out c = fits c
