@@ -230,7 +230,7 @@ blocks-valid f e =
     record { long = eqb-true _ _ (not-false _ (a .0)); blocks = good-until f (ltb-false _ _ (b .0)); padding = not-false _ (c .0) }
 
 -- it has no more than 116
-payload-fits : (f : List ℕ) → countsHold f ≡ true → payloadDemanded f ≤ payloadMost
+pub payload-fits : (f : List ℕ) → countsHold f ≡ true → payloadDemanded f ≤ payloadMost
 unfolding payloadDemanded
 payload-fits f t =
     let r = in-range f t in

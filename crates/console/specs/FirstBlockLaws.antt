@@ -17,21 +17,14 @@ use Rattle.machine.specs.Refusals.{Tested, answer, refused, valid, refusal, bad
 use Rattle.machine.specs.RefusalsLaws.{refused-not-answer, then-of, then-refused, given-at, given-refused, pass-refused, buffer-valid}
 use Rattle.machine.specs.Table.{tableRoom}
 use Rattle.codec.specs.Format.{payloadMost}
-use Rattle.codec.specs.FormatLaws.{payload-most}
-use Rattle.codec.specs.Reader.{blockHolds, headerByte, noteOf, headerHolds, countsHold, firstValidity, payloadDemanded, demanded, sizeOf, readValidity, readAnswer}
-use Rattle.codec.specs.ReaderLaws.{first-valid, demanded-is, in-range, machines-fit}
+use Rattle.codec.specs.Reader.{blockHolds, headerHolds, countsHold, firstValidity, payloadDemanded, demanded, sizeOf, readValidity, readAnswer}
+use Rattle.codec.specs.ReaderLaws.{first-valid, demanded-is, payload-fits, machines-fit}
 use Rattle.codec.specs.FileLaws.{first-block-tells-size}
 use Rattle.codec.specs.Writer.{fileRoom}
 use Rattle.verdict.specs.Outcomes.{fileOutcome, outcomeNumber}
 use Rattle.console.specs.FirstBlock.{sizeNumber}
 
 -- ---- a length is a multiple of 512, and no more than any file has room for
-payload-fits : (f : List ℕ) → countsHold f ≡ true → payloadDemanded f ≤ payloadMost
-unfolding payloadDemanded
-payload-fits f t =
-    let r = in-range f t in
-    payload-most (headerByte f 4) (headerByte f 5) (headerByte f 6) (headerByte f 7) (noteOf f) (r .states-c) (r .states-a) (r .sets-c) (r .sets-a)
-
 whole-blocks : (n payload : ℕ) → n ≡ 512 * ((payload + 507) / 508) → 32 ≤ payload → payload ≤ payloadMost → (n % 512 ≡ 0) × (512 ≤ n) × (n ≤ fileRoom)
 whole-blocks n payload e low high = (omega arith, omega arith, omega arith)
 
