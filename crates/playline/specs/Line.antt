@@ -18,10 +18,10 @@ unfoldable pub runLine : List ℕ → List ℕ → List ℕ
 runLine stem loop = 114 ∷ 117 ∷ 110 ∷ (lassoText stem loop ++ (10 ∷ []))
 
 -- what is said, and the buffer that holds the run
-unfoldable pub outcomeLine : Result RunOutcome → List ℕ → List ℕ
-outcomeLine (answer (plays (played s q))) run = runLine (take s run) (take q (drop s run))
-outcomeLine (answer noTable) run = noTableText
-outcomeLine (refused r) run = refusalLine r
+unfoldable pub runOutcomeLine : Result RunOutcome → List ℕ → List ℕ
+runOutcomeLine (answer (plays (played s q))) run = runLine (take s run) (take q (drop s run))
+runOutcomeLine (answer noTable) run = noTableText
+runOutcomeLine (refused r) run = refusalLine r
 
 -- "usage: play 0 1 / 2 3 < show.dom" and a line feed
 abbrev pub usageLine : List ℕ
@@ -32,5 +32,5 @@ usageLine =
 unfoldable pub playLine : List ℕ → List ℕ → List ℕ
 playLine f text =
     let buffer : List ℕ = replicate runRoom 0 in
-    let said = outcomeLine (fileRun f (lassoIn text) buffer) (fileRunBuffer f (lassoIn text) buffer) in
+    let said = runOutcomeLine (fileRun f (lassoIn text) buffer) (fileRunBuffer f (lassoIn text) buffer) in
     cond (readable text) said usageLine

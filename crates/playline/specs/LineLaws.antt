@@ -21,7 +21,7 @@ use Rattle.playback.specs.declared.FileRun.the-variants.{Run, NoTable, Refused}
 use Rattle.playback.specs.Playing.{fileRun, fileRunBuffer, runOutcomeOf}
 use Rattle.playline.specs.Lasso.{numbersIn, strokeAt, readable, lassoIn, statesText, lassoText}
 use Rattle.playline.specs.LassoLaws.{drop-next}
-use Rattle.playline.specs.Line.{runLine, outcomeLine, usageLine, playLine}
+use Rattle.playline.specs.Line.{runLine, runOutcomeLine, usageLine, playLine}
 
 -- ---- a state
 -- its digits, as they were made
@@ -108,16 +108,16 @@ same-line out₀ e a b c = (a ∙ ap length e, (b, c ∙ ap (sets out₀ 0) e))
 
 -- the line of what was said
 module _ (said : FileRun) (run : List ℕ) where
-  pub line-run : (s q : ℕ) → said ≡ Run s q → runLine (take s run) (take q (drop s run)) ≡ outcomeLine (runOutcomeOf said) run
-  unfolding runOutcomeOf outcomeLine
+  pub line-run : (s q : ℕ) → said ≡ Run s q → runLine (take s run) (take q (drop s run)) ≡ runOutcomeLine (runOutcomeOf said) run
+  unfolding runOutcomeOf runOutcomeLine
   line-run s q e = rw e
 
-  pub line-none : said ≡ NoTable → noTableText ≡ outcomeLine (runOutcomeOf said) run
-  unfolding runOutcomeOf outcomeLine
+  pub line-none : said ≡ NoTable → noTableText ≡ runOutcomeLine (runOutcomeOf said) run
+  unfolding runOutcomeOf runOutcomeLine
   line-none e = rw e
 
-  pub line-refused : (r : Refusal) → said ≡ Refused r → refusalLine r ≡ outcomeLine (runOutcomeOf said) run
-  unfolding runOutcomeOf outcomeLine
+  pub line-refused : (r : Refusal) → said ≡ Refused r → refusalLine r ≡ runOutcomeLine (runOutcomeOf said) run
+  unfolding runOutcomeOf runOutcomeLine
   line-refused r e = rw e
 
 module _ (f text : List ℕ) where
@@ -137,9 +137,9 @@ module _ (f text : List ℕ) where
   pub play-said : (said : FileRun) (stem loop run : List ℕ) (stroke : ℕ) → readable text ≡ true → stroke ≡ strokeAt text
       → stem ≡ numbersIn (take stroke text) → loop ≡ numbersIn (take (length text - (stroke + 1)) (drop (stroke + 1) text))
       → runOutcomeOf said ≡ fileRun f (given stem loop) (replicate runRoom 0) → run ≡ fileRunBuffer f (given stem loop) (replicate runRoom 0)
-      → outcomeLine (runOutcomeOf said) run ≡ playLine f text
+      → runOutcomeLine (runOutcomeOf said) run ≡ playLine f text
   unfolding playLine
   play-said said stem loop run stroke t a b c e g =
       let buffer : List ℕ = replicate runRoom 0 in
-      let line : Lasso → List ℕ = λ l. outcomeLine (fileRun f l buffer) (fileRunBuffer f l buffer) in
-      ap₂ outcomeLine e g ∙ ap line (lasso-is stem loop stroke a b c) ∙ ap (λ (o : Bool). cond o (line (lassoIn text)) usageLine) (sym t)
+      let line : Lasso → List ℕ = λ l. runOutcomeLine (fileRun f l buffer) (fileRunBuffer f l buffer) in
+      ap₂ runOutcomeLine e g ∙ ap line (lasso-is stem loop stroke a b c) ∙ ap (λ (o : Bool). cond o (line (lassoIn text)) usageLine) (sym t)

@@ -13,7 +13,7 @@ ghost use Rattle.report.specs.Text.{refusalLine};
 ghost use Rattle.playback.specs.declared.FileRun.the-variants.{Run};
 ghost use Rattle.playback.specs.Playing.{runOutcomeOf};
 ghost use Rattle.playline.specs.Lasso.{isDigit, grown, isPlain, numbersIn, strokeAt, readable, statesText};
-ghost use Rattle.playline.specs.Line.{lineRoom, runLine, outcomeLine, playLine};
+ghost use Rattle.playline.specs.Line.{lineRoom, runLine, runOutcomeLine, playLine};
 use machine::Refusal;
 use playback::FileRun;
 
@@ -216,9 +216,9 @@ fn put_refused(out: &mut [u8], r: Refusal) -> usize
 // Writes the line of what is said, where the run stands in a buffer, and gives its length.
 fn put_outcome(out: &mut [u8], said: FileRun, run: &[u8]) -> usize
     requires { ⌜ (length (now run) ≤ runRoom) × ((lineRoom ≤ length (now out)) × ((s q : ℕ) → said ≡ Run s q → s + q ≤ length (now run))) ⌝ }
-    ensures length { λ r. ⌜ r ≡ length (outcomeLine (runOutcomeOf said) (now (run .entry))) ⌝ }
+    ensures length { λ r. ⌜ r ≡ length (runOutcomeLine (runOutcomeOf said) (now (run .entry))) ⌝ }
     ensures room { λ r. ⌜ r ≤ lineRoom ⌝ }
-    ensures bytes { λ _. ⌜ now (out .exit) ≡ sets (now (out .entry)) 0 (outcomeLine (runOutcomeOf said) (now (run .entry))) ⌝ }
+    ensures bytes { λ _. ⌜ now (out .exit) ≡ sets (now (out .entry)) 0 (runOutcomeLine (runOutcomeOf said) (now (run .entry))) ⌝ }
 {
     match said {
         FileRun::Run(s, q) => put_run_in(out, run, s, q),
