@@ -4,6 +4,7 @@ use mathlib.Core.Bool.{cond}
 use mathlib.Core.List.{List, [], _∷_, _++_}
 use Prim.Native.Nat.{ℕ}
 use lib.ListN.{length, drop}
+use lib.Seq.{sets}
 use lib.Dec.{ltb}
 use Rattle.machine.specs.declared.Refusal.{Refusal}
 use Rattle.machine.specs.declared.Validity.{Validity}
@@ -97,6 +98,11 @@ refusal number p q r = record { number = number; first = p; second = q; third = 
 -- its four numbers, as C gets them
 unfoldable pub fourNumbers : Refusal → List ℕ
 fourNumbers r = r .number ∷ r .first ∷ r .second ∷ r .third ∷ []
+
+-- for C: the final content of the list of four that is given for them; beside an answer it is unchanged
+unfoldable pub spotAfter : {A : Type 0} → Result A → List ℕ → List ℕ
+spotAfter (answer a) spot = spot
+spotAfter (refused r) spot = sets spot 0 (fourNumbers r)
 
 -- 1: a lent buffer of some length is "shorter than stated"
 unfoldable pub bufferValidity : ℕ → ℕ → Tested

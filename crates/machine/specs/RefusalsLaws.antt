@@ -1,4 +1,4 @@
--- Laws of results: which test of a row of tests tells the answer, and what a lent buffer holds then.
+-- Laws of results: which test of a row of tests tells the answer, and what a lent buffer and C's list of four hold then.
 use mathlib.Core.Bool.{Bool, true, false, cond}
 use mathlib.Core.List.{List, _++_}
 use mathlib.Core.Logic.{_⊎_, inl, inr}
@@ -7,11 +7,12 @@ use Prim.Native.Nat.{ℕ, _≤_, _<_}
 use native.Mathlib.Omega.{arith}
 use lib.Dec.{ltb}
 use lib.ListN.{length, drop, length-append, length-drop}
+use lib.Seq.{sets}
 use borrow.Author.Tests.{lt-ltb, le-ltb, ltb-false}
 use Rattle.machine.specs.declared.Refusal.{Refusal}
 use Rattle.machine.specs.declared.Validity.{Validity}
 use Rattle.machine.specs.declared.Validity.the-variants.{Valid, Refused}
-use Rattle.machine.specs.Refusals.{Result, answer, refused, Tested, valid, testedOf, andThen, passOn, bufferAfter, bufferValidity, refusal, short-buffer}
+use Rattle.machine.specs.Refusals.{Result, answer, refused, Tested, valid, testedOf, andThen, passOn, bufferAfter, fourNumbers, spotAfter, bufferValidity, refusal, short-buffer}
 
 -- ---- answers and refusals
 module _ {A : Type 0} where
@@ -121,6 +122,16 @@ module _ {A : Type 0} where
   unfolding bufferAfter
   buffer-length (answer a) made buffer h = omega (arith, length-append made (drop (length made) buffer), length-drop (length made) buffer)
   buffer-length (refused r) made buffer h = refl
+
+-- ---- C's list of four
+module _ {A : Type 0} where
+  pub spot-kept : {v : Result A} {a : A} (spot : List ℕ) → v ≡ answer a → spotAfter v spot ≡ spot
+  unfolding spotAfter
+  spot-kept spot e = rw e
+
+  pub spot-put : {v : Result A} {r : Refusal} (spot : List ℕ) → v ≡ refused r → spotAfter v spot ≡ sets spot 0 (fourNumbers r)
+  unfolding spotAfter
+  spot-put spot e = rw e
 
 -- ---- tests that say the same, with what is said and written where they refuse nothing
 pub then-same : {A : Type 0} (v u : Tested) (w x : Result A) → v ≡ u → (v ≡ valid → w ≡ x) → andThen v w ≡ andThen u x

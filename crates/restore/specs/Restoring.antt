@@ -3,8 +3,7 @@ use mathlib.Core.Bool.{true}
 use mathlib.Core.List.{List}
 use Prim.Native.Nat.{ℕ}
 use lib.ListN.{length}
-use lib.Seq.{sets}
-use Rattle.machine.specs.Refusals.{Result, answer, refused, fourNumbers, Tested, andThen, bufferValidity, bufferAfter}
+use Rattle.machine.specs.Refusals.{Result, answer, refused, Tested, andThen, bufferValidity, bufferAfter}
 use Rattle.machine.specs.Ranks.{solverTable}
 use Rattle.machine.specs.Table.{tableRoom}
 use Rattle.codec.specs.Format.{fileOf}
@@ -31,8 +30,3 @@ restoreBuffer f buffer = bufferAfter (restoreValidity f (length buffer)) (restor
 unfoldable pub lengthOf : Result ℕ → ℕ
 lengthOf (answer n) = n
 lengthOf (refused r) = 0
-
--- for C: the refusal's number and spot, in a list of four; beside a length it is unchanged
-unfoldable pub spotAfter : Result ℕ → List ℕ → List ℕ
-spotAfter (answer n) spot = spot
-spotAfter (refused r) spot = sets spot 0 (fourNumbers r)

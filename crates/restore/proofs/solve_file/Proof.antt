@@ -1,10 +1,9 @@
 -- The file's length, or the refusal's four numbers: what the two cases of the definitions say.
 use mathlib.Core.Path.{sym, ap, _∙_}
-use Prim.Native.Nat.{ℕ}
 use denote.Ref.{now}
-use Rattle.machine.specs.Refusals.{Result}
+use Rattle.machine.specs.RefusalsLaws.{spot-kept, spot-put}
 use Rattle.codec.specs.AnswersLaws.{sized-bytes, sized-refused}
-use Rattle.restore.specs.Restoring.{lengthOf, spotAfter}
+use Rattle.restore.specs.Restoring.{lengthOf}
 use borrow.Author.Needs.{needs}
 use Rattle.restore.proofs.solve_file.Statement.{statement}
 use Rattle.restore.proofs.solve_file.Tie as tie
@@ -25,22 +24,23 @@ same-length : tie.Need-same-length
 same-length c = search needs
 
 returns : tie.Need-returns
-unfolding lengthOf spotAfter
+unfolding lengthOf
 returns c =
     let made = c .before .before .before .before .before .solve-bytes .ensures in
     let told = sized-bytes (made .0) (c .before .n .given .1) in
-    (sym (ap lengthOf told), (made .1, sym (ap (λ (z : Result ℕ). spotAfter z (now (c .before .before .before .before .before .before .before .before .before .args .spot))) told)))
+    let spot = now (c .before .before .before .before .before .before .before .before .before .args .spot) in
+    (sym (ap lengthOf told), (made .1, sym (spot-kept spot told)))
 
 same-length-2 : tie.Need-same-length-2
 same-length-2 c = search needs
 
 returns-2 : tie.Need-returns-2
-unfolding lengthOf spotAfter
+unfolding lengthOf
 returns-2 c =
     let made = c .before .before .before .before .before .before .before .solve-bytes .ensures in
     let told = sized-refused (made .0) (c .before .before .before .r .given .1) in
     let spot = now (c .before .before .before .before .before .before .before .before .before .before .before .args .spot) in
-    (sym (ap lengthOf told), (made .1, c .put-refusal .ensures ∙ sym (ap (λ (z : Result ℕ). spotAfter z spot) told)))
+    (sym (ap lengthOf told), (made .1, c .put-refusal .ensures ∙ sym (spot-put spot told)))
 
 pub solve-file-spec : {M : Type 1} → statement M
 solve-file-spec =
