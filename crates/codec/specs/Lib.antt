@@ -3,6 +3,7 @@ pub mod Format
 pub mod Reader
 pub mod Writer
 pub mod Answers
+pub mod Outcomes
 pub mod Loading
 -- document 01's two sizes
 pub mod Sizes
@@ -15,6 +16,7 @@ pub mod BlockLaws
 pub mod WriterLaws
 pub mod ReaderLaws
 pub mod AnswersLaws
+pub mod OutcomesLaws
 -- the file laws
 pub mod Statements
 pub mod PayloadLaws

@@ -14,11 +14,13 @@ use Rattle.mask.specs.Logic.{not, or}
 use Rattle.mask.specs.LogicLaws.{dec, or-l, or-r, not-i}
 use Rattle.machine.specs.declared.Refusal.{Refusal}
 use Rattle.machine.specs.Refusals.{Tested, answer, refused, valid, refusal, bad-length}
-use Rattle.machine.specs.RefusalsLaws.{refused-not-answer, then-of, then-refused, given-at, given-refused, pass-refused, buffer-valid}
+use Rattle.machine.specs.RefusalsLaws.{refused-not-answer, then-of, then-refused, given-at, given-refused, buffer-valid}
 use Rattle.machine.specs.Table.{tableRoom}
+use Rattle.machine.specs.Verdict.{checkVerdict}
 use Rattle.codec.specs.Format.{payloadMost}
 use Rattle.codec.specs.Reader.{blockHolds, headerHolds, countsHold, firstValidity, payloadDemanded, demanded, sizeOf, readValidity, readAnswer}
 use Rattle.codec.specs.ReaderLaws.{first-valid, demanded-is, payload-fits, machines-fit}
+use Rattle.codec.specs.OutcomesLaws.{outcome-refused}
 use Rattle.codec.specs.FileLaws.{first-block-tells-size}
 use Rattle.codec.specs.Writer.{fileRoom}
 use Rattle.verdict.specs.Outcomes.{fileOutcome, outcomeNumber}
@@ -74,10 +76,10 @@ whole-told f some whole = ap sizeNumber (first-block-tells-size f some whole)
 -- where the first block is refused, so is the file, with the same number
 pub refused-told : (f : List ℕ) {r : Refusal} → (length f ≡ 0 → ⊥) → length f % 512 ≡ 0 → sizeOf (take 512 f) ≡ refused r
     → outcomeNumber (fileOutcome f) ≡ r .number
-unfolding sizeOf readValidity readAnswer fileOutcome outcomeNumber
+unfolding sizeOf readValidity readAnswer outcomeNumber
 refused-told f {r} some whole e =
     let first : firstValidity f ≡ refused r = given-refused (firstValidity f) (demanded f) (sym (first-block-tells-size f some whole) ∙ e) in
     let room = length (replicate {A = ℕ} tableRoom 0) in
     let read : readValidity f room ≡ refused r =
     then-of _ _ (buffer-valid tableRoom room (omega (arith, length-replicate {A = ℕ} tableRoom 0))) ∙ then-refused _ _ r first in
-    ap outcomeNumber (pass-refused (readAnswer f (replicate tableRoom 0)) _ (then-refused _ _ r read))
+    ap outcomeNumber (outcome-refused checkVerdict f (then-refused _ _ r read))

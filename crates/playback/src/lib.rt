@@ -1,7 +1,8 @@
 // A file's bytes and a lasso of its concrete machine in, the abstract machine's run out.
 ghost use mathlib.Core.Path.{_≡_};
+ghost use Rattle.machine.specs.Refusals.{spotAfter};
 ghost use Rattle.machine.specs.Lassos.{given};
-ghost use Rattle.playback.specs.Playing.{fileRun, fileRunBuffer, runOutcomeOf, runNumber, runSpot};
+ghost use Rattle.playback.specs.Playing.{fileRun, fileRunBuffer, runOutcomeOf, toldToC, runNumber};
 use codec::Reading;
 use machine::Refusal;
 use player::Played;
@@ -47,9 +48,9 @@ pub extern "C" fn play_file(
     run: &mut [u8],
     spot: &mut [u64; 4],
 ) -> u64
-    ensures { λ r. ⌜ r ≡ runNumber (fileRun (now (bytes .entry)) (given (now (stem .entry)) (now (cycle .entry))) (now (run .entry))) ⌝ }
+    ensures { λ r. ⌜ r ≡ runNumber (toldToC (fileRun (now (bytes .entry)) (given (now (stem .entry)) (now (cycle .entry))) (now (run .entry)))) ⌝ }
     ensures { λ _. ⌜ now (run .exit) ≡ fileRunBuffer (now (bytes .entry)) (given (now (stem .entry)) (now (cycle .entry))) (now (run .entry)) ⌝ }
-    ensures { λ _. ⌜ now (spot .exit) ≡ runSpot (fileRun (now (bytes .entry)) (given (now (stem .entry)) (now (cycle .entry))) (now (run .entry))) (now (spot .entry)) ⌝ }
+    ensures { λ _. ⌜ now (spot .exit) ≡ spotAfter (toldToC (fileRun (now (bytes .entry)) (given (now (stem .entry)) (now (cycle .entry))) (now (run .entry)))) (now (spot .entry)) ⌝ }
 {
     match play_bytes(bytes, stem, cycle, run) {
         FileRun::Run(s, q) => s as u64 * 65536 + q as u64,

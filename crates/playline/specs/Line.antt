@@ -4,9 +4,10 @@ use mathlib.Core.List.{List, [], _∷_, _++_}
 use Prim.Native.Nat.{ℕ}
 use lib.ListN.{take, drop, replicate}
 use Rattle.machine.specs.Refusals.{Result, answer, refused}
-use Rattle.machine.specs.Player.{played, runRoom}
+use Rattle.machine.specs.Player.{Played, played, runRoom}
+use Rattle.codec.specs.Outcomes.{Outcome, says, noTable}
 use Rattle.report.specs.Text.{noTableText, refusalLine}
-use Rattle.playback.specs.Playing.{RunOutcome, plays, noTable, fileRun, fileRunBuffer}
+use Rattle.playback.specs.Playing.{fileRun, fileRunBuffer}
 use Rattle.playline.specs.Lasso.{readable, lassoIn, lassoText}
 
 -- the room that any line has: four bytes for each state of a run, and the words
@@ -18,8 +19,8 @@ unfoldable pub runLine : List ℕ → List ℕ → List ℕ
 runLine stem loop = 114 ∷ 117 ∷ 110 ∷ (lassoText stem loop ++ (10 ∷ []))
 
 -- what is said, and the buffer that holds the run
-unfoldable pub runOutcomeLine : Result RunOutcome → List ℕ → List ℕ
-runOutcomeLine (answer (plays (played s q))) run = runLine (take s run) (take q (drop s run))
+unfoldable pub runOutcomeLine : Result (Outcome Played) → List ℕ → List ℕ
+runOutcomeLine (answer (says (played s q))) run = runLine (take s run) (take q (drop s run))
 runOutcomeLine (answer noTable) run = noTableText
 runOutcomeLine (refused r) run = refusalLine r
 

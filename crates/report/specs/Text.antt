@@ -7,7 +7,8 @@ use Rattle.machine.specs.declared.Refusal.{Refusal}
 use Rattle.machine.specs.Refusals.{Result, answer, refused}
 use Rattle.machine.specs.Verdict.{Verdict, carried, notCarried}
 use Rattle.codec.specs.Reader.{inputRoom}
-use Rattle.verdict.specs.Outcomes.{Outcome, says, noTable, fileOutcome}
+use Rattle.codec.specs.Outcomes.{Outcome, says, noTable}
+use Rattle.verdict.specs.Outcomes.{fileOutcome}
 
 abbrev pub blankSpace : List ℕ
 blankSpace = 32 ∷ []
@@ -42,7 +43,7 @@ verdictLine (carried n) = carriedText ++ (decimal n ++ lineFeed)
 verdictLine (notCarried c n) = notCarriedText ++ (decimal c ++ (blankSpace ++ (decimal n ++ lineFeed)))
 
 -- one of these, "no table", or a refusal's line
-unfoldable pub outcomeLine : Result Outcome → List ℕ
+unfoldable pub outcomeLine : Result (Outcome Verdict) → List ℕ
 outcomeLine (answer (says v)) = verdictLine v
 outcomeLine (answer noTable) = noTableText
 outcomeLine (refused r) = refusalLine r

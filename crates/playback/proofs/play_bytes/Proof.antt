@@ -6,9 +6,10 @@ use Rattle.machine.specs.Lassos.{given}
 use Rattle.machine.specs.Refusals.{answer, refused, passOn}
 use Rattle.codec.specs.declared.Reading.the-variants.{Taken}
 use Rattle.codec.specs.AnswersLaws.{read-taken, read-refused, refusal-of}
+use Rattle.codec.specs.Outcomes.{says}
 use Rattle.player.specs.declared.Played.{Played}
 use Rattle.player.specs.Answers.{playedOf}
-use Rattle.playback.specs.Playing.{plays, fileRun, fileRunBuffer, runOutcomeOf}
+use Rattle.playback.specs.Playing.{fileRun, fileRunBuffer, runOutcomeOf}
 use Rattle.playback.specs.PlayingLaws.{run-short, run-refused, run-bare, run-played}
 use borrow.Author.Needs.{needs}
 use Rattle.playback.proofs.play_bytes.Statement.{statement}
@@ -74,7 +75,7 @@ played : (c : tie.After-play) (v : Played) → c .play .result ≡ v →
     let x = c .before .before .before .before .before .before .before .before .before .before .before .before .before .before .before .before .args in
     let f = now (x .bytes) in
     let l = given (now (x .stem)) (now (x .cycle)) in
-    (passOn (playedOf v) (λ r. answer (plays r)) ≡ fileRun f l (now (x .run))) × (c .play .last .1 .1 .1 .1 .0 ≡ fileRunBuffer f l (now (x .run)))
+    (passOn (playedOf v) (λ r. answer (says r)) ≡ fileRun f l (now (x .run))) × (c .play .last .1 .1 .1 .1 .0 ≡ fileRunBuffer f l (now (x .run)))
 played c v is =
     let read = c .before .before .before .before .before .before .before .before .before .read-file .ensures in
     let told = c .before .before .before .before .before .before .reading .given .1 ∙ ap Taken (not-false _ (c .before .before .before .before .if2 .left)) in

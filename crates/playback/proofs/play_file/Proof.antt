@@ -1,14 +1,15 @@
 -- The run's two lengths as one number, or the four numbers of what stands in its place: what the three cases of the definitions say.
-use mathlib.Core.Path.{ap, _∙_}
+use mathlib.Core.Path.{sym, ap, _∙_}
 use Prim.Native.Nat.{_+_, _≤_}
 use native.Mathlib.Omega.{arith}
 use lib.Seq.{sets}
 use denote.Ref.{now}
 use Rattle.machine.specs.declared.Refusal.{Refusal}
 use Rattle.machine.specs.Refusals.{fourNumbers}
+use Rattle.machine.specs.RefusalsLaws.{spot-kept, spot-put}
 use Rattle.machine.specs.Player.{runRoom}
-use Rattle.playback.specs.Playing.{runOutcomeOf, runNumber, runSpot}
-use Rattle.playback.specs.PlayingLaws.{told-to-c, told-small}
+use Rattle.playback.specs.Playing.{runNumber}
+use Rattle.playback.specs.PlayingLaws.{told-run, told-bare, told-refused, told-small}
 use borrow.Author.Needs.{needs}
 use Rattle.playback.proofs.play_file.Statement.{statement}
 use Rattle.playback.proofs.play_file.Tie as tie
@@ -48,33 +49,33 @@ same-length : tie.Need-same-length
 same-length c = search needs
 
 returns : tie.Need-returns
-unfolding runOutcomeOf runNumber runSpot
+unfolding runNumber
 returns c =
     let said = c .before .before .before .before .before .play-bytes .ensures in
-    let told = told-to-c _ _ _ _ (said .0) (c .before .s .given .1) in
-    (told .0, (said .1, told .1))
+    let told = told-run _ _ _ (said .0) (c .before .s .given .1) in
+    (sym (ap runNumber told), (said .1, sym (spot-kept _ told)))
 
 same-length-2 : tie.Need-same-length-2
 same-length-2 c = search needs
 
 returns-2 : tie.Need-returns-2
-unfolding runOutcomeOf runNumber runSpot
+unfolding runNumber
 returns-2 c =
     let said = c .before .before .before .before .before .before .before .play-bytes .ensures in
-    let told = told-to-c _ _ _ _ (said .0) (c .before .before .before .enum-told .given .1) in
+    let told = told-bare _ _ _ (said .0) (c .before .before .before .enum-told .given .1) in
     let spot = now (c .before .before .before .before .before .before .before .before .before .before .before .before .before .args .spot) in
     let put = ap (λ (r : Refusal). sets spot 0 (fourNumbers r)) (c .before .refuse .ensures) in
-    (told .0, (said .1, c .put-refusal .ensures ∙ put ∙ told .1))
+    (sym (ap runNumber told), (said .1, c .put-refusal .ensures ∙ put ∙ sym (spot-put spot told)))
 
 same-length-3 : tie.Need-same-length-3
 same-length-3 c = search needs
 
 returns-3 : tie.Need-returns-3
-unfolding runOutcomeOf runNumber runSpot
+unfolding runNumber
 returns-3 c =
     let said = c .before .before .before .before .before .before .before .play-bytes .ensures in
-    let told = told-to-c _ _ _ _ (said .0) (c .before .before .before .r .given .1) in
-    (told .0, (said .1, c .put-refusal2 .ensures ∙ told .1))
+    let told = told-refused _ _ _ (said .0) (c .before .before .before .r .given .1) in
+    (sym (ap runNumber told), (said .1, c .put-refusal2 .ensures ∙ sym (spot-put _ told)))
 
 pub play-file-spec : {M : Type 1} → statement M
 play-file-spec =

@@ -2,14 +2,15 @@
 use borrow.Author.Tests.{not-true, not-false}
 use denote.Ref.{now}
 use Rattle.codec.specs.declared.Reading.the-variants.{Taken}
-use Rattle.codec.specs.Answers.{refusalOf}
-use Rattle.machine.specs.Refusals.{Result, answer, refused, passOn}
-use Rattle.machine.specs.Verdict.{Verdict}
+use Rattle.codec.specs.AnswersLaws.{read-taken, read-refused, refusal-of}
+use Rattle.codec.specs.Outcomes.{says}
+use Rattle.codec.specs.OutcomesLaws.{outcome-refused, outcome-bare, outcome-taken}
+use Rattle.machine.specs.Refusals.{answer, refused, passOn}
+use Rattle.machine.specs.Verdict.{checkVerdict}
 use Rattle.linecheck.specs.declared.Checked.{Checked}
 use Rattle.linecheck.specs.Answers.{verdictOf}
 use mathlib.Core.Path.{_≡_, sym, ap, _∙_}
-use Rattle.verdict.specs.Outcomes.{says, outcomeOf, fileOutcome}
-use Rattle.verdict.specs.OutcomesLaws.{file-refused, file-bare, file-taken}
+use Rattle.verdict.specs.Outcomes.{outcomeOf, fileOutcome}
 use borrow.Author.Needs.{needs}
 use Rattle.verdict.proofs.file_verdict.Statement.{statement}
 use Rattle.verdict.proofs.file_verdict.Tie as tie
@@ -30,16 +31,17 @@ refusal-of-requires : tie.Need-refusal-of-requires
 refusal-of-requires c κs = search needs
 
 returns : tie.Need-returns
-unfolding outcomeOf refusalOf
+unfolding outcomeOf
 returns c =
-    ap refused (c .refusal-of .ensures ∙ ap refusalOf (c .before .enum-told .given .1))
-    ∙ sym (file-refused _ _ _ (c .before .before .before .before .read-file .ensures .0) (c .before .before .before .before .read-file .ensures .1 .1) _ (c .before .enum-told .given .1))
+    let told = c .before .enum-told .given .1 in
+    ap refused (c .refusal-of .ensures ∙ refusal-of told)
+    ∙ sym (outcome-refused checkVerdict _ (read-refused _ (c .before .before .before .before .read-file .ensures .0) told))
 
 returns-2 : tie.Need-returns-2
 unfolding outcomeOf
 returns-2 c =
     let r = c .before .before .before .before .before .read-file .ensures in
-    sym (file-bare _ _ _ (r .0) (r .1 .1) (c .before .before .reading .given .1 ∙ ap Taken (not-true _ (c .if1 .taken))))
+    sym (outcome-bare checkVerdict _ (read-taken _ (r .0) (c .before .before .reading .given .1 ∙ ap Taken (not-true _ (c .if1 .taken)))))
 
 slice-aggregate-check-table : tie.Need-slice-aggregate-check-table
 slice-aggregate-check-table c = search needs
@@ -60,8 +62,8 @@ enum-known-checked-3 c = search needs
 checked : (c : tie.After-check-table) → fileOutcome (now (c .before .before .before .before .before .before .before .before .before .before .before .args .bytes)) ≡ passOn (verdictOf (c .check-table .result)) (λ v. answer (says v))
 checked c =
     let r = c .before .before .before .before .before .before .before .before .read-file .ensures in
-    file-taken _ _ _ (r .0) (r .1 .1) (c .before .before .before .before .before .reading .given .1 ∙ ap Taken (not-false _ (c .before .before .before .if1 .left)))
-    ∙ ap (λ (v : Result Verdict). passOn v (λ v. answer (says v))) (sym (c .check-table .ensures))
+    let told = c .before .before .before .before .before .reading .given .1 ∙ ap Taken (not-false _ (c .before .before .before .if1 .left)) in
+    outcome-taken checkVerdict _ (read-taken _ (r .0) told) (r .1 .1) (c .check-table .ensures)
 
 returns-3 : tie.Need-returns-3
 unfolding outcomeOf verdictOf passOn
