@@ -25,7 +25,7 @@ use Rattle.machine.specs.Machines.{successors, moves, fairSet, inFairSet, match
 use Rattle.machine.specs.Step.{partner, found, alike, steps}
 use Rattle.machine.specs.PartnerLaws.{partner-found}
 use Rattle.machine.specs.Observed.{matchedMasks}
-use Rattle.machine.specs.ObservedLaws.{matched-length, matched-at, row-out, has-matched, matched-small}
+use Rattle.machine.specs.ObservedLaws.{matched-length, matched-at, row-out, has-matched-at, matched-small}
 use Rattle.machine.specs.WellFormedLaws.{WellPair}
 use Rattle.machine.specs.Game.{pairSet, mem, sameSet, allMatched, goals}
 use Rattle.theory.specs.GameLaws.{Canonical, pairSet-cong, set-ext, same-of, same-within, same-holds}
@@ -136,9 +136,6 @@ module _ (p : Pair) where
     abbrev M : List ℕ
     M = matchedMasks p
 
-    has-M : (c a : ℕ) → c < nC p → a < nA p → hasBit (getD M c 0) a ≡ matched p c a
-    has-M c a hc ha = has-matched p w c hc a ∙ and-true-l _ (lt-ltb a (nA p) ha)
-
     M-past : (c : ℕ) → nC p ≤ c → c < 64 → getD M c 0 ≡ 0
     M-past c h k = matched-at p c k ∙ row-out _ _ (nC p) (nA p) c h
 
@@ -146,7 +143,7 @@ module _ (p : Pair) where
     unfolding allMatched
     matched-rows =
         fill-done 0 64 M (λ c. getD M c 0) (matched-length p) (λ c h. refl)
-        ∙ rows-is (λ c. getD M c 0) _ (λ c h. matched-small p w c h) (λ c a hc ha. has-M c a hc ha ∙ sym (and-true-r _ refl)) M-past
+        ∙ rows-is (λ c. getD M c 0) _ (λ c h. matched-small p w c h) (λ c a hc ha. has-matched-at p w c hc a ha ∙ sym (and-true-r _ refl)) M-past
 
     -- ---- the pairs that step into the set that rows hold
     abbrev Preds : List ℕ
@@ -189,7 +186,7 @@ module _ (p : Pair) where
         → table 64 (λ c. bitAnd (getD M c 0) (h c)) ≡ rowsOf (pairSet p f)
     met-is h f bits = rows-is (λ c. bitAnd (getD M c 0) (h c)) f
         (λ c l. omega (arith, and-le-l (getD M c 0) (h c), matched-small p w c l))
-        (λ c a hc ha. has-and a (getD M c 0) (h c) ∙ ap₂ and (has-M c a hc ha) (bits c a hc ha))
+        (λ c a hc ha. has-and a (getD M c 0) (h c) ∙ ap₂ and (has-matched-at p w c hc a ha) (bits c a hc ha))
         (λ c l k. omega (arith, and-le-l (getD M c 0) (h c), M-past c l k))
 
     pub goals-is : (Z : List (List ℕ)) (j : ℕ) (rows : List ℕ) → pairsIn p rows ≡ getD Z (next (setsA p) j) []

@@ -29,7 +29,7 @@ use Rattle.machine.specs.declared.Pair.{Pair}
 use Rattle.machine.specs.Machines.{fairSet, matched, next, nC, nA, setsA, pairs}
 use Rattle.machine.specs.StepLaws.{next-lt, next-wrap, next-step}
 use Rattle.machine.specs.Observed.{matchedMasks}
-use Rattle.machine.specs.ObservedLaws.{has-matched}
+use Rattle.machine.specs.ObservedLaws.{has-matched-at}
 use Rattle.machine.specs.WellFormedLaws.{WellPair, some-pairs, section-fits, entries-small}
 use Rattle.machine.specs.Game.{pairSet, mem, sameSet, none, allMatched, goals, levels, family}
 use Rattle.machine.specs.Ranks.{rank, solverTable}
@@ -160,15 +160,12 @@ module _ (p : Pair) (w : WellPair p) where
   unmatched-blank G q c a hc ha m =
       outside-blank p w G q c a hc ha (refute _ (λ t. clash m (of-allMatched p c a hc ha (levels-matched p G c a hc ha t))))
 
-  matched-bit : (c a : ℕ) → c < nC p → a < nA p → hasBit (getD (matchedMasks p) c 0) a ≡ matched p c a
-  matched-bit c a hc ha = has-matched p w c hc a ∙ and-true-l _ (lt-ltb a (nA p) ha)
-
   -- a section's first entries bound the ranks over any goals, and cover the matched pairs
   module _ {masks ys : List ℕ} (em : masks ≡ matchedMasks p) (ey : ys ≡ stampRows (nA p) masks (replicate 64 0) 0 (table (pairs p) (λ e. blank))) where
     first-entry : (c a : ℕ) → c < nC p → a < nA p → entryOf p ys c a ≡ cond (matched p c a) 0 blank
     first-entry c a hc ha =
         first-at (pairs p) (nA p) masks ey .1 (c * nA p + a) (digits-lt hc ha)
-        ∙ rw (digits-div c ha, digits-mod c ha, em) (ap (λ (b : Bool). cond b 0 blank) (matched-bit c a hc ha))
+        ∙ rw (digits-div c ha, digits-mod c ha, em) (ap (λ (b : Bool). cond b 0 blank) (has-matched-at p w c hc a ha))
 
     pub first-bounded : (G : List ℕ) → Canonical p G → Bounded p G ys
     first-bounded G q = record { long = first-at (pairs p) (nA p) masks ey .0; low = λ c a hc ha. ⊎-elim (yes c a hc ha) (no c a hc ha) (dec (matched p c a)); unmatched = λ c a hc ha m. first-entry c a hc ha ∙ rw m }
@@ -195,7 +192,7 @@ module _ (p : Pair) (w : WellPair p) where
     unfolding entry
     begun-entry j c a hj hc ha =
         ap (λ (n : ℕ). getD T n 0) (place j c a) ∙ d .begun j (c * nA p + a) hj (digits-lt hc ha)
-        ∙ rw (digits-div c ha, digits-mod c ha) (ap (λ (b : Bool). cond b 0 blank) (matched-bit c a hc ha))
+        ∙ rw (digits-div c ha, digits-mod c ha) (ap (λ (b : Bool). cond b 0 blank) (has-matched-at p w c hc a ha))
 
     begun-matched : (j c a : ℕ) → j < setsA p → c < nC p → a < nA p → matched p c a ≡ true → entry p T j c a ≡ 0
     begun-matched j c a hj hc ha m = begun-entry j c a hj hc ha ∙ rw m
