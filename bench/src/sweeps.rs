@@ -4,8 +4,6 @@
 //! - An X is found with a worklist: a row is looked at again only when the row of a successor has lost a pair.
 //! - Sections are swept in place, the last one first, and a section is solved again only when the set of the next one has lost a pair.
 //!   Its goals only shrink meanwhile, so ranks only rise, and an X starts from the pairs whose entries so far let them be in it.
-//! - Before its levels a section drops the pairs that can neither come to a goal nor stay matched for ever, fairness aside.
-//! - A level is over once it has all pairs of its start.
 use crate::plain::{bits, full, matched, Machine, Set, BLANK};
 
 struct Game<'a> {
@@ -93,10 +91,8 @@ impl Game<'_> {
         for c in 0..nc {
             goals[c] = self.matched[c] & fair & self.meet(c, &rows);
         }
-        let staying = self.largest(&goals, 0, &before, &self.partner_rows(&before));
-        self.stamp(&before, &staying, BLANK, section);
         let mut level = [0u64; 64];
-        for l in 0.. {
+        for l in 0..nc * self.a.states {
             let rows = self.partner_rows(&level);
             let (mut base, mut seen) = ([0u64; 64], [0u64; 64]);
             for c in 0..nc {
@@ -106,9 +102,6 @@ impl Game<'_> {
             let start = self.up_to(section, (l * m + m) as u16);
             let start_rows = self.partner_rows(&start);
             for k in 0..m {
-                if (0..nc).all(|c| start[c] & !seen[c] == 0) {
-                    break;
-                }
                 let x = self.largest(&base, self.c.fairness[k], &start, &start_rows);
                 self.stamp(&x, &seen, (l * m + k + 1) as u16, section);
                 for c in 0..nc {
