@@ -59,8 +59,8 @@ fn main() {
     nested::solve(&c, &a, &mut t);
     let f = file(&c, &a, Some(&t));
     let round: Vec<u8> = (0..64).collect();
-    judge("read and check, 64 by 61, rings", &f);
-    playing("read, check and play, 64 by 61, rings, loop of 64", &f, &[], &round);
+    judge("read and check, 64 by 64, rings", &f);
+    playing("read, check and play, 64 by 64, rings", &f, &[], &round);
 
     let (full_ratio, full_times) = batch("64 by 64, 1000 random", &full_size);
     let (eight_ratio, eight_times) = batch("8 by 8, 1000 random", &eight);

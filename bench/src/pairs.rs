@@ -165,16 +165,16 @@ pub fn linked_chain(links: Links) -> (Machine, Machine) {
     (c, a)
 }
 
-// a ring of 64 states and one of 61, one observation, every state in every set: the run of a lasso round the first comes back to its beginning
-// only after 61 rounds, or 61 x 7 where the sections go round too
+// a ring of 64 states, and one of 61 with three more states that lead into it; one observation, every state in every set: the run of a lasso
+// round the first comes back to its beginning only after 61 rounds, or 61 x 7 where the sections go round too
 pub fn rings(m: usize, n: usize) -> (Machine, Machine) {
-    let ring = |states: usize, sets: usize| {
-        let mut x = machine_of(states, sets);
-        for s in 0..states {
-            x.successors[s] = 1 << ((s + 1) % states);
+    let ring = |length: usize, sets: usize| {
+        let mut x = machine_of(64, sets);
+        for s in 0..64 {
+            x.successors[s] = 1 << ((s + 1) % length);
         }
         for k in 0..sets {
-            x.fairness[k] = full(states);
+            x.fairness[k] = full(64);
         }
         x
     };
