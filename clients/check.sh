@@ -1,12 +1,12 @@
 #!/bin/sh
 # Builds the programs in C from the archives. Holds `console` to the number of each sample and of damaged copies, `restore` to the samples
-# whose table is the solver's, and `play` to runs and refusals.
+# whose table is the solver's and to what `shelf` says of a hard show, and `play` to runs and refusals.
 set -eu
 cd "$(dirname "$0")/.."
 work=$(mktemp -d)
 trap 'rm -rf "$work"' EXIT
 # all at once first, since crates that do not depend on each other are proved side by side
-rt check console restore playback >"$work/log" 2>&1 || { tail -n 20 "$work/log"; exit 1; }
+rt check console restore playback shelf >"$work/log" 2>&1 || { tail -n 20 "$work/log"; exit 1; }
 for name in console restore playback; do
     rt staticlib "$name" >"$work/log" 2>&1 || { tail -n 20 "$work/log"; exit 1; }
 done
@@ -53,12 +53,12 @@ seal() {
     byte 511 $((sum / 256))
 }
 
-# the shelf examples, a large show, and a show that has lost its table
+# the shelf examples, a large show, and shows without a table
 for n in 01 03 05 06 10 12; do expect 100 "samples/case-$n.dom"; done
 for n in 02 04 09 11; do expect 200 "samples/case-$n.dom"; done
 for n in 07 08; do expect 12 "samples/case-$n.dom"; done
 expect 100 samples/large.dom
-expect 101 samples/lost.dom
+for name in lost hard; do expect 101 "samples/$name.dom"; done
 
 # each refusal of the reader
 : >"$work/empty"; expect 2 "$work/empty"
@@ -98,6 +98,10 @@ for name in lost case-06 case-07 case-08 case-09; do restores "samples/$name.dom
 for n in 01 03 05 10 12; do restores "samples/case-$n.dom" 100 "samples/case-$n.dom"; done
 for n in 02 04 11; do restores "samples/case-$n.dom" 200 "samples/case-$n.dom"; done
 restores samples/large.dom 100 samples/large.dom
+# a show that is hard to solve: its number, its count of entries, and its table once more
+same 'restore hard' 200 "$("$work/restore" samples/hard.dom "$work/hard")"
+same 'shelf hard' 'not carried 0 539' "$(target/bin/shelf <"$work/hard")"
+restores "$work/hard" 200 "$work/hard"
 same 'restore later' 'refused 7 3 0 0' "$("$work/restore" "$work/later" "$work/none")"
 same 'restore stuck' 'refused 11 1 1 0' "$("$work/restore" "$work/stuck" "$work/none")"
 from longer large; head -c 513 /dev/zero >>"$file"
