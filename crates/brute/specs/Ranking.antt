@@ -1,13 +1,13 @@
--- Ranks by trying every set of pairs. T is a table that tells what is covered, j a section; pair number e is (e / nA, e % nA).
+-- Ranks by trying every set of pairs, or by striking pairs out. T is a table that tells what is covered, j a section; pair number e is (e / nA, e % nA).
 use mathlib.Core.Bool.{Bool, cond}
 use mathlib.Core.List.{List}
 use Prim.Native.Nat.{ℕ, zero, suc, _+_, _*_, _/_, _%_, min}
-use lib.ListN.{length, getD, replicate}
-use lib.Dec.{eqb}
-use Rattle.mask.specs.Bits.{hasBit, fullMask}
-use Rattle.mask.specs.Bounded.{every, everyIn}
+use lib.ListN.{getD, replicate, set}
+use lib.Dec.{eqb, leb}
+use Rattle.mask.specs.Bits.{fullMask}
+use Rattle.mask.specs.Bounded.{every, first}
 use Rattle.mask.specs.Logic.{not, and, or}
-use Rattle.mask.specs.Tables.{table}
+use Rattle.mask.specs.Tables.{front}
 use Rattle.machine.specs.declared.Pair.{Pair}
 use Rattle.machine.specs.Machines.{inFairSet, matched, nA, setsC, setsA, pairs}
 use Rattle.machine.specs.WellFormed.{wellFormed}
@@ -18,18 +18,22 @@ use Rattle.brute.specs.declared.lines.Target.the-variants.{NonBlank, AtM
 use Rattle.brute.specs.Lines.{inTarget}
 use Rattle.brute.specs.Numbers.{numberedTable}
 
--- rank r for the pairs of set number x that have none yet
-unfoldable pub marked : ℕ → ℕ → List ℕ → List ℕ
-marked x r R = table (length R) (λ e. cond (and (hasBit x e) (eqb (getD R e 0) blank)) r (getD R e 0))
+-- of the first n pairs, rank r for those of set S that have none yet
+unfoldable pub marked : ℕ → List ℕ → ℕ → List ℕ → List ℕ
+marked n S r R = front n (λ e. cond (and (not (eqb (getD S e 0) blank)) (eqb (getD R e 0) blank)) r (getD R e 0)) R
+
+-- room for the pairs of any two machines
+abbrev pub pairRoom : ℕ
+pairRoom = 4096
 
 -- no pair has a rank
 abbrev pub unranked : List ℕ
-unranked = replicate 64 blank
+unranked = replicate pairRoom blank
 
 module _ (p : Pair) where
   -- the set whose number is x, as a table: 0 for its pairs, and else blank
   unfoldable pub asTable : ℕ → List ℕ
-  asTable x = numberedTable 1 x (pairs p) unranked
+  asTable x = numberedTable 1 x (pairs p) (replicate 64 blank)
 
   module _ (T : List ℕ) (j : ℕ) where
     -- "a goal, or steps into level l − 1, or has c outside rig set k and steps into X": level l − 1 has the entries of R that are at
@@ -41,19 +45,33 @@ module _ (p : Pair) where
         (or (steps p (inTarget p R (AtMost low) 0) c a)
         (and (not (inFairSet (p .concrete) k c)) (steps p (inTarget p S NonBlank 0) c a))))
 
-    -- each pair of set number x meets the rule of X(l, k), where i + 1 = (l − 1) × m + k
+    -- the first pair of S that does not meet the rule of X(l, k) over it, where i + 1 = (l − 1) × m + k; P where each meets it
+    unfoldable pub unkept : List ℕ → ℕ → List ℕ → ℕ
+    unkept R i S =
+        first (pairs p) (λ e. and (not (eqb (getD S e 0) blank)) (not (keeps R (i / setsC p * setsC p) (i % setsC p) S (e / nA p) (e % nA p))))
+
+    -- each pair of set number x meets that rule over it
     unfoldable pub closed : List ℕ → ℕ → ℕ → Bool
-    closed R i x = everyIn (pairs p) x (λ e. keeps R (i / setsC p * setsC p) (i % setsC p) (asTable x) (e / nA p) (e % nA p))
+    closed R i x = eqb (unkept R i (asTable x)) (pairs p)
 
     -- the greatest number up to x of such a set
     unfoldable pub largest : List ℕ → ℕ → ℕ → ℕ
     largest R i zero = 0
     largest R i (suc x) = let less = largest R i x in cond (closed R i (suc x)) (suc x) less
 
+    -- the first pair that does not meet the rule struck out, at most n times
+    unfoldable pub struck : List ℕ → ℕ → ℕ → List ℕ → List ℕ
+    struck R i zero S = S
+    struck R i (suc n) S = let later = struck R i n (set S (unkept R i S) blank) in cond (eqb (unkept R i S) (pairs p)) S later
+
+    -- X(l, k), where S has all pairs
+    unfoldable pub largestSet : List ℕ → ℕ → List ℕ → List ℕ
+    largestSet R i S = cond (leb (pairs p) 12) (numberedTable 1 (largest R i (fullMask (min (pairs p) 64))) (pairs p) S) (struck R i (pairs p) S)
+
     -- the pairs of the first n sets X(1, 1), .., X(1, m), X(2, 1), .. have their ranks
     unfoldable pub ranked : ℕ → List ℕ → List ℕ
     ranked zero R = R
-    ranked (suc i) R = let before = ranked i R in marked (largest before i (fullMask (min (pairs p) 64))) (suc i) before
+    ranked (suc i) R = let before = ranked i R in marked (pairs p) (largestSet before i (replicate pairRoom 0)) (suc i) before
 
     -- the rank of pair number e: "0 for a goal"
     unfoldable pub rankOf : List ℕ → ℕ → ℕ

@@ -1,4 +1,4 @@
--- Laws of ranks that are found by trying every set: the rule case by case, and what a turn of each loop does.
+-- Laws of ranks that are found by brute force: the rule case by case, and what a turn of each loop does.
 use mathlib.Core.Bool.{Bool, cond, false, true}
 use mathlib.Core.List.{List}
 use mathlib.Core.Path.{_∙_, _≡_, refl, sym}
@@ -6,14 +6,14 @@ use Prim.Native.Nat.{_%_, _*_, _+_, _-_, _/_, _<_, _≤_, min, suc, zero, ℕ}
 use native.Mathlib.Numerals.{add-one}
 use native.Mathlib.Omega.{arith}
 use lib.Dec.{eqb}
-use lib.ListN.{getD, length, set}
-use borrow.Author.Tests.{eq-eqb, ne-eqb}
-use Rattle.mask.specs.Bits.{fullMask, hasBit}
-use Rattle.mask.specs.BoundedLaws.{every-not, every-of, everyIn-at, everyIn-of}
-use Rattle.mask.specs.Logic.{and}
-use Rattle.mask.specs.LogicLaws.{and-false-l, and-false-r, and-i, and-true-l, clash, not-f, not-i, or-false-l, or-l, or-r, refute}
+use lib.ListN.{getD, length, replicate, set}
+use borrow.Author.Tests.{eq-eqb, le-leb, lt-leb, ne-eqb}
+use Rattle.mask.specs.Bits.{fullMask}
+use Rattle.mask.specs.BoundedLaws.{every-not, every-of, first-is, first-le, first-none}
+use Rattle.mask.specs.Logic.{and, not}
+use Rattle.mask.specs.LogicLaws.{and-false-l, and-false-r, and-i, and-true-l, not-f, not-i, or-false-l, or-l, or-r}
 use Rattle.mask.specs.Tables.{front}
-use Rattle.mask.specs.FrontLaws.{front-all, front-past, front-skip, front-turn}
+use Rattle.mask.specs.FrontLaws.{front-end, front-past, front-skip, front-turn}
 use Rattle.machine.specs.Lines.{goalLine}
 use Rattle.machine.specs.Machines.{inFairSet, matched, nA, pairs, setsA, setsC}
 use Rattle.machine.specs.Refusals.{refused}
@@ -24,33 +24,33 @@ use Rattle.machine.specs.declared.Pair.{Pair}
 use Rattle.machine.specs.declared.Refusal.{Refusal}
 use Rattle.brute.specs.Lines.{inTarget}
 use Rattle.brute.specs.Numbers.{numberedTable}
-use Rattle.brute.specs.Ranking.{asTable, closed, keeps, largest, marked, rankOf, ranked, sectionRanked, tableRanked, unranked}
+use Rattle.brute.specs.Ranking.{asTable, closed, keeps, largest, largestSet, marked, pairRoom, rankOf, ranked, sectionRanked, struck, tableRanked, unkept, unranked}
 use Rattle.brute.specs.declared.lines.Target.the-variants.{AtMost, NonBlank}
 
 -- ---- one rank is given to a set
-module _ (x r : ℕ) (R : List ℕ) where
+module _ (S : List ℕ) (r : ℕ) (R : List ℕ) where
   -- what becomes of entry e
   abbrev pub mark-at : ℕ → ℕ
-  mark-at e = cond (and (hasBit x e) (eqb (getD R e 0) blank)) r (getD R e 0)
+  mark-at e = cond (and (not (eqb (getD S e 0) blank)) (eqb (getD R e 0) blank)) r (getD R e 0)
 
   module _ {i : ℕ} {l : List ℕ} (d : l ≡ front i mark-at R) (h : i < length R) {v : List ℕ} where
-    pub mark-store : v ≡ set l i r → hasBit x i ≡ true → getD l i 0 ≡ blank → v ≡ front (i + 1) mark-at R
+    pub mark-store : v ≡ set l i r → (getD S i 0 ≡ blank → ⊥) → getD l i 0 ≡ blank → v ≡ front (i + 1) mark-at R
     mark-store z t e =
-        let b : and (hasBit x i) (eqb (getD R i 0) blank) ≡ true = and-i t (eq-eqb _ _ (sym (front-past mark-at R d i (omega arith)) ∙ e)) in
+        let b : and (not (eqb (getD S i 0) blank)) (eqb (getD R i 0) blank) ≡ true = and-i (not-i (ne-eqb _ _ t)) (eq-eqb _ _ (sym (front-past mark-at R d i (omega arith)) ∙ e)) in
         z ∙ front-turn mark-at R d h (rw b)
 
-    mark-keep : v ≡ l → and (hasBit x i) (eqb (getD R i 0) blank) ≡ false → v ≡ front (i + 1) mark-at R
+    mark-keep : v ≡ l → and (not (eqb (getD S i 0) blank)) (eqb (getD R i 0) blank) ≡ false → v ≡ front (i + 1) mark-at R
     mark-keep z b = z ∙ front-skip mark-at R d h (rw b)
 
-    pub mark-outside : v ≡ l → hasBit x i ≡ false → v ≡ front (i + 1) mark-at R
-    mark-outside z t = mark-keep z (and-false-l _ t)
+    pub mark-outside : v ≡ l → getD S i 0 ≡ blank → v ≡ front (i + 1) mark-at R
+    mark-outside z t = mark-keep z (and-false-l _ (not-f (eq-eqb _ _ t)))
 
     pub mark-ranked : v ≡ l → (getD l i 0 ≡ blank → ⊥) → v ≡ front (i + 1) mark-at R
     mark-ranked z n = mark-keep z (and-false-r _ (ne-eqb _ _ (λ e. n (front-past mark-at R d i (omega arith) ∙ e))))
 
-  pub mark-done : {i : ℕ} {l : List ℕ} → l ≡ front i mark-at R → i ≡ length R → l ≡ marked x r R
+  pub mark-done : {i n : ℕ} {l : List ℕ} → l ≡ front i mark-at R → i ≡ n → l ≡ marked n S r R
   unfolding marked
-  mark-done d h = front-all mark-at R d h
+  mark-done d h = front-end mark-at R d h
 
 module _ (p : Pair) (T : List ℕ) (j : ℕ) where
   -- ---- the rule of X(l, k)
@@ -79,19 +79,26 @@ module _ (p : Pair) (T : List ℕ) (j : ℕ) where
 
   -- ---- the sets that meet it, and the largest of them
   module _ (R : List ℕ) (i : ℕ) where
-    -- pair number e meets the rule over a set
-    abbrev pub kept-at : List ℕ → ℕ → Bool
-    kept-at S e = keeps p T j R (i / setsC p * setsC p) (i % setsC p) S (e / nA p) (e % nA p)
+    -- pair number e of a set does not meet the rule over it
+    abbrev pub unkept-at : List ℕ → ℕ → Bool
+    unkept-at S e = and (not (eqb (getD S e 0) blank)) (not (keeps p T j R (i / setsC p * setsC p) (i % setsC p) S (e / nA p) (e % nA p)))
+
+    pub unkept-is : (S : List ℕ) (e : ℕ) → e < pairs p → unkept-at S e ≡ true → ((k : ℕ) → k < e → unkept-at S k ≡ false) → unkept p T j R i S ≡ e
+    unfolding unkept
+    unkept-is S e h t b = first-is (pairs p) _ e h t b
+
+    pub unkept-none : (S : List ℕ) → ((k : ℕ) → k < pairs p → unkept-at S k ≡ false) → unkept p T j R i S ≡ pairs p
+    unfolding unkept
+    unkept-none S b = first-none (pairs p) _ b
+
+    pub unkept-le : (S : List ℕ) → unkept p T j R i S ≤ pairs p
+    unfolding unkept
+    unkept-le S = first-le (pairs p) _
 
     -- S is set number x as a table
-    module _ (x : ℕ) {S : List ℕ} (s : S ≡ numberedTable 1 x (pairs p) unranked) where
-      pub closed-not : (e : ℕ) → e < pairs p → hasBit x e ≡ true → kept-at S e ≡ false → closed p T j R i x ≡ false
-      unfolding closed asTable
-      closed-not e h t k = refute _ (λ u. clash (rw (← s) k) (everyIn-at (pairs p) x _ u e h t))
-
-      pub closed-all : ((e : ℕ) → e < pairs p → hasBit x e ≡ true → kept-at S e ≡ true) → closed p T j R i x ≡ true
-      unfolding closed asTable
-      closed-all h = rw (← s) (everyIn-of (pairs p) x _ h)
+    pub closed-is : (x : ℕ) {S : List ℕ} {e : ℕ} → S ≡ numberedTable 1 x (pairs p) (replicate 64 blank) → e ≡ unkept p T j R i S → eqb e (pairs p) ≡ closed p T j R i x
+    unfolding closed asTable
+    closed-is x s q = rw (q, s)
 
     pub largest-found : (x : ℕ) → 0 < x → closed p T j R i x ≡ true → largest p T j R i x ≡ x
     unfolding largest
@@ -108,14 +115,46 @@ module _ (p : Pair) (T : List ℕ) (j : ℕ) where
     largest-none zero h = refl
     largest-none (suc x) h = absurd (omega arith)
 
+    -- ---- pairs are struck out: A is what is left in the end
+    module _ (S : List ℕ) (n : ℕ) {A : List ℕ} (a : struck p T j R i n S ≡ A) where
+      pub struck-none : n ≡ 0 → S ≡ A
+      unfolding struck
+      struck-none z = rw z at a
+
+      module _ {e : ℕ} (q : e ≡ unkept p T j R i S) where
+        pub struck-done : e ≡ pairs p → S ≡ A
+        unfolding struck
+        struck-done z = sym (still n) ∙ a
+          where
+            still : (k : ℕ) → struck p T j R i k S ≡ S
+            still zero = refl
+            still (suc k) = rw (eq-eqb _ _ (sym q ∙ z))
+
+        pub struck-next : (k : ℕ) → (e ≡ pairs p → ⊥) → n ≡ suc k → struck p T j R i k (set S e blank) ≡ A
+        unfolding struck
+        struck-next k h z = go (rw z at a)
+          where
+            go : struck p T j R i (suc k) S ≡ A → struck p T j R i k (set S e blank) ≡ A
+            go b = rw q (rw (ne-eqb _ _ (λ y. h (q ∙ y))) at b)
+
+    -- ---- few pairs and many
+    module _ (S : List ℕ) {A : List ℕ} where
+      pub largest-few : {x : ℕ} → pairs p ≤ 12 → x ≡ largest p T j R i (fullMask (min (pairs p) 64)) → A ≡ numberedTable 1 x (pairs p) S → A ≡ largestSet p T j R i S
+      unfolding largestSet
+      largest-few h e a = a ∙ rw (le-leb (pairs p) 12 h, e)
+
+      pub largest-many : 12 < pairs p → A ≡ struck p T j R i (pairs p) S → A ≡ largestSet p T j R i S
+      unfolding largestSet
+      largest-many h a = a ∙ rw (lt-leb (pairs p) 12 h)
+
   -- ---- ranks one after the other
   pub ranked-start : (R : List ℕ) → R ≡ ranked p T j 0 R
   unfolding ranked
   ranked-start R = refl
 
-  pub ranked-step : (R₀ R : List ℕ) (i x : ℕ) → R ≡ ranked p T j i R₀ → x ≡ largest p T j R i (fullMask (min (pairs p) 64)) → marked x (i + 1) R ≡ ranked p T j (i + 1) R₀
+  pub ranked-step : (R₀ : List ℕ) {R S A : List ℕ} (i : ℕ) → R ≡ ranked p T j i R₀ → S ≡ largestSet p T j R i (replicate pairRoom 0) → A ≡ marked (pairs p) S (i + 1) R → A ≡ ranked p T j (i + 1) R₀
   unfolding ranked
-  ranked-step R₀ R i x e f = rw (f, e, add-one)
+  ranked-step R₀ i e f a = rw (a, f, e, add-one)
 
   -- ---- the rank of a pair
   module _ (R : List ℕ) (e : ℕ) where

@@ -1,12 +1,14 @@
-// A solver by another algorithm, second half: ranks. X(l, k) is found by trying every set of pairs, from the largest number down, and no
-// iteration. It takes what is covered from a lifted table, and at most 64 pairs.
+// A solver by another algorithm, second half: ranks. Of few pairs X(l, k) is found by trying every set of pairs, from the largest number
+// down, and no iteration; of more by striking out of all pairs, one at a time, those that do not meet its rule over what is left. What is
+// covered comes from a lifted table.
 ghost use mathlib.Core.Bool.{true};
 ghost use mathlib.Core.Path.{_≡_};
-ghost use Prim.Native.Nat.{_*_, _<_, min};
+ghost use Prim.Native.Nat.{_*_, _<_, _≤_, min};
+ghost use lib.ListN.{length};
 ghost use Rattle.mask.specs.Bits.{fullMask};
 ghost use Rattle.machine.specs.Machines.{pairs, setsA, setsC};
 ghost use Rattle.machine.specs.WellFormed.{wellFormed};
-ghost use Rattle.brute.specs.Ranking.{keeps, closed, largest, marked, ranked, rankOf, sectionRanked, tableRanked};
+ghost use Rattle.brute.specs.Ranking.{keeps, unkept, closed, largest, struck, largestSet, marked, ranked, rankOf, sectionRanked, tableRanked};
 use crate::lines::Target;
 use crate::lines::goal_holds;
 use crate::lines::steps_into;
@@ -17,6 +19,9 @@ use crate::machines::validity;
 use crate::numbers::put_entries;
 use machine::Pair;
 use machine::Validity;
+
+// Room for the pairs of any two machines: 64 x 64.
+const PAIR_ROOM: usize = 4096;
 
 // Whether (c, a) meets the rule of X(l, k) over a set that is given as a table: it is a goal, or steps into level l - 1, whose entries in
 // `ranks` are at most `low`, or has c outside set k and steps into the set.
@@ -49,7 +54,30 @@ fn is_kept(
     steps_into(p, set, Target::NonBlank, 0, c, a)
 }
 
-// Whether each pair of set number x meets the rule of X(l, k) over it; rank number i + 1 is that of l and k.
+// The first pair of a set that does not meet the rule of X(l, k) over it, the number of pairs where each does; rank number i + 1 is that of l
+// and k.
+fn first_unkept(p: Pair, lifted: &[u16], j: usize, ranks: &[u16], i: usize, set: &[u16]) -> usize
+    requires { ⌜ (wellFormed p ≡ true) × ((j < setsA p) × (i < setsC p * pairs p)) ⌝ }
+    ensures { λ r. ⌜ r ≡ unkept p (now (lifted .entry)) j (now (ranks .entry)) i (now (set .entry)) ⌝ }
+{
+    let concrete = p.concrete;
+    let abstraction = p.abstraction;
+    let pairs = concrete.states * abstraction.states;
+    let low = i / concrete.sets * concrete.sets;
+    let k = i % concrete.sets;
+    for e in 0..pairs {
+        if value_at(set, e) != machine::BLANK {
+            let c = e / abstraction.states;
+            let a = e % abstraction.states;
+            if !is_kept(p, lifted, j, ranks, low as u16, k, set, c, a) {
+                return e;
+            }
+        }
+    }
+    pairs
+}
+
+// Whether each pair of set number x meets that rule over it.
 fn is_closed(p: Pair, lifted: &[u16], j: usize, ranks: &[u16], i: usize, x: u64) -> bool
     requires { ⌜ (wellFormed p ≡ true) × ((j < setsA p) × (i < setsC p * pairs p)) ⌝ }
     ensures { λ r. ⌜ r ≡ closed p (now (lifted .entry)) j (now (ranks .entry)) i x ⌝ }
@@ -57,20 +85,9 @@ fn is_closed(p: Pair, lifted: &[u16], j: usize, ranks: &[u16], i: usize, x: u64)
     let concrete = p.concrete;
     let abstraction = p.abstraction;
     let pairs = concrete.states * abstraction.states;
-    let low = i / concrete.sets * concrete.sets;
-    let k = i % concrete.sets;
     let mut set = [machine::BLANK; 64];
     put_entries(x, 1, pairs, &mut set);
-    for e in 0..pairs {
-        if mask::has(x, e) {
-            let c = e / abstraction.states;
-            let a = e % abstraction.states;
-            if !is_kept(p, lifted, j, ranks, low as u16, k, &set, c, a) {
-                return false;
-            }
-        }
-    }
-    true
+    first_unkept(p, lifted, j, ranks, i, &set) == pairs
 }
 
 // The number of the largest such set: the greatest number, as the union of such sets is one.
@@ -90,12 +107,46 @@ fn largest_set(p: Pair, lifted: &[u16], j: usize, ranks: &[u16], i: usize) -> u6
     0
 }
 
-// Gives rank r to the pairs of set number x that have none yet.
-fn mark(x: u64, r: u16, ranks: &mut [u16])
-    ensures { λ _. ⌜ now (ranks .exit) ≡ marked x r (now (ranks .entry)) ⌝ }
+// Strikes out of a set the pairs that do not meet the rule, the first such pair each time. Pairs of a set that meets it are never struck out of
+// a larger one, so that the largest is left.
+fn strike_out(p: Pair, lifted: &[u16], j: usize, ranks: &[u16], i: usize, set: &mut [u16])
+    requires { ⌜ (wellFormed p ≡ true) × ((j < setsA p) × ((i < setsC p * pairs p) × (pairs p ≤ length (now set)))) ⌝ }
+    ensures { λ _. ⌜ now (set .exit) ≡ struck p (now (lifted .entry)) j (now (ranks .entry)) i (pairs p) (now (set .entry)) ⌝ }
 {
-    for e in 0..ranks.len() {
-        if mask::has(x, e) {
+    let concrete = p.concrete;
+    let abstraction = p.abstraction;
+    let pairs = concrete.states * abstraction.states;
+    for _ in 0..pairs {
+        let e = first_unkept(p, lifted, j, ranks, i, set);
+        if e == pairs {
+            return;
+        }
+        set[e] = machine::BLANK;
+    }
+}
+
+// Puts X(l, k) into `set`, which has all pairs.
+fn put_largest(p: Pair, lifted: &[u16], j: usize, ranks: &[u16], i: usize, set: &mut [u16])
+    requires { ⌜ (wellFormed p ≡ true) × ((j < setsA p) × ((i < setsC p * pairs p) × (pairs p ≤ length (now set)))) ⌝ }
+    ensures { λ _. ⌜ now (set .exit) ≡ largestSet p (now (lifted .entry)) j (now (ranks .entry)) i (now (set .entry)) ⌝ }
+{
+    let concrete = p.concrete;
+    let abstraction = p.abstraction;
+    let pairs = concrete.states * abstraction.states;
+    if pairs <= 12 {
+        put_entries(largest_set(p, lifted, j, ranks, i), 1, pairs, set);
+    } else {
+        strike_out(p, lifted, j, ranks, i, set);
+    }
+}
+
+// Of the first n pairs, gives rank r to those of a set that have none yet.
+fn mark(n: usize, set: &[u16], r: u16, ranks: &mut [u16])
+    requires { ⌜ n ≤ length (now ranks) ⌝ }
+    ensures { λ _. ⌜ now (ranks .exit) ≡ marked n (now (set .entry)) r (now (ranks .entry)) ⌝ }
+{
+    for e in 0..n {
+        if value_at(set, e) != machine::BLANK {
             if ranks[e] == machine::BLANK {
                 ranks[e] = r;
             }
@@ -105,14 +156,16 @@ fn mark(x: u64, r: u16, ranks: &mut [u16])
 
 // Gives each pair of section j the least rank whose X(l, k) has it, goals included.
 fn rank_pairs(p: Pair, lifted: &[u16], j: usize, ranks: &mut [u16])
-    requires { ⌜ (wellFormed p ≡ true) × (j < setsA p) ⌝ }
+    requires { ⌜ (wellFormed p ≡ true) × ((j < setsA p) × (pairs p ≤ length (now ranks))) ⌝ }
     ensures { λ _. ⌜ now (ranks .exit) ≡ ranked p (now (lifted .entry)) j (setsC p * pairs p) (now (ranks .entry)) ⌝ }
 {
     let concrete = p.concrete;
     let abstraction = p.abstraction;
-    for i in 0..concrete.sets * (concrete.states * abstraction.states) {
-        let x = largest_set(p, lifted, j, ranks, i);
-        mark(x, (i + 1) as u16, ranks);
+    let pairs = concrete.states * abstraction.states;
+    for i in 0..concrete.sets * pairs {
+        let mut set = [0u16; PAIR_ROOM];
+        put_largest(p, lifted, j, ranks, i, &mut set);
+        mark(pairs, &set, (i + 1) as u16, ranks);
     }
 }
 
@@ -140,7 +193,7 @@ fn section_ranked(p: Pair, lifted: &[u16], j: usize, table: &[u16]) -> bool
     let concrete = p.concrete;
     let abstraction = p.abstraction;
     let pairs = concrete.states * abstraction.states;
-    let mut ranks = [machine::BLANK; 64];
+    let mut ranks = [machine::BLANK; PAIR_ROOM];
     rank_pairs(p, lifted, j, &mut ranks);
     for e in 0..pairs {
         if rank_of(p, lifted, j, &ranks, e) != value_at(table, j * pairs + e) {

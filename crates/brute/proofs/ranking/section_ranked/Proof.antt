@@ -2,13 +2,13 @@
 use mathlib.Core.Path.{_∙_, _≡_, sym}
 use Prim.Native.Nat.{_*_, _+_, _-_, _<_, _≤_, ℕ}
 use native.Mathlib.Omega.{arith}
-use lib.ListN.{getD}
+use lib.ListN.{getD, length-replicate}
 use borrow.Author.Count.{below-more, below-none}
 use borrow.Author.Needs.{needs}
 use Rattle.machine.specs.Machines.{pairs}
-use Rattle.machine.specs.Table.{tableRoom}
+use Rattle.machine.specs.Table.{blank, tableRoom}
 use Rattle.machine.specs.WellFormedLaws.{WellPair, pairs-small, section-fits, well-pair}
-use Rattle.brute.specs.Ranking.{rankOf}
+use Rattle.brute.specs.Ranking.{pairRoom, rankOf}
 use Rattle.brute.specs.RankingLaws.{section-all, section-not}
 use Rattle.brute.proofs.ranking.section_ranked.Statement.{statement}
 use Rattle.brute.proofs.ranking.section_ranked.Tie as tie
@@ -32,7 +32,9 @@ slice-aggregate-rank-pairs : tie.Need-slice-aggregate-rank-pairs Inv-loop μ-loo
 slice-aggregate-rank-pairs c = search needs
 
 rank-pairs-requires : tie.Need-rank-pairs-requires Inv-loop μ-loop
-rank-pairs-requires c κs = c .before .before .before .before .before .before .before .pre
+rank-pairs-requires c κs =
+    let s = c .before .before .before .before .before .before .before in
+    (s .pre .0, (s .pre .1, rw (length-replicate pairRoom blank) (pairs-small _ (well s))))
 
 loop-holds : tie.Need-loop-holds Inv-loop μ-loop
 loop-holds c = (search needs, below-none _)
