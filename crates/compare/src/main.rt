@@ -1,14 +1,31 @@
 // Compares solver, check and player with brute force on series of small pairs, and writes a line of counts for each.
 ghost use mathlib.Core.Path.{_≡_};
+use brute::Rings;
 use brute::Shape;
 use comparison::Numbers;
 use comparison::Series;
+use comparison::Tally;
+use comparison::Trial;
 use libc::STDOUT_FILENO;
 
 // Writes a word and a number.
 fn show(word: &[u8], n: u64) {
     io::write_all(STDOUT_FILENO, word);
     io::print_decimal(STDOUT_FILENO, n);
+}
+
+// Writes the rest of a series' line.
+fn counts(t: Tally) {
+    show(b": pairs ", t.pairs);
+    show(b", well formed ", t.formed);
+    show(b", carried ", t.carried);
+    show(b"; tables ", t.tables);
+    show(b", passing ", t.passing);
+    show(b", carried ", t.carrying);
+    show(b"; lassos ", t.lassos);
+    show(b", runs ", t.runs);
+    show(b"; differing ", t.differing);
+    io::write_all(STDOUT_FILENO, b"\n");
 }
 
 // Compares a series and writes its line.
@@ -20,16 +37,7 @@ fn line(s: Series) {
     show(b" and ", a.states as u64);
     show(b", sets ", c.sets as u64);
     show(b" and ", a.sets as u64);
-    show(b": pairs ", t.pairs);
-    show(b", well formed ", t.formed);
-    show(b", carried ", t.carried);
-    show(b"; tables ", t.tables);
-    show(b", passing ", t.passing);
-    show(b", carried ", t.carrying);
-    show(b"; lassos ", t.lassos);
-    show(b", runs ", t.runs);
-    show(b"; differing ", t.differing);
-    io::write_all(STDOUT_FILENO, b"\n");
+    counts(t);
 }
 
 // A machine's states and sets, and the greatest digit: 2^states - 1, so that a mask can be any set of states.
@@ -53,9 +61,11 @@ fn tiny(c: Shape, x: Numbers, a: Shape, y: Numbers, tables: u64) {
         concretes: x,
         abstraction: a,
         abstractions: y,
-        every: true,
-        tables,
-        stem: 2,
+        trial: Trial {
+            every: true,
+            tables,
+            stem: 2,
+        },
     });
 }
 
@@ -66,10 +76,58 @@ fn small(c: Shape, x: Numbers, a: Shape, y: Numbers, tables: u64) {
         concretes: x,
         abstraction: a,
         abstractions: y,
+        trial: Trial {
+            every: false,
+            tables,
+            stem: 1,
+        },
+    });
+}
+
+// The lengths of a machine's rings, and its sets.
+fn ring(first: u32, second: u32, sets: usize) -> Rings
+    ensures { λ r. ⌜ r ≡ record { first = first; second = second; sets = sets } ⌝ }
+{
+    Rings {
+        first,
+        second,
+        sets,
+    }
+}
+
+// One pair of rings more, with the solver's table and all that differ from it in one entry.
+fn rings(t: Tally, back: bool, entry: u32, c: Rings, a: Rings, tables: u64) -> Tally {
+    let p = brute::ring_pair(back, entry, c, a);
+    let trial = Trial {
         every: false,
         tables,
-        stem: 1,
-    });
+        stem: 2,
+    };
+    comparison::add(t, comparison::compare_pair(p, trial))
+}
+
+// Pairs of the first family: four of coprime rings, two of others, and one with an entry past the states.
+fn staying() -> Tally {
+    let mut t = comparison::none();
+    t = rings(t, false, 1, ring(2, 2, 2), ring(3, 3, 1), 7380);
+    t = rings(t, false, 0, ring(3, 3, 1), ring(2, 2, 2), 8576);
+    t = rings(t, false, 2, ring(3, 2, 1), ring(2, 5, 1), 6160);
+    t = rings(t, false, 3, ring(2, 3, 1), ring(3, 5, 1), 7308);
+    t = rings(t, false, 1, ring(3, 2, 1), ring(2, 3, 1), 4158);
+    t = rings(t, false, 0, ring(2, 2, 2), ring(2, 2, 2), 9504);
+    rings(t, false, 9, ring(2, 2, 1), ring(3, 3, 1), 3780)
+}
+
+// Pairs of the second family: four of coprime rings, two of others, and one with too long a ring.
+fn leading_back() -> Tally {
+    let mut t = comparison::none();
+    t = rings(t, true, 0, ring(2, 2, 2), ring(3, 3, 1), 12402);
+    t = rings(t, true, 0, ring(3, 3, 1), ring(2, 2, 2), 16016);
+    t = rings(t, true, 0, ring(3, 2, 1), ring(2, 5, 1), 9898);
+    t = rings(t, true, 0, ring(2, 3, 1), ring(3, 5, 1), 11340);
+    t = rings(t, true, 0, ring(3, 2, 1), ring(2, 3, 1), 7308);
+    t = rings(t, true, 0, ring(2, 2, 2), ring(2, 2, 1), 8910);
+    rings(t, true, 0, ring(2, 2, 1), ring(3, 60, 1), 6318)
 }
 
 fn main() {
@@ -136,4 +194,8 @@ fn main() {
         numbers(16, 121013),
         378,
     );
+    io::write_all(STDOUT_FILENO, b"rings with ends that stay");
+    counts(staying());
+    io::write_all(STDOUT_FILENO, b"rings with an end that leads back");
+    counts(leading_back());
 }

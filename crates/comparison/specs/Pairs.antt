@@ -14,6 +14,7 @@ use Rattle.brute.specs.Numbers.{numberedPair}
 use Rattle.brute.specs.Lifting.{liftedTable}
 use Rattle.brute.specs.Ranking.{tableRanked}
 use Rattle.comparison.specs.declared.pairs.Series.{Series}
+use Rattle.comparison.specs.declared.pairs.Trial.{Trial}
 use Rattle.comparison.specs.declared.tally.Tally.{Tally}
 use Rattle.comparison.specs.Answers.{testedFour, sameFour}
 use Rattle.comparison.specs.Tallies.{plus, total, ofPair, ofSolution}
@@ -35,16 +36,16 @@ solutionTally p n every carrying S =
     let own = tableTally p n S S in
     ofSolution (own .carrying) (solutionAgrees p n (verdictFits own every carrying) (liftedTable p zeros) S)
 
-module _ (s : Series) where
+module _ (t : Trial) where
   -- the tables of a pair, S being the solver's
   unfoldable pub tablesTally : Pair → List ℕ → Tally
-  tablesTally p S = total (s .tables) (λ x. tableTally p (entries p) S (triedTable (s .every) (setsC p * pairs p + 2) (entries p) S x zeros))
+  tablesTally p S = total (t .tables) (λ x. tableTally p (entries p) S (triedTable (t .every) (setsC p * pairs p + 2) (entries p) S x zeros))
 
   -- a well-formed pair
   unfoldable pub formedTally : Pair → List ℕ → Tally
   formedTally p S =
       let tables = tablesTally p S in
-      plus (plus tables (solutionTally p (entries p) (s .every) (tables .carrying) S)) (lassosTally p S (nC p) (s .stem))
+      plus (plus tables (solutionTally p (entries p) (t .every) (tables .carrying) S)) (lassosTally p S (nC p) (t .stem))
 
   -- any pair: a further count where nothing is refused
   unfoldable pub pairTally : Pair → Tally
@@ -53,9 +54,10 @@ module _ (s : Series) where
       let tried = ofPair (sameFour (testedFour v) (testedFour (pairValidity p))) in
       cond (isValid v) (plus tried (formedTally p (solvedTable p zeros))) tried
 
+module _ (s : Series) where
   -- the pairs of concrete machine number x
   unfoldable pub rowTally : ℕ → Tally
-  rowTally x = total (s .abstractions .count) (λ i. pairTally (numberedPair (s .concrete) (s .abstraction) x (i * s .abstractions .step)))
+  rowTally x = total (s .abstractions .count) (λ i. pairTally (s .trial) (numberedPair (s .concrete) (s .abstraction) x (i * s .abstractions .step)))
 
   -- all pairs of the series
   unfoldable pub seriesTally : Tally

@@ -19,6 +19,7 @@ use Rattle.machine.specs.RefusalsLaws.{then-answer}
 use Rattle.solver.specs.Solver.{solveValidity, solvedTable}
 use Rattle.brute.specs.Numbers.{numberedPair}
 use Rattle.comparison.specs.declared.pairs.Series.{Series}
+use Rattle.comparison.specs.declared.pairs.Trial.{Trial}
 use Rattle.comparison.specs.Answers.{testedFour, sameFour}
 use Rattle.comparison.specs.Lassos.{lassosTally}
 use Rattle.comparison.specs.declared.tally.Tally.{Tally}
@@ -72,11 +73,11 @@ module _ (p : Pair) (n : ℕ) (every : Bool) (carrying : ℕ) (S : List ℕ) whe
   unfolding solutionTally
   solution-is own fits L agrees r eo ef el ea er = rw (er, ea, el, ef, eo)
 
-module _ (s : Series) (p : Pair) (S : List ℕ) where
+module _ (t : Trial) (p : Pair) (S : List ℕ) where
   pub formed-is : (tables solution lassos first r : Tally)
-      → tables ≡ total (s .tables) (λ x. tableTally p (entries p) S (triedTable (s .every) (setsC p * pairs p + 2) (entries p) S x zeros))
-      → solution ≡ solutionTally p (entries p) (s .every) (tables .carrying) S → lassos ≡ lassosTally p S (nC p) (s .stem)
-      → first ≡ plus tables solution → r ≡ plus first lassos → r ≡ formedTally s p S
+      → tables ≡ total (t .tables) (λ x. tableTally p (entries p) S (triedTable (t .every) (setsC p * pairs p + 2) (entries p) S x zeros))
+      → solution ≡ solutionTally p (entries p) (t .every) (tables .carrying) S → lassos ≡ lassosTally p S (nC p) (t .stem)
+      → first ≡ plus tables solution → r ≡ plus first lassos → r ≡ formedTally t p S
   unfolding formedTally tablesTally
   formed-is tables solution lassos first r et es el ef er = rw (er, ef, el, es, et)
 
@@ -85,24 +86,24 @@ unfolding solveValidity
 solved-well p n e = valid-is-well p (then-answer _ _ e .1)
 
 -- a pair, with what the solver says, what the plain reading says, and the table S that the solver left
-module _ (s : Series) (p : Pair) (v u : Tested) (x y : Refusal) (same : Bool) (tried : Tally) (ev : v ≡ solveValidity p (length zeros)) (eu : u ≡ pairValidity p) (ex : x ≡ testedFour v)
+module _ (t : Trial) (p : Pair) (v u : Tested) (x y : Refusal) (same : Bool) (tried : Tally) (ev : v ≡ solveValidity p (length zeros)) (eu : u ≡ pairValidity p) (ex : x ≡ testedFour v)
     (ey : y ≡ testedFour u) (es : same ≡ sameFour x y) (et : tried ≡ ofPair same) where
-  pair-at : pairTally s p ≡ cond (isValid v) (plus tried (formedTally s p (solvedTable p zeros))) tried
+  pair-at : pairTally t p ≡ cond (isValid v) (plus tried (formedTally t p (solvedTable p zeros))) tried
   unfolding pairTally
   pair-at = rw (et, es, ey, ex, eu, ev)
 
-  pub pair-refused : (r : Refusal) → v ≡ refused r → tried ≡ pairTally s p
+  pub pair-refused : (r : Refusal) → v ≡ refused r → tried ≡ pairTally t p
   unfolding isValid
   pair-refused r e = sym (pair-at ∙ rw e)
 
-  pub pair-formed : v ≡ valid → (S : List ℕ) (formed r : Tally) → S ≡ solvedTable p zeros → formed ≡ formedTally s p S → r ≡ plus tried formed → r ≡ pairTally s p
+  pub pair-formed : v ≡ valid → (S : List ℕ) (formed r : Tally) → S ≡ solvedTable p zeros → formed ≡ formedTally t p S → r ≡ plus tried formed → r ≡ pairTally t p
   unfolding isValid
   pair-formed e S formed r eS ef er = rw (er, ef, eS) (sym (pair-at ∙ rw e))
 
 module _ (s : Series) where
-  pub row-is : (x n : ℕ) (r : Tally) → n ≡ s .abstractions .count → r ≡ total n (λ i. pairTally s (numberedPair (s .concrete) (s .abstraction) x (i * s .abstractions .step))) → r ≡ rowTally s x
+  pub row-is : (x n : ℕ) (r : Tally) → n ≡ s .abstractions .count → r ≡ total n (λ i. pairTally (s .trial) (numberedPair (s .concrete) (s .abstraction) x (i * s .abstractions .step))) → r ≡ rowTally s x
   unfolding rowTally
-  row-is x n r e er = er ∙ ap (λ k. total k (λ i. pairTally s (numberedPair (s .concrete) (s .abstraction) x (i * s .abstractions .step)))) e
+  row-is x n r e er = er ∙ ap (λ k. total k (λ i. pairTally (s .trial) (numberedPair (s .concrete) (s .abstraction) x (i * s .abstractions .step)))) e
 
   pub series-is : (n : ℕ) (r : Tally) → n ≡ s .concretes .count → r ≡ total n (λ i. rowTally s (i * s .concretes .step)) → r ≡ seriesTally s
   unfolding seriesTally

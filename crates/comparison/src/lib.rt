@@ -7,5 +7,9 @@ mod tally;
 
 pub use pairs::Numbers;
 pub use pairs::Series;
+pub use pairs::Trial;
 pub use pairs::compare;
+pub use pairs::compare_pair;
 pub use tally::Tally;
+pub use tally::add;
+pub use tally::none;

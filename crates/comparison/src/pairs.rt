@@ -24,16 +24,21 @@ pub struct Numbers {
     pub step: u32,
 }
 
-// The pairs of some concrete and some abstract machines. Tables: the first `tables` of all tables, or of the solver's with one entry changed.
-// Lassos: those with a stem of at most `stem` states.
+// What is tried of a pair. Tables: the first `tables` of all tables, or of the solver's with one entry changed. Lassos: those with a stem of
+// at most `stem` states.
+pub struct Trial {
+    pub every: bool,
+    pub tables: u64,
+    pub stem: usize,
+}
+
+// The pairs of some concrete and some abstract machines, and what is tried of each.
 pub struct Series {
     pub concrete: Shape,
     pub concretes: Numbers,
     pub abstraction: Shape,
     pub abstractions: Numbers,
-    pub every: bool,
-    pub tables: u64,
-    pub stem: usize,
+    pub trial: Trial,
 }
 
 // Whether the solver's table, whose own count is given, passes each line; and where every table was tried, whether it is Carried exactly
@@ -83,24 +88,24 @@ fn compare_solution(p: Pair, n: usize, every: bool, carrying: u64, solved: &[u16
 }
 
 // A well-formed pair.
-fn compare_formed(p: Pair, s: Series, solved: &[u16]) -> Tally
+fn compare_formed(p: Pair, t: Trial, solved: &[u16]) -> Tally
     requires { ⌜ wellFormed p ≡ true ⌝ }
-    ensures { λ r. ⌜ r ≡ formedTally s p (now (solved .entry)) ⌝ }
+    ensures { λ r. ⌜ r ≡ formedTally t p (now (solved .entry)) ⌝ }
 {
     let concrete = p.concrete;
     let abstraction = p.abstraction;
     let pairs = concrete.states * abstraction.states;
     let n = abstraction.sets * pairs;
     let top = concrete.sets * pairs + 2;
-    let tables = compare_tables(p, s.every, top as u16, n, s.tables, solved);
-    let solution = compare_solution(p, n, s.every, tables.carrying, solved);
-    let lassos = compare_lassos(p, solved, concrete.states as u8, s.stem);
+    let tables = compare_tables(p, t.every, top as u16, n, t.tables, solved);
+    let solution = compare_solution(p, n, t.every, tables.carrying, solved);
+    let lassos = compare_lassos(p, solved, concrete.states as u8, t.stem);
     add(add(tables, solution), lassos)
 }
 
 // Any pair.
-fn compare_pair(p: Pair, s: Series) -> Tally
-    ensures { λ r. ⌜ r ≡ pairTally s p ⌝ }
+pub fn compare_pair(p: Pair, t: Trial) -> Tally
+    ensures { λ r. ⌜ r ≡ pairTally t p ⌝ }
 {
     let mut solved = [0u16; machine::TABLE_ROOM];
     let answer = solver::solve(p, &mut solved);
@@ -108,7 +113,7 @@ fn compare_pair(p: Pair, s: Series) -> Tally
     let tried = of_pair(same_four(tested_four(answer), tested_four(plain)));
     match answer {
         Validity::Refused(_) => tried,
-        Validity::Valid => add(tried, compare_formed(p, s, &solved)),
+        Validity::Valid => add(tried, compare_formed(p, t, &solved)),
     }
 }
 
@@ -121,7 +126,7 @@ fn compare_row(s: Series, x: u64) -> Tally
     for i in 0..numbers.count {
         let y = i as u64 * numbers.step as u64;
         let p = brute::numbered_pair(s.concrete, s.abstraction, x, y);
-        sum = add(sum, compare_pair(p, s));
+        sum = add(sum, compare_pair(p, s.trial));
     }
     sum
 }
