@@ -1,3 +1,4 @@
+-- The set is laid out as a table, and none of its pairs fails the rule.
 use native.Mathlib.Omega.{arith}
 use borrow.Author.Needs.{needs}
 use Rattle.machine.specs.WellFormedLaws.{pairs-small, well-pair}

@@ -1,3 +1,4 @@
+-- The cases are those of the definition.
 use mathlib.Core.Path.{_≡_}
 use mathlib.Core.Bool.{true, false}
 use borrow.Author.Needs.{needs}
