@@ -1,5 +1,6 @@
 // Sets of pairs as 64 rows: row c is the mask of the abstract states beside concrete state c. One application of "steps into" goes to
-// all pairs at once. Every call is total: a count over 64 means 64, and any masks have a meaning.
+// all pairs at once. Every call takes any content: a count over 64 means 64, any masks have a meaning, and where a call leaves its result
+// open it says so.
 // Cost: the partners of a row are the union of the predecessors of its states, and a pair's step meets one row for each concrete move.
 ghost use mathlib.Core.Path.{_≡_};
 ghost use mathlib.Core.Bool.{cond};
