@@ -17,6 +17,7 @@ module _ (nC : ℕ) (moves predecessors base : List ℕ) (members : ℕ) where
   unfoldable pub ruleRow : List ℕ → ℕ → ℕ
   ruleRow x c = bitOr (getD base c 0) (cond (hasBit members c) 0 (meetOf (getD moves c 0) (partnerRows nC predecessors x)))
 
+  -- each row of x meets the rule
   abbrev pub Meets : List ℕ → Type 0
   Meets x = (c a : ℕ) → c < nC → hasBit (getD x c 0) a ≡ true → hasBit (ruleRow x c) a ≡ true
 
@@ -29,7 +30,7 @@ module _ (nC : ℕ) (moves predecessors base : List ℕ) (members : ℕ) where
     pub meets : Meets x
     pub largest : (u : List ℕ) → Inside nC u start → Meets u → Inside nC u x
 
--- what is handed in: the predecessors of concrete states, and the partner rows of the start
+-- what is handed in: at most 64 states, the predecessors of concrete ones, a start of 64 rows, and its partner rows
 pub record Known (nC : ℕ) (moves dependents predecessors start first : List ℕ) : Type 0 where
   pub few : nC ≤ 64
   pub long : length start ≡ 64

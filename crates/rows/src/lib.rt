@@ -1,6 +1,6 @@
 // Sets of pairs as 64 rows: row c is the mask of the abstract states beside concrete state c. One application of "steps into" goes to
-// all pairs at once. Every call takes any content: a count over 64 means 64, any masks have a meaning, and where a call leaves its result
-// open it says so.
+// all pairs at once. Every public call takes any content: a count of states over 64 means 64, but for entries, which are then no section; any
+// masks have a meaning; and `largest`, which leaves its result open for some, says for which.
 // Cost: the partners of a row are the union of the predecessors of its states, and a pair's step meets one row for each concrete move.
 ghost use mathlib.Core.Path.{_≡_};
 ghost use mathlib.Core.Bool.{cond};
@@ -158,7 +158,7 @@ fn rule_row(moves: u64, reached: &[u64; 64], base: u64, inside: bool) -> u64
 
 // The largest set within the start that meets the rule of X. Rows are due while the rule may lower them: at first all, and then those that
 // move to a row that was lowered. The predecessors of concrete states and the partner rows of the start are handed in, since many calls share
-// them; of others than these the result is left open.
+// them; of others than these, and of a count over 64, the result is left open.
 pub fn largest(
     nc: usize,
     moves: &[u64; 64],
@@ -217,7 +217,7 @@ fn row_upto(row: &[u16], bound: u16) -> u64
     m
 }
 
-// The pairs of a section whose entry is at most the bound; none where the entries are no section of nc by na.
+// The pairs of a section whose entry is at most the bound; none where the entries are no section of nc by na, of at most 64 by 64.
 pub fn upto(nc: usize, na: usize, part: &[u16], bound: u16) -> [u64; 64]
     ensures { λ r. ⌜ r ≡ uptoOf nc na (now (part .entry)) bound ⌝ }
 {
@@ -261,7 +261,8 @@ fn stamp_row(row: u64, v: u16, part: &mut [u16])
     }
 }
 
-// Writes the entry v for each pair of x that is not in y; nothing where the entries are no section of nc by na.
+// Writes the entry v for each pair of x that is not in y; nothing where the entries are no section of nc by na, of at most
+// 64 by 64.
 pub fn stamp(nc: usize, na: usize, x: &[u64; 64], y: &[u64; 64], v: u16, part: &mut [u16])
     ensures { λ _. ⌜ now (part .exit) ≡ stampOf nc na (now (x .entry)) (now (y .entry)) v (now (part .entry)) ⌝ }
 {

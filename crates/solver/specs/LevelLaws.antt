@@ -74,7 +74,7 @@ module _ {p : Pair} {matched dependents predecessors goals : List ℕ} (m : Prep
 
     -- what the loop over due rows leaves is X(l + 1, k)
     pub x-is : {steps base start x : List ℕ} {bound : ℕ} (k : ℕ) → k < setsC p → steps ≡ stepRows (nC p) (p .concrete .successors) predecessors below
-        → base ≡ joinRows matched goals steps → bound ≡ l * setsC p + (setsC p - 1) + 1 → start ≡ uptoRows (nC p) (nA p) first bound
+        → base ≡ joinRows matched goals steps → bound ≡ l * setsC p + setsC p → start ≡ uptoRows (nC p) (nA p) first bound
         → Largest (nC p) (p .concrete .successors) predecessors base (getD (p .concrete .fairness) k 0) start x → x ≡ rowsOf (X k)
     unfolding fairSet
     x-is {steps} {base} {start} {x} {bound} k hk et ebase ebound es q =
@@ -86,19 +86,16 @@ module _ {p : Pair} {matched dependents predecessors goals : List ℕ} (m : Prep
         below-is : pairsIn p below ≡ level p G l
         below-is = ap (pairsIn p) eb ∙ set-back p W (level p G l) (level-canonical p G l)
 
-        top : bound ≡ l * setsC p + setsC p
-        top = omega (arith, W .concrete .sets-low)
-
         holds : HoldsMatched p start
         holds =
             let fits : suc l * setsC p ≤ pairs p * setsC p = mul-le-mul-right (setsC p) hl in
-            rw es (upto-holds p W bound (omega (arith, top, places-small p W)) (d .bounded))
+            rw es (upto-holds p W bound (omega (arith, ebound, places-small p W)) (d .bounded))
 
         made : Largest (nC p) (p .concrete .successors) (abstractPredecessors p) (joinRows (matchedMasks p) goals (stepsOf p below)) (fairSet (p .concrete) k) start x
         made = rw (← base-is, ← m .predecessors-are) q
 
         inside : (c a : ℕ) → c < nC p → a < nA p → mem p (xOver p G (pairsIn p below) k) c a ≡ true → hasBit (getD start c 0) a ≡ true
-        inside c a hc ha t = rw (es, top) (start-holds p W G (h .only-matched) l k hl hk d c a hc ha (rw below-is at t))
+        inside c a hc ha t = rw (es, ebound) (start-holds p W G (h .only-matched) l k hl hk d c a hc ha (rw below-is at t))
 
     tower-is : (k : ℕ) → k < setsC p → getD (tower p G) (l * setsC p + k) [] ≡ X k
     unfolding xSet

@@ -9,7 +9,7 @@ use Rattle.mask.specs.Logic.{or}
 use Rattle.mask.specs.Bounded.{some}
 use Rattle.machine.specs.declared.Pair.{Pair}
 use Rattle.machine.specs.Machines.{nC, nA, setsC, matched, pairs}
-use Rattle.machine.specs.Game.{pairSet, mem}
+use Rattle.machine.specs.Game.{pairSet, mem, level}
 use Rattle.machine.specs.Ranks.{tower, rankIn}
 use Rattle.machine.specs.Table.{blank}
 use Rattle.machine.specs.Observed.{matchedMasks}
@@ -40,7 +40,7 @@ pub record Holds (p : Pair) (rows : List ℕ) : Type 0 where
 abbrev pub entryOf : Pair → List ℕ → ℕ → ℕ → ℕ
 entryOf p part c a = getD part (c * nA p + a) 0
 
--- entries that no rank over the goals is below: what a section's ranks are made from
+-- entries that no rank over the goals is below, blank for unmatched pairs: what a section's ranks are made from
 pub record Bounded (p : Pair) (goals part : List ℕ) : Type 0 where
   pub long : length part ≡ pairs p
   pub low : (c a : ℕ) → c < nC p → a < nA p → entryOf p part c a ≤ rankOver p goals c a
@@ -52,6 +52,11 @@ pub record RankedTo (p : Pair) (goals first : List ℕ) (i : ℕ) (part : List �
   pub final : (c a : ℕ) → c < nC p → a < nA p → rankOver p goals c a ≤ i → entryOf p part c a ≡ rankOver p goals c a
   pub blank-kept : (c a : ℕ) → c < nC p → a < nA p → entryOf p first c a ≡ blank → entryOf p part c a ≡ blank
   pub blank-old : (c a : ℕ) → c < nC p → a < nA p → entryOf p part c a ≡ blank → entryOf p first c a ≡ blank
+
+-- level l is reached: the rows are its pairs, and these have their ranks
+pub record LevelReached (p : Pair) (goals first : List ℕ) (l : ℕ) (rows part : List ℕ) : Type 0 where
+  pub rows-are : rows ≡ rowsOf (level p goals l)
+  pub ranked : RankedTo p goals first (l * setsC p) part
 
 -- each entry is its pair's rank
 pub record AreRanks (p : Pair) (goals part : List ℕ) : Type 0 where

@@ -1,6 +1,6 @@
 // The solver: document 01's ranks of two machines, as a table.
 // A set of pairs is 64 rows, for each concrete state the mask of the abstract states beside it (crate `rows`).
-// The table is made in place. Each entry begins at 0 and is never above its pair's rank; a section's ranks are made from its entries so far,
+// The table is made in place. The entries of matched pairs begin at 0, and none is ever above its pair's rank; a section's ranks are made from its entries so far,
 // and a section is made again while the set of the next one changes.
 ghost use mathlib.Core.Path.{_≡_};
 ghost use mathlib.Core.Bool.{true};
@@ -47,6 +47,14 @@ fn rank_of(m: usize, l: usize, k: usize) -> u16
     (l * m + k + 1) as u16
 }
 
+// The greatest rank of level l + 1, with l from 0.
+fn level_bound(m: usize, l: usize) -> u16
+    requires { ⌜ (m ≤ 8) × (l < 4096) ⌝ }
+    ensures { λ r. ⌜ r ≡ l * m + m ⌝ }
+{
+    (l * m + m) as u16
+}
+
 // Level l + 1 from level l, with its rank for each pair that X(l + 1, k) has and no set before it. Each X starts from the pairs whose entry is
 // at most (l + 1) x m.
 fn level(
@@ -69,7 +77,7 @@ fn level(
     let moves = concrete.successors;
     let steps = rows::step_rows(nc, &moves, predecessors, below);
     let base = rows::join_rows(matched, goals, &steps);
-    let bound = rank_of(m, l, m - 1);
+    let bound = level_bound(m, l);
     let start = rows::upto(nc, abstraction.states, part, bound);
     let reached = rows::partner_rows(nc, predecessors, &start);
     let mut seen = rows::join_rows(matched, goals, below);
@@ -231,7 +239,7 @@ fn first_table(p: Pair, matched: &[u64; 64], table: &mut [u16])
 }
 
 // Sweeps from the last section to the first, in which a section is made anew while the set of the next one has changed since it was made:
-// bit i of `due` stands for section n - 1 - i, so that the section after which i comes is bit i + 1, and bit 0 after the last.
+// bit i of `due` stands for section n - 1 - i, so that the section before it, whose goals look at it, is bit i + 1, or bit 0 for the first.
 fn sweeps(
     p: Pair,
     matched: &[u64; 64],

@@ -44,13 +44,8 @@ step-rows-requires c κs = search needs
 join-rows-requires : tie.Need-join-rows-requires Inv-loop μ-loop
 join-rows-requires c κs = search needs
 
-sub-rank-of : tie.Need-sub-rank-of Inv-loop μ-loop
-sub-rank-of c = omega (arith, well (c .before .before .before .before .before .before .before .before) .concrete .sets-low)
-
-rank-of-requires : tie.Need-rank-of-requires Inv-loop μ-loop
-rank-of-requires c κs =
-    let s = c .before .before .before .before .before .before .before .before in
-    (well s .concrete .sets-high, (few s, omega (arith, well s .concrete .sets-high)))
+level-bound-requires : tie.Need-level-bound-requires Inv-loop μ-loop
+level-bound-requires c κs = let s = c .before .before .before .before .before .before .before .before in (well s .concrete .sets-high, few s)
 
 upto-requires : tie.Need-upto-requires Inv-loop μ-loop
 upto-requires c κs = search needs
@@ -78,7 +73,7 @@ largest-requires c κs = search needs
 -- the pairs that the sets start from
 start-is : (c : tie.At-loop Inv-loop μ-loop) →
     let x = entry c .args in
-    c .before .before .before .before .upto .result ≡ uptoRows (nC (x .p)) (nA (x .p)) (x .part .now) (c .before .before .before .before .before .before .rank-of .result)
+    c .before .before .before .before .upto .result ≡ uptoRows (nC (x .p)) (nA (x .p)) (x .part .now) (c .before .before .before .before .before .before .level-bound .result)
 start-is c =
     let s = entry c in
     let w = well s in
@@ -94,11 +89,11 @@ made c =
     let h = head c in
     let s = entry h in
     x-is (s .pre .0 .0) (s .pre .0 .1) (s .pre .1 .0) (s .pre .1 .1 .0) (s .pre .1 .1 .1) (h .loop .k) (c .before .before .before .before .before .before .loop-test .taken)
-    (h .before .before .before .before .before .before .before .before .before .step-rows .ensures) (h .before .before .before .before .before .before .before .join-rows .ensures) (h .before .before .before .before .before .before .rank-of .ensures) (start-is h)
+    (h .before .before .before .before .before .before .before .before .before .step-rows .ensures) (h .before .before .before .before .before .before .before .join-rows .ensures) (h .before .before .before .before .before .before .level-bound .ensures) (start-is h)
     (c .largest .ensures (record { few = well s .concrete .states-high; long = ap length (start-is h) ∙ upto-long _ _ _ _; dependents-are = s .pre .0 .0 .dependents-are; first-are = h .before .before .partner-rows .ensures }))
 
-rank-of-requires-2 : tie.Need-rank-of-requires-2 Inv-loop μ-loop
-rank-of-requires-2 c κs =
+rank-of-requires : tie.Need-rank-of-requires Inv-loop μ-loop
+rank-of-requires c κs =
     let s = entry (head c) in
     let k = c .before .before .before .before .before .before .loop-test .taken in
     (well s .concrete .sets-high, (omega (arith, few s, k, well s .concrete .sets-high), omega (arith, few s, k, well s .concrete .sets-high)))
@@ -122,7 +117,7 @@ loop-again c =
     let s = entry h in
     let w = well s in (
       omega (arith, x .before .before .before .before .before .before .loop-test .taken),
-      rw (c .join-rows3 .ensures, c .before .before .before .before .before .stamp .ensures, stamp-is _ _ _ _ _ _ (w .concrete .states-high) (w .abstraction .states-high) (h .loop .inv .1 .ranked .bounded .long)) (made-turn (s .pre .0 .0) (s .pre .0 .1) (s .pre .1 .0) (s .pre .1 .1 .0) (s .pre .1 .1 .1) (x .before .before .before .before .before .before .loop-test .taken) (made x) (c .before .before .before .before .before .before .before .before .before .rank-of2 .ensures) (h .loop .inv .1)),
+      rw (c .join-rows3 .ensures, c .before .before .before .before .before .stamp .ensures, stamp-is _ _ _ _ _ _ (w .concrete .states-high) (w .abstraction .states-high) (h .loop .inv .1 .ranked .bounded .long)) (made-turn (s .pre .0 .0) (s .pre .0 .1) (s .pre .1 .0) (s .pre .1 .1 .0) (s .pre .1 .1 .1) (x .before .before .before .before .before .before .loop-test .taken) (made x) (c .before .before .before .before .before .before .before .before .before .rank-of .ensures) (h .loop .inv .1)),
     )
 
 same-length : tie.Need-same-length Inv-loop μ-loop
@@ -142,8 +137,7 @@ level-spec =
     μ-loop
     step-rows-requires
     join-rows-requires
-    sub-rank-of
-    rank-of-requires
+    level-bound-requires
     upto-requires
     partner-rows-requires
     join-rows-requires-2
@@ -151,7 +145,7 @@ level-spec =
     mul-largest
     array-read-largest
     largest-requires
-    rank-of-requires-2
+    rank-of-requires
     stamp-requires
     join-rows-requires-3
     add-k

@@ -6,8 +6,8 @@ use borrow.Author.Needs.{needs}
 use Rattle.machine.specs.Game.{level}
 use Rattle.machine.specs.Machines.{setsC, pairs}
 use Rattle.machine.specs.WellFormedLaws.{WellPair, well-pair, pairs-small}
-use Rattle.rows.specs.Rows.{rowsOf, pairsIn}
-use Rattle.solver.specs.Ranking.{RankedTo}
+use Rattle.rows.specs.Rows.{pairsIn}
+use Rattle.solver.specs.Ranking.{LevelReached}
 use Rattle.solver.specs.RankRowsLaws.{ranked-none}
 use Rattle.solver.specs.LevelLaws.{ranked-trans, ranked-self, ranked-at, levels-start, levels-stop, levels-out}
 use Rattle.solver.proofs.levels.Statement.{statement}
@@ -15,7 +15,7 @@ use Rattle.solver.proofs.levels.Tie as tie
 
 abbrev Inv-loop : tie.InvT-loop
 Inv-loop p matched dependents predecessors goals part₀ nc na y₀ l₀ l-end part y l =
-    ((l-end ≡ pairs p) × (l ≤ l-end)) × ((y ≡ rowsOf (level p (pairsIn p goals) l)) × RankedTo p (pairsIn p goals) part₀ (l * setsC p) part)
+    ((l-end ≡ pairs p) × (l ≤ l-end)) × LevelReached p (pairsIn p goals) part₀ l y part
 
 abbrev μ-loop : tie.MeasureT-loop
 μ-loop p matched dependents predecessors goals part₀ nc na y₀ l₀ l-end part y l = l-end - l
@@ -39,13 +39,13 @@ mul-l-end c = let s = c .before .before .before in omega (arith, pairs-small (s 
 loop-holds : tie.Need-loop-holds Inv-loop μ-loop
 loop-holds c =
     let s = c .before .before .before in
-    ((refl, omega arith), (levels-start (s .pre .0 .0) (s .pre .0 .1), ranked-at (omega arith) (ranked-none (s .args .p) (well s) _ (s .pre .0 .1 .only-matched) (s .pre .1))))
+    ((refl, omega arith), record { rows-are = levels-start (s .pre .0 .0) (s .pre .0 .1); ranked = ranked-at (omega arith) (ranked-none (s .args .p) (well s) _ (s .pre .0 .1 .only-matched) (s .pre .1)) })
 
 level-requires : tie.Need-level-requires Inv-loop μ-loop
 level-requires c κs =
     let h = c .before .before .before in
     let s = entry h in
-    (s .pre .0, (omega (arith, h .loop .inv .0 .0, c .before .before .loop-test .taken), (h .loop .inv .1 .0, ranked-self (h .loop .inv .1 .1))))
+    (s .pre .0, (omega (arith, h .loop .inv .0 .0, c .before .before .loop-test .taken), (h .loop .inv .1 .rows-are, ranked-self (h .loop .inv .1 .ranked))))
 
 same-rows-requires : tie.Need-same-rows-requires Inv-loop μ-loop
 same-rows-requires c κs = search needs
@@ -61,8 +61,8 @@ returns c =
     let h = inside b .before in
     let s = entry h in
     let n = next b .level .ensures in
-    levels-stop (s .pre .0 .0) (s .pre .0 .1) (omega (arith, h .loop .inv .0 .0, inside b .loop-test .taken)) (h .loop .inv .1 .0) (n .0) (sym (b .same-rows .ensures) ∙ c .if1 .taken)
-    (ranked-trans (h .loop .inv .1 .1) (n .1))
+    levels-stop (s .pre .0 .0) (s .pre .0 .1) (omega (arith, h .loop .inv .0 .0, inside b .loop-test .taken)) (h .loop .inv .1 .rows-are) (n .0) (sym (b .same-rows .ensures) ∙ c .if1 .taken)
+    (ranked-trans (h .loop .inv .1 .ranked) (n .1))
 
 add-l : tie.Need-add-l Inv-loop μ-loop
 add-l c =
@@ -78,17 +78,17 @@ loop-again c =
     let b = c .before in
     let h = inside b .before in
     let n = next b .level .ensures in
-    ((h .loop .inv .0 .0, omega (arith, inside b .loop-test .taken)), (n .0, ranked-trans (h .loop .inv .1 .1) (n .1)))
+    ((h .loop .inv .0 .0, omega (arith, inside b .loop-test .taken)), record { rows-are = n .0; ranked = ranked-trans (h .loop .inv .1 .ranked) (n .1) })
 
 same-length-2 : tie.Need-same-length-2 Inv-loop μ-loop
-same-length-2 c = let h = c .before in h .loop .inv .1 .1 .bounded .long ∙ sym (entry h .pre .1 .long)
+same-length-2 c = let h = c .before in h .loop .inv .1 .ranked .bounded .long ∙ sym (entry h .pre .1 .long)
 
 returns-2 : tie.Need-returns-2 Inv-loop μ-loop
 returns-2 c =
     let h = c .before in
     let s = entry h in
     let e : h .loop .l ≡ pairs (s .args .p) = omega (arith, h .loop .inv .0 .0, h .loop .inv .0 .1, c .loop-test .left) in
-    (levels-out (s .pre .0 .0) (s .pre .0 .1) e (h .loop .inv .1 .0), ranked-at (ap (λ (n : ℕ). n * setsC (s .args .p)) e) (h .loop .inv .1 .1))
+    (levels-out (s .pre .0 .0) (s .pre .0 .1) e (h .loop .inv .1 .rows-are), ranked-at (ap (λ (n : ℕ). n * setsC (s .args .p)) e) (h .loop .inv .1 .ranked))
 
 pub levels-spec : {M : Type 1} → statement M
 levels-spec =
