@@ -1,13 +1,11 @@
 -- definitions
 pub mod Numbers
-pub mod Rings
 pub mod Lines
 pub mod Runs
 pub mod Lifting
 pub mod Ranking
 -- laws
 pub mod NumbersLaws
-pub mod RingsLaws
 pub mod MachineLaws
 pub mod TargetLaws
 pub mod RunLaws

@@ -6,7 +6,6 @@ mod lines;
 mod machines;
 mod numbers;
 mod ranking;
-mod rings;
 mod runs;
 
 pub use lassos::is_play;
@@ -24,8 +23,6 @@ pub use numbers::numbered_pair;
 pub use numbers::put_entries;
 pub use numbers::put_states;
 pub use ranking::is_ranked;
-pub use rings::Rings;
-pub use rings::ring_pair;
 pub use runs::Played;
 pub use runs::is_run;
 pub use runs::plain_play;

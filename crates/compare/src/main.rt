@@ -1,12 +1,12 @@
 // Compares solver, check and player with brute force on series of small pairs, and writes a line of counts for each.
 ghost use mathlib.Core.Path.{_≡_};
-use brute::Rings;
 use brute::Shape;
 use comparison::Numbers;
 use comparison::Series;
 use comparison::Tally;
 use comparison::Trial;
 use libc::STDOUT_FILENO;
+use rings::Rings;
 
 // Writes a word and a number.
 fn show(word: &[u8], n: u64) {
@@ -96,8 +96,8 @@ fn ring(first: u32, second: u32, sets: usize) -> Rings
 }
 
 // One pair of rings more, with the solver's table and all that differ from it in one entry.
-fn rings(t: Tally, back: bool, entry: u32, c: Rings, a: Rings, tables: u64) -> Tally {
-    let p = brute::ring_pair(back, entry, c, a);
+fn compare_rings(t: Tally, back: bool, entry: u32, c: Rings, a: Rings, tables: u64) -> Tally {
+    let p = rings::ring_pair(back, entry, c, a);
     let trial = Trial {
         every: false,
         tables,
@@ -109,25 +109,25 @@ fn rings(t: Tally, back: bool, entry: u32, c: Rings, a: Rings, tables: u64) -> T
 // Pairs of the first family: four of coprime rings, two of others, and one with an entry past the states.
 fn staying() -> Tally {
     let mut t = comparison::none();
-    t = rings(t, false, 1, ring(2, 2, 2), ring(3, 3, 1), 7380);
-    t = rings(t, false, 0, ring(3, 3, 1), ring(2, 2, 2), 8576);
-    t = rings(t, false, 2, ring(3, 2, 1), ring(2, 5, 1), 6160);
-    t = rings(t, false, 3, ring(2, 3, 1), ring(3, 5, 1), 7308);
-    t = rings(t, false, 1, ring(3, 2, 1), ring(2, 3, 1), 4158);
-    t = rings(t, false, 0, ring(2, 2, 2), ring(2, 2, 2), 9504);
-    rings(t, false, 9, ring(2, 2, 1), ring(3, 3, 1), 3780)
+    t = compare_rings(t, false, 1, ring(2, 2, 2), ring(3, 3, 1), 7380);
+    t = compare_rings(t, false, 0, ring(3, 3, 1), ring(2, 2, 2), 8576);
+    t = compare_rings(t, false, 2, ring(3, 2, 1), ring(2, 5, 1), 6160);
+    t = compare_rings(t, false, 3, ring(2, 3, 1), ring(3, 5, 1), 7308);
+    t = compare_rings(t, false, 1, ring(3, 2, 1), ring(2, 3, 1), 4158);
+    t = compare_rings(t, false, 0, ring(2, 2, 2), ring(2, 2, 2), 9504);
+    compare_rings(t, false, 9, ring(2, 2, 1), ring(3, 3, 1), 3780)
 }
 
 // Pairs of the second family: four of coprime rings, two of others, and one with too long a ring.
 fn leading_back() -> Tally {
     let mut t = comparison::none();
-    t = rings(t, true, 0, ring(2, 2, 2), ring(3, 3, 1), 12402);
-    t = rings(t, true, 0, ring(3, 3, 1), ring(2, 2, 2), 16016);
-    t = rings(t, true, 0, ring(3, 2, 1), ring(2, 5, 1), 9898);
-    t = rings(t, true, 0, ring(2, 3, 1), ring(3, 5, 1), 11340);
-    t = rings(t, true, 0, ring(3, 2, 1), ring(2, 3, 1), 7308);
-    t = rings(t, true, 0, ring(2, 2, 2), ring(2, 2, 1), 8910);
-    rings(t, true, 0, ring(2, 2, 1), ring(3, 60, 1), 6318)
+    t = compare_rings(t, true, 0, ring(2, 2, 2), ring(3, 3, 1), 12402);
+    t = compare_rings(t, true, 0, ring(3, 3, 1), ring(2, 2, 2), 16016);
+    t = compare_rings(t, true, 0, ring(3, 2, 1), ring(2, 5, 1), 9898);
+    t = compare_rings(t, true, 0, ring(2, 3, 1), ring(3, 5, 1), 11340);
+    t = compare_rings(t, true, 0, ring(3, 2, 1), ring(2, 3, 1), 7308);
+    t = compare_rings(t, true, 0, ring(2, 2, 2), ring(2, 2, 1), 8910);
+    compare_rings(t, true, 0, ring(2, 2, 1), ring(3, 60, 1), 6318)
 }
 
 fn main() {

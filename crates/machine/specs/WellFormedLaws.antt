@@ -1,7 +1,7 @@
 -- What a well-formed machine and a well-formed pair give, and what makes one.
 use mathlib.Core.Bool.{true, false}
 use mathlib.Core.Logic.{by-cases}
-use mathlib.Core.Path.{_≡_, refl}
+use mathlib.Core.Path.{_≡_, refl, _∙_}
 use Prim.Native.Nat.{ℕ, _+_, _*_, _≤_, _<_, _^_}
 use native.Mathlib.Nat.{le-trans, mul-le-mul-right, mul-le-mul-left, mul-pos}
 use native.Mathlib.Decide.{decLe, decLt}
@@ -10,15 +10,16 @@ use lib.ListN.{getD}
 use lib.Dec.{eqb, leb, ltb}
 use borrow.Author.Tests.{eqb-true, eqb-false, eq-eqb, leb-true, le-leb, lt-ltb, le-ltb}
 use Rattle.mask.specs.Logic.{and}
-use Rattle.mask.specs.LogicLaws.{clash, refute, and-l, and-r, and-i, or-none, not-false}
+use Rattle.mask.specs.LogicLaws.{clash, refute, and-l, and-r, and-i, and-false-l, and-false-r, or-none, not-false}
 use Rattle.mask.specs.Bits.{hasBit}
 use Rattle.mask.specs.BitsLaws.{has-small}
 use Rattle.mask.specs.Bounded.{first}
 use Rattle.mask.specs.BoundedLaws.{none-at, someIn-of, someIn-at, first-before}
 use Rattle.machine.specs.declared.Machine.{Machine}
 use Rattle.machine.specs.declared.Pair.{Pair}
-use Rattle.machine.specs.Refusals.{Tested, valid, answer, refused}
-use Rattle.machine.specs.RefusalsLaws.{valid-next, valid-if, then-answer}
+use Rattle.machine.specs.declared.Refusal.{Refusal}
+use Rattle.machine.specs.Refusals.{Tested, valid, answer, refused, refusal, bad-counts, andThen}
+use Rattle.machine.specs.RefusalsLaws.{valid-next, valid-if, then-answer, then-of, then-refused}
 use Rattle.machine.specs.Machines.{observation, successors, moves, starts, fairSet, inFairSet, nC, nA, setsC, setsA, pairs}
 use Rattle.machine.specs.Table.{tableRoom}
 use Rattle.machine.specs.WellFormed.{countsOk, beyond, stateBeyond, setBeyond, beyondCounts, stuckState, contentValidity, pairValidity, isValid, wellFormed}
@@ -32,6 +33,27 @@ is-valid (refused r) t = absurd (clash refl t)
 pub valid-is : (v : Tested) → v ≡ valid → isValid v ≡ true
 unfolding isValid
 valid-is v e = rw e
+
+-- ---- a pair, test by test
+module _ (p : Pair) where
+  pub bad-concrete-counts : countsOk 8 (p .concrete .states) (p .concrete .sets) ≡ false → pairValidity p ≡ refused (refusal bad-counts 0 0 0)
+  unfolding pairValidity
+  bad-concrete-counts h = rw (and-false-l _ h)
+
+  pub bad-abstract-counts : countsOk 7 (p .abstraction .states) (p .abstraction .sets) ≡ false → pairValidity p ≡ refused (refusal bad-counts 0 0 0)
+  unfolding pairValidity
+  bad-abstract-counts h = rw (and-false-r _ h)
+
+  module _ (c : countsOk 8 (p .concrete .states) (p .concrete .sets) ≡ true) (a : countsOk 7 (p .abstraction .states) (p .abstraction .sets) ≡ true) where
+    contents : pairValidity p ≡ andThen (contentValidity 0 (p .concrete)) (contentValidity 1 (p .abstraction))
+    unfolding pairValidity
+    contents = rw (and-i c a)
+
+    pub bad-concrete : (r : Refusal) → contentValidity 0 (p .concrete) ≡ refused r → pairValidity p ≡ refused r
+    bad-concrete r e = contents ∙ then-refused _ _ r e
+
+    pub good-concrete : contentValidity 0 (p .concrete) ≡ valid → pairValidity p ≡ contentValidity 1 (p .abstraction)
+    good-concrete e = contents ∙ then-of _ _ e
 
 -- ---- bits beyond a count
 pub beyond-none : (n mask : ℕ) → beyond n mask ≡ false → (i : ℕ) → i < 64 → hasBit mask i ≡ true → i < n

@@ -343,40 +343,16 @@ fn afresh(
     section(p, matched, dependents, predecessors, goals, matched, part)
 }
 
-// The levels over goals, with no entries from before.
-fn levels_afresh(
-    p: Pair,
-    matched: &[u64; 64],
-    dependents: &[u64; 64],
-    predecessors: &[u64; 64],
-    goals: &[u64; 64],
-) -> [u64; 64]
-    requires { ⌜ Prepared p (now matched) (now dependents) (now predecessors) × Holds p (now goals) ⌝ }
-    ensures { λ r. ⌜ r ≡ rowsOf (levels p (pairsIn p (now (goals .entry)))) ⌝ }
-{
-    let concrete = p.concrete;
-    let abstraction = p.abstraction;
-    let pairs = concrete.states * abstraction.states;
-    let mut entries = [0u16; 4096];
-    afresh(
-        p,
-        matched,
-        dependents,
-        predecessors,
-        goals,
-        &mut entries[0..pairs],
-    )
-}
-
-// A turn: every section's set afresh from a family of any content.
+// A turn: every section's set afresh from a family of any content. `part` is room for one section's entries; those of the last section stay in it.
 fn turn(
     p: Pair,
     matched: &[u64; 64],
     dependents: &[u64; 64],
     predecessors: &[u64; 64],
     family: &[u64; 448],
+    part: &mut [u16],
 ) -> [u64; 448]
-    requires { ⌜ Prepared p (now matched) (now dependents) (now predecessors) ⌝ }
+    requires { ⌜ Prepared p (now matched) (now dependents) (now predecessors) × (length (now part) ≡ pairs p) ⌝ }
     ensures { λ r. ⌜ r ≡ flatOf (turn p (familyIn p (now (family .entry)))) ⌝ }
 {
     let abstraction = p.abstraction;
@@ -385,7 +361,7 @@ fn turn(
     for j in 0..n {
         let next = section_rows(family, machine::next_section(n, j));
         let g = goals(p, matched, predecessors, &next, j);
-        let set = levels_afresh(p, matched, dependents, predecessors, &g);
+        let set = afresh(p, matched, dependents, predecessors, &g, part);
         put_section(&mut out, j, &set);
     }
     out

@@ -3,10 +3,10 @@ use mathlib.Core.Bool.{true}
 use mathlib.Core.Path.{_≡_, sym, ap, _∙_}
 use borrow.Author.Needs.{needs}
 use borrow.Author.Tests.{not-true, not-false}
-use Rattle.mask.specs.LogicLaws.{and-i, and-false-l, and-false-r}
-use Rattle.machine.specs.WellFormed.{countsOk, pairValidity}
+use Rattle.machine.specs.WellFormed.{countsOk}
+use Rattle.machine.specs.WellFormedLaws.{bad-concrete-counts, bad-abstract-counts, bad-concrete, good-concrete}
 use Rattle.machine.specs.Refusals.{refused, testedOf}
-use Rattle.machine.specs.RefusalsLaws.{then-of, then-refused, tested-valid, tested-refused}
+use Rattle.machine.specs.RefusalsLaws.{tested-valid, tested-refused}
 use Rattle.machine.proofs.pair_validity.Statement.{statement}
 use Rattle.machine.proofs.pair_validity.Tie as tie
 
@@ -23,8 +23,8 @@ refuse-requires : tie.Need-refuse-requires
 refuse-requires c κs = search needs
 
 returns : tie.Need-returns
-unfolding pairValidity testedOf
-returns c = rw (and-false-l _ (sym (c .before .before .counts-ok .ensures) ∙ not-true _ (c .before .if1 .taken))) (ap refused (c .refuse .ensures))
+unfolding testedOf
+returns c = ap refused (c .refuse .ensures) ∙ sym (bad-concrete-counts _ (sym (c .before .before .counts-ok .ensures) ∙ not-true _ (c .before .if1 .taken)))
 
 counts-ok-requires-2 : tie.Need-counts-ok-requires-2
 counts-ok-requires-2 c κs = search needs
@@ -33,8 +33,8 @@ refuse-requires-2 : tie.Need-refuse-requires-2
 refuse-requires-2 c κs = search needs
 
 returns-2 : tie.Need-returns-2
-unfolding pairValidity testedOf
-returns-2 c = rw (and-false-r _ (sym (c .before .before .counts-ok2 .ensures) ∙ not-true _ (c .before .if2 .taken))) (ap refused (c .refuse2 .ensures))
+unfolding testedOf
+returns-2 c = ap refused (c .refuse2 .ensures) ∙ sym (bad-abstract-counts _ (sym (c .before .before .counts-ok2 .ensures) ∙ not-true _ (c .before .if2 .taken)))
 
 content-validity-requires : tie.Need-content-validity-requires
 content-validity-requires c κs = search needs
@@ -49,18 +49,15 @@ content-validity-requires-2 : tie.Need-content-validity-requires-2
 content-validity-requires-2 c κs = search needs
 
 returns-3 : tie.Need-returns-3
-unfolding pairValidity testedOf
+unfolding testedOf
 returns-3 c =
     let e = c .before .before .before in
-    rw (and-i (concrete-counts (e .before .before .before)) (abstract-counts (e .before)))
-    (sym (then-refused _ _ _ (tested-refused (e .content-validity .ensures) (c .before .concrete .given .1))))
+    sym (bad-concrete _ (concrete-counts (e .before .before .before)) (abstract-counts (e .before)) _ (tested-refused (e .content-validity .ensures) (c .before .concrete .given .1)))
 
 returns-4 : tie.Need-returns-4
-unfolding pairValidity
 returns-4 c =
     let e = c .before .before .before in
-    rw (and-i (concrete-counts (e .before .before .before)) (abstract-counts (e .before)))
-    (c .content-validity2 .ensures ∙ sym (then-of _ _ (tested-valid (e .content-validity .ensures) (c .before .enum-told .given .1))))
+    c .content-validity2 .ensures ∙ sym (good-concrete _ (concrete-counts (e .before .before .before)) (abstract-counts (e .before)) (tested-valid (e .content-validity .ensures) (c .before .enum-told .given .1)))
 
 pub pair-validity-spec : {M : Type 1} → statement M
 pair-validity-spec =

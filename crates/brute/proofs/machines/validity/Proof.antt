@@ -2,10 +2,10 @@
 use mathlib.Core.Bool.{true}
 use mathlib.Core.Path.{_∙_, _≡_, ap, sym}
 use borrow.Author.Needs.{needs}
-use Rattle.mask.specs.LogicLaws.{and-false-l, and-false-r, and-i}
 use Rattle.machine.specs.Refusals.{refused, testedOf}
-use Rattle.machine.specs.RefusalsLaws.{tested-refused, tested-valid, then-of, then-refused}
-use Rattle.machine.specs.WellFormed.{countsOk, pairValidity}
+use Rattle.machine.specs.RefusalsLaws.{tested-valid, tested-refused}
+use Rattle.machine.specs.WellFormed.{countsOk}
+use Rattle.machine.specs.WellFormedLaws.{bad-concrete-counts, bad-abstract-counts, bad-concrete, good-concrete}
 use borrow.Author.Tests.{not-true, not-false}
 use Rattle.brute.proofs.machines.validity.Statement.{statement}
 use Rattle.brute.proofs.machines.validity.Tie as tie
@@ -23,8 +23,8 @@ refuse-requires : tie.Need-refuse-requires
 refuse-requires c κs = search needs
 
 returns : tie.Need-returns
-unfolding pairValidity testedOf
-returns c = rw (and-false-l _ (sym (c .before .before .has-counts .ensures) ∙ not-true _ (c .before .if1 .taken))) (ap refused (c .refuse .ensures))
+unfolding testedOf
+returns c = ap refused (c .refuse .ensures) ∙ sym (bad-concrete-counts _ (sym (c .before .before .has-counts .ensures) ∙ not-true _ (c .before .if1 .taken)))
 
 has-counts-requires-2 : tie.Need-has-counts-requires-2
 has-counts-requires-2 c κs = search needs
@@ -33,8 +33,8 @@ refuse-requires-2 : tie.Need-refuse-requires-2
 refuse-requires-2 c κs = search needs
 
 returns-2 : tie.Need-returns-2
-unfolding pairValidity testedOf
-returns-2 c = rw (and-false-r _ (sym (c .before .before .has-counts2 .ensures) ∙ not-true _ (c .before .if2 .taken))) (ap refused (c .refuse2 .ensures))
+unfolding testedOf
+returns-2 c = ap refused (c .refuse2 .ensures) ∙ sym (bad-abstract-counts _ (sym (c .before .before .has-counts2 .ensures) ∙ not-true _ (c .before .if2 .taken)))
 
 content-requires : tie.Need-content-requires
 content-requires c κs = search needs
@@ -49,18 +49,15 @@ content-requires-2 : tie.Need-content-requires-2
 content-requires-2 c κs = search needs
 
 returns-3 : tie.Need-returns-3
-unfolding pairValidity testedOf
+unfolding testedOf
 returns-3 c =
     let e = c .before .before .before in
-    rw (and-i (concrete-counts (e .before .before .before)) (abstract-counts (e .before)))
-    (sym (then-refused _ _ _ (tested-refused (e .content .ensures) (c .before .first .given .1))))
+    sym (bad-concrete _ (concrete-counts (e .before .before .before)) (abstract-counts (e .before)) _ (tested-refused (e .content .ensures) (c .before .first .given .1)))
 
 returns-4 : tie.Need-returns-4
-unfolding pairValidity
 returns-4 c =
     let e = c .before .before .before in
-    rw (and-i (concrete-counts (e .before .before .before)) (abstract-counts (e .before)))
-    (c .content2 .ensures ∙ sym (then-of _ _ (tested-valid (e .content .ensures) (c .before .enum-told .given .1))))
+    c .content2 .ensures ∙ sym (good-concrete _ (concrete-counts (e .before .before .before)) (abstract-counts (e .before)) (tested-valid (e .content .ensures) (c .before .enum-told .given .1)))
 
 pub validity-spec : {M : Type 1} → statement M
 validity-spec =

@@ -4,9 +4,9 @@ use mathlib.Core.Path.{_∙_}
 use Prim.Native.Nat.{_-_}
 use native.Mathlib.Omega.{arith}
 use borrow.Author.Needs.{needs}
-use Rattle.brute.specs.RingsLaws.{Made, machine-is, made-fair, made-none, made-other}
-use Rattle.brute.proofs.rings.ring_machine.Statement.{statement}
-use Rattle.brute.proofs.rings.ring_machine.Tie as tie
+use Rattle.rings.specs.RingsLaws.{Made, machine-is, made-fair, made-none, made-other}
+use Rattle.rings.proofs.ring_machine.Statement.{statement}
+use Rattle.rings.proofs.ring_machine.Tie as tie
 
 abbrev Inv-loop : tie.InvT-loop
 Inv-loop abstraction back entry rings observations₀ successors₀ fair₀ s₀ observations successors fair s = Made abstraction back entry rings s observations successors fair

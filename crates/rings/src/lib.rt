@@ -1,15 +1,16 @@
 // Pairs that take a solver by iteration long, from a few numbers. A concrete machine has two rings and two ends; an abstract one has two rings,
-// a gate, a hub that can follow every state, two ends, and in the second family, where plays go back from an end, a bridge, a trap and a pit.
+// then a state that leads to the universal one, the universal state, which can follow every state, two ends, and in the second family, where plays
+// go back from an end, three more.
 // The pairs of a concrete and an abstract ring of coprime lengths make one chain, each leading to the next. Of the first rings' chain a turn
 // loses one pair. Of the concrete first and the abstract second ring's a round of X(l, k) loses one; in the second family it is covered, one
-// level above the whole third chain. Of the second rings' a level gains one pair, as only one of them leads through the gate to the hub.
+// level above the whole third chain. Of the second rings' a level gains one pair, as only one of them leads to the universal state.
 ghost use mathlib.Core.Bool.{cond};
 ghost use mathlib.Core.Path.{_≡_};
 ghost use Prim.Native.Nat.{_<_, _≤_};
 ghost use lib.ListN.{getD, length};
 ghost use lib.Dec.{ltb};
 ghost use Rattle.mask.specs.Tables.{table};
-ghost use Rattle.brute.specs.Rings.{threeStates, ringMoves, concreteState, furtherStates, pit, abstractState, ringStates, ringState, ringMachine, ringPair};
+ghost use Rattle.rings.specs.Rings.{threeStates, ringMoves, concreteState, furtherStates, lastState, abstractState, ringStates, ringState, ringMachine, ringPair};
 use machine::Machine;
 use machine::Pair;
 
@@ -84,30 +85,31 @@ fn concrete_state(back: bool, rings: Rings, s: usize) -> State
     }
 }
 
-// State number i after the rings of an abstract machine: gate, hub, ends of observation 1 and 2, bridge, trap, pit.
-fn further_state(back: bool, second: usize, gate: usize, i: usize) -> State
-    requires { ⌜ (second ≤ 4294967296) × (gate ≤ 8589934592) ⌝ }
-    ensures { λ r. ⌜ r ≡ getD (furtherStates back second gate) i (pit gate) ⌝ }
+// State number i after the rings of an abstract machine: the one that leads to the universal state, the universal state, ends of observation 1
+// and 2; in the second family one that leads back into the second ring, one that leads to the last, and the last, which never shows 1 again.
+fn further_state(back: bool, second: usize, end: usize, i: usize) -> State
+    requires { ⌜ (second ≤ 4294967296) × (end ≤ 8589934592) ⌝ }
+    ensures { λ r. ⌜ r ≡ getD (furtherStates back second end) i (lastState end) ⌝ }
 {
     match i {
         0 => State {
             observation: 0,
-            successors: mask::with(0, gate + 1),
+            successors: mask::with(0, end + 1),
             fair: false,
         },
         1 => State {
             observation: 0,
-            successors: three_states(gate + 1, gate + 2, gate + 3),
+            successors: three_states(end + 1, end + 2, end + 3),
             fair: true,
         },
         2 => State {
             observation: 1,
-            successors: mask::with(0, pick(back, gate + 1, gate + 2)),
+            successors: mask::with(0, pick(back, end + 1, end + 2)),
             fair: true,
         },
         3 => State {
             observation: 2,
-            successors: mask::with(0, gate + 3),
+            successors: mask::with(0, end + 3),
             fair: true,
         },
         4 => State {
@@ -117,12 +119,12 @@ fn further_state(back: bool, second: usize, gate: usize, i: usize) -> State
         },
         5 => State {
             observation: 1,
-            successors: mask::with(0, gate + 6),
+            successors: mask::with(0, end + 6),
             fair: false,
         },
         _ => State {
             observation: 0,
-            successors: three_states(gate + 6, gate + 3, 64),
+            successors: three_states(end + 6, end + 3, 64),
             fair: false,
         },
     }
@@ -134,25 +136,25 @@ fn abstract_state(back: bool, entry: u32, rings: Rings, s: usize) -> State
     ensures { λ r. ⌜ r ≡ abstractState back entry rings s ⌝ }
 {
     let second = rings.first as usize;
-    let gate = second + rings.second as usize;
+    let end = second + rings.second as usize;
     if s < second {
-        let side = pick(back, gate + 5, second + entry as usize);
+        let side = pick(back, end + 5, second + entry as usize);
         return State {
             observation: 0,
-            successors: ring_moves(0, second, s, gate + 3, pick(s == 0, side, gate + 2)),
+            successors: ring_moves(0, second, s, end + 3, pick(s == 0, side, end + 2)),
             fair: true,
         };
     }
-    if s < gate {
-        let moves = ring_moves(second, gate, s, gate + 3, pick(s == second, gate, gate + 2));
-        let bridge = pick(back, gate + 4, 64);
+    if s < end {
+        let moves = ring_moves(second, end, s, end + 3, pick(s == second, end, end + 2));
+        let back_state = pick(back, end + 4, 64);
         return State {
             observation: 0,
-            successors: mask::with(moves, pick(s == second, bridge, 64)),
+            successors: mask::with(moves, pick(s == second, back_state, 64)),
             fair: false,
         };
     }
-    further_state(back, second, gate, s - gate)
+    further_state(back, second, end, s - end)
 }
 
 // How many states a machine has.

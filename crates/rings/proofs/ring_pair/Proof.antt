@@ -1,7 +1,7 @@
 use borrow.Author.Needs.{needs}
-use Rattle.brute.specs.Rings.{ringPair}
-use Rattle.brute.proofs.rings.ring_pair.Statement.{statement}
-use Rattle.brute.proofs.rings.ring_pair.Tie as tie
+use Rattle.rings.specs.Rings.{ringPair}
+use Rattle.rings.proofs.ring_pair.Statement.{statement}
+use Rattle.rings.proofs.ring_pair.Tie as tie
 
 ring-machine-requires : tie.Need-ring-machine-requires
 ring-machine-requires c κs = search needs

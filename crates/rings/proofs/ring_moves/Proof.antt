@@ -1,7 +1,7 @@
 use borrow.Author.Needs.{needs}
-use Rattle.brute.specs.Rings.{ringMoves}
-use Rattle.brute.proofs.rings.ring_moves.Statement.{statement}
-use Rattle.brute.proofs.rings.ring_moves.Tie as tie
+use Rattle.rings.specs.Rings.{ringMoves}
+use Rattle.rings.proofs.ring_moves.Statement.{statement}
+use Rattle.rings.proofs.ring_moves.Tie as tie
 
 add-pick : tie.Need-add-pick
 add-pick c = search needs

@@ -12,13 +12,13 @@ use Rattle.mask.specs.Bits.{fullMask, withBit}
 use Rattle.mask.specs.FrontLaws.{front-all, front-none, front-turn}
 use Rattle.mask.specs.Tables.{front, maskOf, table}
 use Rattle.mask.specs.TablesLaws.{maskOf-hit, maskOf-miss}
-use Rattle.brute.specs.declared.rings.Rings.{Rings}
-use Rattle.brute.specs.declared.rings.State.{State}
-use Rattle.brute.specs.Rings.{furtherStates, pit, ringMachine, ringState, ringStates}
+use Rattle.rings.specs.declared.Rings.{Rings}
+use Rattle.rings.specs.declared.State.{State}
+use Rattle.rings.specs.Rings.{furtherStates, lastState, ringMachine, ringState, ringStates}
 
-pub further-last : (back : Bool) (second gate i : ℕ) → 6 ≤ i → getD (furtherStates back second gate) i (pit gate) ≡ pit gate
+pub further-last : (back : Bool) (second end i : ℕ) → 6 ≤ i → getD (furtherStates back second end) i (lastState end) ≡ lastState end
 unfolding furtherStates
-further-last back second gate i h = List·getD-eq-default (furtherStates back second gate) (pit gate) h
+further-last back second end i h = List·getD-eq-default (furtherStates back second end) (lastState end) h
 
 module _ (abstraction back : Bool) (entry : ℕ) (rings : Rings) where
   abbrev at : ℕ → State

@@ -1,18 +1,18 @@
 -- The cases are those of the definition.
 use borrow.Author.Needs.{needs}
 use borrow.Author.Tests.{le-ltb, lt-ltb}
-use Rattle.brute.specs.Rings.{abstractState}
-use Rattle.brute.proofs.rings.abstract_state.Statement.{statement}
-use Rattle.brute.proofs.rings.abstract_state.Tie as tie
+use Rattle.rings.specs.Rings.{abstractState}
+use Rattle.rings.proofs.abstract_state.Statement.{statement}
+use Rattle.rings.proofs.abstract_state.Tie as tie
 
 cast-second : tie.Need-cast-second
 cast-second c = search needs
 
-cast-gate : tie.Need-cast-gate
-cast-gate c = search needs
+cast-end : tie.Need-cast-end
+cast-end c = search needs
 
-add-gate : tie.Need-add-gate
-add-gate c = search needs
+add-end : tie.Need-add-end
+add-end c = search needs
 
 add-pick : tie.Need-add-pick
 add-pick c = search needs
@@ -79,8 +79,8 @@ abstract-state-spec =
     tie.close
     (tie.spec
     cast-second
-    cast-gate
-    add-gate
+    cast-end
+    add-end
     add-pick
     add-pick-2
     pick-requires

@@ -1,9 +1,9 @@
 -- The cases are those of the definition.
 use borrow.Author.Needs.{needs}
 use borrow.Author.Tests.{lt-ltb, le-ltb, eq-eqb, ne-eqb}
-use Rattle.brute.specs.Rings.{concreteState}
-use Rattle.brute.proofs.rings.concrete_state.Statement.{statement}
-use Rattle.brute.proofs.rings.concrete_state.Tie as tie
+use Rattle.rings.specs.Rings.{concreteState}
+use Rattle.rings.proofs.concrete_state.Statement.{statement}
+use Rattle.rings.proofs.concrete_state.Tie as tie
 
 cast-second : tie.Need-cast-second
 cast-second c = search needs

@@ -10,8 +10,8 @@ use borrow.Author.Needs.{needs}
 use borrow.Author.Tests.{le-ltb, lt-ltb}
 use Rattle.mask.specs.Tables.{front}
 use Rattle.mask.specs.FrontLaws.{front-all, front-length, front-none, front-turn}
-use Rattle.brute.proofs.rings.put_copies.Statement.{statement}
-use Rattle.brute.proofs.rings.put_copies.Tie as tie
+use Rattle.rings.proofs.put_copies.Statement.{statement}
+use Rattle.rings.proofs.put_copies.Tie as tie
 
 abbrev Inv-loop : tie.InvT-loop
 Inv-loop v n out₀ k₀ k-end out k = (k ≤ length out₀) × (out ≡ front k (λ i. cond (ltb i n) v 0) out₀)

@@ -1,9 +1,9 @@
 -- The cases are those of the definition.
 use borrow.Author.Needs.{needs}
 use borrow.Author.Tests.{le-ltb, lt-ltb}
-use Rattle.brute.specs.Rings.{ringState}
-use Rattle.brute.proofs.rings.ring_state.Statement.{statement}
-use Rattle.brute.proofs.rings.ring_state.Tie as tie
+use Rattle.rings.specs.Rings.{ringState}
+use Rattle.rings.proofs.ring_state.Statement.{statement}
+use Rattle.rings.proofs.ring_state.Tie as tie
 
 ring-states-requires : tie.Need-ring-states-requires
 ring-states-requires c κs = search needs

@@ -3,9 +3,9 @@ use mathlib.Core.Path.{_≡_}
 use mathlib.Core.Bool.{true, false}
 use borrow.Author.Needs.{needs}
 use borrow.Author.Tests.{not-false, not-true}
-use Rattle.brute.specs.Rings.{ringStates}
-use Rattle.brute.proofs.rings.ring_states.Statement.{statement}
-use Rattle.brute.proofs.rings.ring_states.Tie as tie
+use Rattle.rings.specs.Rings.{ringStates}
+use Rattle.rings.proofs.ring_states.Statement.{statement}
+use Rattle.rings.proofs.ring_states.Tie as tie
 
 cast-end : tie.Need-cast-end
 cast-end c = search needs

@@ -9,8 +9,8 @@ use Rattle.mask.specs.Bits.{withBit, fullMask}
 use Rattle.mask.specs.Tables.{table, maskOf}
 use Rattle.machine.specs.declared.Machine.{Machine}
 use Rattle.machine.specs.declared.Pair.{Pair}
-use Rattle.brute.specs.declared.rings.Rings.{Rings}
-use Rattle.brute.specs.declared.rings.State.{State}
+use Rattle.rings.specs.declared.Rings.{Rings}
+use Rattle.rings.specs.declared.State.{State}
 
 -- a state's observation and successors, and whether it is in the sets
 abbrev pub like : ℕ → ℕ → Bool → State
@@ -33,31 +33,32 @@ concreteState back rings s =
     (cond (ltb s end) (like 0 (ringMoves second end s (cond (eqb s (second + 1)) 64 (end + 1)) 64) true)
     (cond (eqb s end) (like 1 (withBit 0 (cond back (second + 1) end)) back) (like 2 (withBit 0 (end + 1)) false)))
 
--- the states after the rings of an abstract machine: gate, hub, ends of observation 1 and 2, bridge, trap
+-- the states after the rings of an abstract machine, from `end` on: the one that leads to the universal state, the universal state, ends of
+-- observation 1 and 2; in the second family one that leads back into the second ring and one that leads to the last
 unfoldable pub furtherStates : Bool → ℕ → ℕ → List State
-furtherStates back second gate =
-    like 0 (withBit 0 (gate + 1)) false
-    ∷ like 0 (threeStates (gate + 1) (gate + 2) (gate + 3)) true
-    ∷ like 1 (withBit 0 (cond back (gate + 1) (gate + 2))) true
-    ∷ like 2 (withBit 0 (gate + 3)) true
+furtherStates back second end =
+    like 0 (withBit 0 (end + 1)) false
+    ∷ like 0 (threeStates (end + 1) (end + 2) (end + 3)) true
+    ∷ like 1 (withBit 0 (cond back (end + 1) (end + 2))) true
+    ∷ like 2 (withBit 0 (end + 3)) true
     ∷ like 1 (withBit 0 (second + 1)) false
-    ∷ like 1 (withBit 0 (gate + 6)) false
+    ∷ like 1 (withBit 0 (end + 6)) false
     ∷ []
 
--- and the last
-abbrev pub pit : ℕ → State
-pit gate = like 0 (threeStates (gate + 6) (gate + 3) 64) false
+-- and the last, which never shows 1 again
+abbrev pub lastState : ℕ → State
+lastState end = like 0 (threeStates (end + 6) (end + 3) 64) false
 
 -- state s of an abstract machine: first ring, second ring, further states
 unfoldable pub abstractState : Bool → ℕ → Rings → ℕ → State
 abstractState back entry rings s =
     let second = rings .first in
-    let gate = second + rings .second in
-    let side = cond back (gate + 5) (second + entry) in
-    let bridge = cond back (gate + 4) 64 in
-    cond (ltb s second) (like 0 (ringMoves 0 second s (gate + 3) (cond (eqb s 0) side (gate + 2))) true)
-    (cond (ltb s gate) (like 0 (withBit (ringMoves second gate s (gate + 3) (cond (eqb s second) gate (gate + 2))) (cond (eqb s second) bridge 64)) false)
-    (getD (furtherStates back second gate) (s - gate) (pit gate)))
+    let end = second + rings .second in
+    let side = cond back (end + 5) (second + entry) in
+    let backState = cond back (end + 4) 64 in
+    cond (ltb s second) (like 0 (ringMoves 0 second s (end + 3) (cond (eqb s 0) side (end + 2))) true)
+    (cond (ltb s end) (like 0 (withBit (ringMoves second end s (end + 3) (cond (eqb s second) end (end + 2))) (cond (eqb s second) backState 64)) false)
+    (getD (furtherStates back second end) (s - end) (lastState end)))
 
 -- how many states a machine has
 unfoldable pub ringStates : Bool → Bool → Rings → ℕ

@@ -2,10 +2,10 @@
 use mathlib.Core.Path.{sym}
 use native.Mathlib.Omega.{arith}
 use borrow.Author.Needs.{needs}
-use Rattle.brute.specs.Rings.{furtherStates}
-use Rattle.brute.specs.RingsLaws.{further-last}
-use Rattle.brute.proofs.rings.further_state.Statement.{statement}
-use Rattle.brute.proofs.rings.further_state.Tie as tie
+use Rattle.rings.specs.Rings.{furtherStates}
+use Rattle.rings.specs.RingsLaws.{further-last}
+use Rattle.rings.proofs.further_state.Statement.{statement}
+use Rattle.rings.proofs.further_state.Tie as tie
 
 add-with : tie.Need-add-with
 add-with c = search needs

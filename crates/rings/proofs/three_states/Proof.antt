@@ -1,7 +1,7 @@
 use borrow.Author.Needs.{needs}
-use Rattle.brute.specs.Rings.{threeStates}
-use Rattle.brute.proofs.rings.three_states.Statement.{statement}
-use Rattle.brute.proofs.rings.three_states.Tie as tie
+use Rattle.rings.specs.Rings.{threeStates}
+use Rattle.rings.proofs.three_states.Statement.{statement}
+use Rattle.rings.proofs.three_states.Tie as tie
 
 with-requires : tie.Need-with-requires
 with-requires c κs = search needs

@@ -1,0 +1,4 @@
+-- definitions
+pub mod Rings
+-- laws
+pub mod RingsLaws
