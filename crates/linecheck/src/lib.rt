@@ -148,7 +148,7 @@ fn lines_validity(p: Pair, matched: [u64; 64], table: &[u16]) -> Validity
                         let d = mask::lowest(rest);
                         let from = machine::entry_index(nc, na, section, d, 0);
                         let to = from + na;
-                        if !machine::has_partner(moves, matched[d], &table[from..to], bound) {
+                        if !step::has_partner(moves, matched[d], &table[from..to], bound) {
                             answer = Validity::Refused(spot);
                             break 'lines;
                         }
@@ -188,7 +188,7 @@ fn lacking_start(p: Pair, table: &[u16]) -> usize
         if mask::has(concrete.start, c) {
             let from = machine::entry_index(nc, na, 0, c, 0);
             let to = from + na;
-            if !machine::has_partner(
+            if !step::has_partner(
                 abstraction.start,
                 abstraction.start,
                 &table[from..to],
@@ -212,7 +212,7 @@ pub fn check_table(p: Pair, table: &[u16]) -> Checked
     if let Validity::Refused(r) = valid {
         return Checked::Refused(r);
     }
-    let lines = lines_validity(p, machine::matched_masks(p), table);
+    let lines = lines_validity(p, step::matched_masks(p), table);
     if let Validity::Refused(r) = lines {
         return Checked::Refused(r);
     }

@@ -142,7 +142,7 @@ fn best_partner(
     let na = abstraction.states;
     let from = machine::entry_index(concrete.states, na, j, d, 0);
     let to = from + na;
-    machine::partner_within(moves, matched[d], &table[from..to], machine::BLANK - 1)
+    step::partner_within(moves, matched[d], &table[from..to], machine::BLANK - 1)
 }
 
 // The number, below 448, of a state a and a section j. It takes a modulo 64 and j modulo 7, so that any have an answer; states and sections are less.
@@ -339,7 +339,7 @@ pub fn play(p: Pair, table: &[u16], stem: &[u8], cycle: &[u8], run: &mut [u8]) -
         return Played::Refused(r);
     }
     let abstraction = p.abstraction;
-    let matched = machine::matched_masks(p);
+    let matched = step::matched_masks(p);
     let c = state_at(stem, cycle, 0);
     let first = best_partner(p, &matched, table, abstraction.start, 0, c);
     let Partner::State(a) = first else {

@@ -274,7 +274,7 @@ fn rank_all(p: Pair, table: &mut [u16])
     let na = abstraction.states;
     let concrete_moves = concrete.successors;
     let abstract_moves = abstraction.successors;
-    let matched = machine::matched_masks(p);
+    let matched = step::matched_masks(p);
     let dependents = rows::predecessors(nc, &concrete_moves);
     let predecessors = rows::predecessors(na, &abstract_moves);
     first_table(p, &matched, table);

@@ -7,9 +7,9 @@ use lib.Bits.{bitAnd, and-le-l}
 use lib.ListN.{getD}
 use borrow.Author.Needs.{needs}
 use Rattle.mask.specs.BitsLaws.{rest-lt}
 use Rattle.machine.specs.PartnerLaws.{Walked, walked-start, walked-take, walked-keep, walked-done, partner-row}
-use Rattle.machine.proofs.partner_within.Statement.{statement}
-use Rattle.machine.proofs.partner_within.Tie as tie
+use Rattle.step.proofs.partner_within.Statement.{statement}
+use Rattle.step.proofs.partner_within.Tie as tie
 
 abbrev Inv-loop : tie.InvT-loop
 Inv-loop moves matched row bound m₀ best₀ limit₀ m best limit = Walked row bound (bitAnd moves matched) m best limit

@@ -7,9 +7,9 @@ use lib.ListN.{length, getD, length-set, length-replicate}
 use borrow.Author.Count.{below-none}
 use borrow.Author.Needs.{needs}
 use Rattle.mask.specs.TablesLaws.{fill-step}
 use Rattle.machine.specs.ObservedLaws.{matchedRow, row-in, row-out, matched-is}
-use Rattle.machine.proofs.matched_masks.Statement.{statement}
-use Rattle.machine.proofs.matched_masks.Tie as tie
+use Rattle.step.proofs.matched_masks.Statement.{statement}
+use Rattle.step.proofs.matched_masks.Tie as tie
 
 abbrev Inv-loop : tie.InvT-loop
 Inv-loop concrete abstraction nc na out₀ s₀ out s =

@@ -10,10 +10,10 @@ use Rattle.mask.specs.BitsLaws.{rest-lt}
 use Rattle.mask.specs.Bounded.{someIn}
 use Rattle.mask.specs.BoundedLaws.{someIn-zero}
 use Rattle.mask.specs.WalkLaws.{someIn-hit, someIn-miss}
 use Rattle.machine.specs.Step.{partner, inRow, found}
 use Rattle.machine.specs.PartnerLaws.{within, within-hit, within-miss, found-row}
-use Rattle.machine.proofs.has_partner.Statement.{statement}
-use Rattle.machine.proofs.has_partner.Tie as tie
+use Rattle.step.proofs.has_partner.Statement.{statement}
+use Rattle.step.proofs.has_partner.Tie as tie
 
 abbrev Inv-loop : tie.InvT-loop
 Inv-loop moves matched row bound m₀ m =

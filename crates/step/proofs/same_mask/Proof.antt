@@ -5,10 +5,10 @@ use Prim.Native.Nat.{ℕ, _-_, _≤_, min}
 use native.Mathlib.Omega.{arith}
 use borrow.Author.Needs.{needs}
 use Rattle.mask.specs.Bits.{withBit}
 use Rattle.machine.specs.Observed.{sameMask}
 use Rattle.machine.specs.ObservedLaws.{same-none, same-hit, same-miss, same-min}
-use Rattle.machine.proofs.same_mask.Statement.{statement}
-use Rattle.machine.proofs.same_mask.Tie as tie
+use Rattle.step.proofs.same_mask.Statement.{statement}
+use Rattle.step.proofs.same_mask.Tie as tie
 
 abbrev Inv-loop : tie.InvT-loop
 Inv-loop o n observations end m₀ a₀ m a = (a ≤ end) × (end ≡ min n 64) × (m ≡ sameMask o a observations)

@@ -2,10 +2,10 @@
 use mathlib.Core.Path.{sym, ap, _∙_}
 use native.Mathlib.Omega.{arith}
 use borrow.Author.Needs.{needs}
 use Rattle.machine.specs.declared.Partner.the-variants.{State}
 use Rattle.machine.specs.PartnerLaws.{partner-lowest, partner-nobody}
-use Rattle.machine.proofs.partner_in.Statement.{statement}
-use Rattle.machine.proofs.partner_in.Tie as tie
+use Rattle.step.proofs.partner_in.Statement.{statement}
+use Rattle.step.proofs.partner_in.Tie as tie
 
 lowest-requires : tie.Need-lowest-requires
 lowest-requires c κs = search needs
