@@ -184,7 +184,7 @@ pub fn rings(m: usize, n: usize) -> (Machine, Machine) {
 // The hard families. The concrete machine has rings of x and x2 states, the abstract one rings of y and y2. Where two lengths are coprime, the
 // pairs of two rings are one long chain, and three such chains lie one in another:
 // - x beside y: all are goals while the next pair is in the next section's set, and one pair is lost, so that in each turn one more leaves the set;
-// - x2 beside y2: in every concrete set, and one pair leads to a goal, so that in each level of each turn one more enters;
+// - x2 beside y2: in every concrete set, and one pair leads to the universal state, so that in each level of each turn one more enters;
 // - x beside y2: in no concrete set and no goals, and one pair is lost, so that in each round of each X one more leaves.
 // Nested iteration steps all pairs some (x y) n (x2 y2) m (x y2) times, which is the sixth power of the number of states.
 #[derive(Clone, Copy)]
@@ -219,11 +219,12 @@ fn concrete_rings(r: Lengths, sets: usize) -> Machine {
     c
 }
 
-// the two rings, then a door to a goal that stays, a state with observation 1 and one with observation 2; the rings' first states lack observation 1
+// the two rings, then a state that leads to the universal one, the universal state, which can follow every state, one with observation 1 and one
+// with observation 2; the rings' first states lack observation 1
 fn abstract_rings(r: Lengths, states: usize, sets: usize) -> Machine {
     let mut a = machine_of(states, sets);
-    let door = r.y + r.y2;
-    let (goal, one, two) = (door + 1, door + 2, door + 3);
+    let after = r.y + r.y2;
+    let (universal, one, two) = (after + 1, after + 2, after + 3);
     for s in 0..r.y {
         a.successors[s] = 1 << ((s + 1) % r.y) | 1 << one | 1 << two;
     }
@@ -232,15 +233,15 @@ fn abstract_rings(r: Lengths, states: usize, sets: usize) -> Machine {
     }
     a.successors[0] &= !(1 << one);
     a.successors[r.y] &= !(1 << one);
-    a.successors[r.y] |= 1 << door;
-    a.successors[door] = 1 << goal;
-    a.successors[goal] = 1 << goal | 1 << one | 1 << two;
+    a.successors[r.y] |= 1 << after;
+    a.successors[after] = 1 << universal;
+    a.successors[universal] = 1 << universal | 1 << one | 1 << two;
     for (s, observation) in [(one, 1), (two, 2)] {
         a.observations[s] = observation;
         a.successors[s] = 1 << s;
     }
     for j in 0..sets {
-        a.fairness[j] = full(r.y) | 1 << goal | 1 << one | 1 << two;
+        a.fairness[j] = full(r.y) | 1 << universal | 1 << one | 1 << two;
     }
     a
 }
@@ -264,9 +265,9 @@ pub fn second_hard(r: Lengths, m: usize, n: usize) -> (Machine, Machine) {
         c.fairness[k] |= 1 << one;
     }
     let mut a = abstract_rings(r, r.y + r.y2 + 7, n);
-    let (goal, one, two) = (r.y + r.y2 + 1, r.y + r.y2 + 2, r.y + r.y2 + 3);
+    let (universal, one, two) = (r.y + r.y2 + 1, r.y + r.y2 + 2, r.y + r.y2 + 3);
     let (to_ring, to_idle, idle) = (two + 1, two + 2, two + 3);
-    a.successors[one] = 1 << goal;
+    a.successors[one] = 1 << universal;
     a.successors[0] |= 1 << to_idle;
     a.successors[r.y] |= 1 << to_ring;
     for (s, moves) in [(to_ring, 1 << (r.y + 1)), (to_idle, 1 << idle)] {

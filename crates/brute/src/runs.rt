@@ -59,16 +59,6 @@ fn least_partner(p: Pair, table: &[u16], moves: u64, j: usize, d: usize) -> Part
     best
 }
 
-// The partner's number, 0 where there is none.
-fn state_of(found: Partner) -> usize
-    ensures { λ r. ⌜ r ≡ stateOf found ⌝ }
-{
-    match found {
-        Partner::State(a) => a,
-        Partner::Nobody => 0,
-    }
-}
-
 // The section after the change: the next one where the pair's entry is 0.
 fn section_after(p: Pair, table: &[u16], c: usize, at: Spot) -> usize
     requires { ⌜ (wellFormed p ≡ true) × ((c < 256) × ((at .state ≤ 64) × (at .section < setsA p))) ⌝ }
@@ -90,7 +80,7 @@ fn step_to(p: Pair, table: &[u16], c: usize, at: Spot, d: usize) -> Spot
     let j = section_after(p, table, c, at);
     let found = least_partner(p, table, successors_of(p.abstraction, at.state), j, d);
     Spot {
-        state: state_of(found),
+        state: machine::state_of(found),
         section: j,
     }
 }
@@ -109,7 +99,7 @@ fn place_at(p: Pair, table: &[u16], stem: &[u8], cycle: &[u8], t: usize) -> Spot
         moment_at(stem, cycle, 0) as usize,
     );
     let mut at = Spot {
-        state: state_of(found),
+        state: machine::state_of(found),
         section: 0,
     };
     for i in 0..t {

@@ -141,8 +141,8 @@ fn counts_hold(bytes: &[u8]) -> bool
     requires { ⌜ 512 ≤ length (now bytes) ⌝ }
     ensures { λ r. ⌜ r ≡ countsHold (now (bytes .entry)) ⌝ }
 {
-    if machine::counts_ok(8, header_byte(bytes, 4), header_byte(bytes, 6)) {
-        machine::counts_ok(7, header_byte(bytes, 5), header_byte(bytes, 7))
+    if validity::counts_ok(8, header_byte(bytes, 4), header_byte(bytes, 6)) {
+        validity::counts_ok(7, header_byte(bytes, 5), header_byte(bytes, 7))
     } else {
         false
     }
@@ -406,7 +406,7 @@ fn take_show(bytes: &[u8], table: &mut [u16]) -> Show
     let mut payload = [0u8; PAYLOAD_ROOM];
     join(bytes, &mut payload);
     let pair = pair_at(bytes, &payload);
-    match machine::pair_validity(pair) {
+    match validity::pair_validity(pair) {
         Validity::Refused(r) => refused_show(r),
         Validity::Valid => {
             let note = note_of(bytes);

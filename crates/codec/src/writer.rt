@@ -175,7 +175,7 @@ pub fn write_file(p: Pair, with_table: bool, table: &[u16], buffer: &mut [u8]) -
     if buffer.len() < FILE_ROOM {
         return Size::Refused(machine::refuse(machine::SHORT_BUFFER, 0, 0, 0));
     }
-    match machine::pair_validity(p) {
+    match validity::pair_validity(p) {
         Validity::Refused(r) => Size::Refused(r),
         Validity::Valid => Size::Bytes(put_file(p, with_table, table, buffer)),
     }

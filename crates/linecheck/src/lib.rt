@@ -148,7 +148,7 @@ fn lines_validity(p: Pair, matched: [u64; 64], table: &[u16]) -> Validity
                         let d = mask::lowest(rest);
                         let from = machine::entry_index(nc, na, section, d, 0);
                         let to = from + na;
-                        if !step::has_partner(moves, matched[d], &table[from..to], bound) {
+                        if !machine::has_partner(moves, matched[d], &table[from..to], bound) {
                             answer = Validity::Refused(spot);
                             break 'lines;
                         }
@@ -188,7 +188,7 @@ fn lacking_start(p: Pair, table: &[u16]) -> usize
         if mask::has(concrete.start, c) {
             let from = machine::entry_index(nc, na, 0, c, 0);
             let to = from + na;
-            if !step::has_partner(
+            if !machine::has_partner(
                 abstraction.start,
                 abstraction.start,
                 &table[from..to],
@@ -208,11 +208,11 @@ pub fn check_table(p: Pair, table: &[u16]) -> Checked
     if table.len() < machine::TABLE_ROOM {
         return Checked::Refused(machine::refuse(machine::SHORT_BUFFER, 0, 0, 0));
     }
-    let valid = machine::pair_validity(p);
+    let valid = validity::pair_validity(p);
     if let Validity::Refused(r) = valid {
         return Checked::Refused(r);
     }
-    let lines = lines_validity(p, step::matched_masks(p), table);
+    let lines = lines_validity(p, machine::matched_masks(p), table);
     if let Validity::Refused(r) = lines {
         return Checked::Refused(r);
     }

@@ -1,15 +1,13 @@
-// Machines, pairs of machines, refusals, well-formedness, equal observations, and where a table's sections and entries lie.
+// Machines, pairs of machines, refusals, the single step, and where a table's sections and entries lie. The definitions of well-formedness stand
+// here too; crate `validity` tests it.
 ghost use mathlib.Core.Path.{_≡_};
-ghost use mathlib.Core.Bool.{cond};
 ghost use lib.ListN.{getD};
 ghost use lib.Seq.{sets};
-ghost use lib.Dec.{ltb, eqb};
-ghost use Rattle.mask.specs.Logic.{not, or};
 ghost use Rattle.mask.specs.Bits.{hasBit};
-ghost use Rattle.mask.specs.Bounded.{some};
 ghost use Rattle.machine.specs.Machines.{sameObservation, next};
-ghost use Rattle.machine.specs.Refusals.{testedOf, refusal, fourNumbers};
-ghost use Rattle.machine.specs.WellFormed.{countsOk, beyond, stateBeyond, setBeyond, beyondCounts, stuckState, contentValidity, machineValidity, pairValidity};
+ghost use Rattle.machine.specs.Refusals.{refusal, fourNumbers};
+ghost use Rattle.machine.specs.Step.{partner, found, stateOf, alike, inRow};
+ghost use Rattle.machine.specs.Observed.{sameMask, matchedMasks};
 ghost use Rattle.machine.specs.Table.{placeOf};
 
 // A finite machine with fairness sets. Document 01: the rig is the concrete machine, the score the abstract one.
@@ -113,162 +111,113 @@ pub fn put_refusal(spot: &mut [u64; 4], r: Refusal)
     spot[3] = r.third as u64;
 }
 
-// ---- Well-formedness
-
-// Whether a machine has 1 to 64 states and 1 to `limit` sets.
-pub fn counts_ok(limit: usize, states: usize, sets: usize) -> bool
-    ensures { λ r. ⌜ r ≡ countsOk limit states sets ⌝ }
-{
-    if states < 1 {
-        return false;
-    }
-    if 64 < states {
-        return false;
-    }
-    if sets < 1 {
-        return false;
-    }
-    sets <= limit
-}
-
-// Whether a mask has a state at or past n.
-fn has_beyond(n: usize, m: u64) -> bool
-    ensures { λ r. ⌜ r ≡ beyond n m ⌝ }
-{
-    if n < 64 { m >> n != 0 } else { false }
-}
-
-// Whether the entries of state s, or its successors, lie beyond the count of states.
-fn state_beyond(states: usize, observation: u8, successors: u64, s: usize) -> bool
-    ensures { λ r. ⌜ r ≡ cond (ltb s states) (beyond states successors) (or (not (eqb observation 0)) (not (eqb successors 0))) ⌝ }
-{
-    if s < states {
-        return has_beyond(states, successors);
-    }
-    if observation != 0 {
-        return true;
-    }
-    successors != 0
-}
-
-// Whether some state's entries lie beyond the count of states.
-fn states_beyond(states: usize, observations: &[u8; 64], successors: &[u64; 64]) -> bool
-    ensures { λ r. ⌜ r ≡ some 64 (stateBeyond states (now (observations .entry)) (now (successors .entry))) ⌝ }
-{
-    for s in 0..64 {
-        if state_beyond(states, observations[s], successors[s], s) {
-            return true;
-        }
-    }
-    false
-}
-
-// Whether the entry of set k, or a state of that set, lies beyond the counts.
-fn set_beyond(states: usize, sets: usize, members: u64, k: usize) -> bool
-    ensures { λ r. ⌜ r ≡ cond (ltb k sets) (beyond states members) (not (eqb members 0)) ⌝ }
-{
-    if k < sets {
-        return has_beyond(states, members);
-    }
-    members != 0
-}
-
-// Whether some set's entry, or a state of a set, lies beyond the counts.
-fn sets_beyond(states: usize, sets: usize, fairness: &[u64; 8]) -> bool
-    ensures { λ r. ⌜ r ≡ some 8 (setBeyond states sets (now (fairness .entry))) ⌝ }
-{
-    for k in 0..8 {
-        if set_beyond(states, sets, fairness[k], k) {
-            return true;
-        }
-    }
-    false
-}
-
-// The lowest state without a successor, 64 where there is none.
-fn stuck_state(states: usize, successors: &[u64; 64]) -> usize
-    ensures { λ r. ⌜ r ≡ stuckState states (now (successors .entry)) ⌝ }
-{
-    for s in 0..64 {
-        if s < states {
-            if successors[s] == 0 {
-                return s;
-            }
-        }
-    }
-    64
-}
-
-// Whether a bit or an entry of a machine lies beyond its counts.
-fn beyond_counts(m: Machine) -> bool
-    ensures { λ r. ⌜ r ≡ beyondCounts m ⌝ }
-{
-    let observations = m.observations;
-    let successors = m.successors;
-    let fairness = m.fairness;
-    if has_beyond(m.states, m.start) {
-        return true;
-    }
-    if states_beyond(m.states, &observations, &successors) {
-        return true;
-    }
-    sets_beyond(m.states, m.sets, &fairness)
-}
-
-// Refusals 9, 10 and 11 of one machine, which is number `index` of a pair.
-fn content_validity(index: usize, m: Machine) -> Validity
-    ensures { λ r. ⌜ testedOf r ≡ contentValidity index m ⌝ }
-{
-    if beyond_counts(m) {
-        return Validity::Refused(refuse(BEYOND_COUNTS, index, 0, 0));
-    }
-    if m.start == 0 {
-        return Validity::Refused(refuse(NO_START, index, 0, 0));
-    }
-    let successors = m.successors;
-    let s = stuck_state(m.states, &successors);
-    if s < 64 {
-        return Validity::Refused(refuse(NO_SUCCESSOR, index, s, 0));
-    }
-    Validity::Valid
-}
-
-// Whether one machine, which has at most `limit` sets, is well formed; it is machine 0.
-pub fn machine_validity(limit: usize, m: Machine) -> Validity
-    ensures { λ r. ⌜ testedOf r ≡ machineValidity limit m ⌝ }
-{
-    if !counts_ok(limit, m.states, m.sets) {
-        return Validity::Refused(refuse(BAD_COUNTS, 0, 0, 0));
-    }
-    content_validity(0, m)
-}
-
-// Whether a pair is well formed: the counts of both, then the whole concrete machine, then the whole abstract one.
-pub fn pair_validity(p: Pair) -> Validity
-    ensures { λ r. ⌜ testedOf r ≡ pairValidity p ⌝ }
-{
-    let c = p.concrete;
-    let a = p.abstraction;
-    if !counts_ok(8, c.states, c.sets) {
-        return Validity::Refused(refuse(BAD_COUNTS, 0, 0, 0));
-    }
-    if !counts_ok(7, a.states, a.sets) {
-        return Validity::Refused(refuse(BAD_COUNTS, 0, 0, 0));
-    }
-    let concrete = content_validity(0, c);
-    match concrete {
-        Validity::Refused(r) => Validity::Refused(r),
-        Validity::Valid => content_validity(1, a),
-    }
-}
-
-// ---- Observations
+// ---- Matched pairs
 
 // Whether two observations are the same.
 pub fn same_observation(x: u8, y: u8) -> bool
     ensures { λ r. ⌜ r ≡ sameObservation x y ⌝ }
 {
     x == y
+}
+
+// The mask of the states below n, and below 64, whose observation is o.
+fn same_mask(o: u8, n: usize, observations: &[u8; 64]) -> u64
+    ensures { λ r. ⌜ r ≡ sameMask o n (now (observations .entry)) ⌝ }
+{
+    let end = if n < 64 { n } else { 64 };
+    let mut m: u64 = 0;
+    for a in 0..end {
+        if same_observation(o, observations[a]) {
+            m = mask::with(m, a);
+        }
+    }
+    m
+}
+
+// For each concrete state the mask of the abstract states that are matched with it.
+pub fn matched_masks(p: Pair) -> [u64; 64]
+    ensures { λ r. ⌜ r ≡ matchedMasks p ⌝ }
+{
+    let c = p.concrete;
+    let a = p.abstraction;
+    let concrete = c.observations;
+    let abstraction = a.observations;
+    let nc = c.states;
+    let na = a.states;
+    let mut out = [0u64; 64];
+    for s in 0..64 {
+        let row = if s < nc {
+            same_mask(concrete[s], na, &abstraction)
+        } else {
+            0
+        };
+        out[s] = row;
+    }
+    out
+}
+
+// ---- The single step
+
+// The partner in a set that is given by the mask of its states beside c': the lowest of the moves that is in the row.
+pub fn partner_in(moves: u64, row: u64) -> Partner
+    ensures { λ r. ⌜ r ≡ partner moves (hasBit row) alike ⌝ }
+{
+    let m = moves & row;
+    if m == 0 {
+        Partner::Nobody
+    } else {
+        Partner::State(mask::lowest(m))
+    }
+}
+
+// The partner in a set that is given by its entries beside c' and a bound: of the moves that are matched with c' and whose entry is at
+// most the bound, the one of least entry, the lowest of these.
+pub fn partner_within(moves: u64, matched: u64, row: &[u16], bound: u16) -> Partner
+    ensures { λ r. ⌜ r ≡ partner moves (inRow matched (now (row .entry)) bound) (λ a. getD (now (row .entry)) a 0) ⌝ }
+{
+    let mut m = moves & matched;
+    let mut best = Partner::Nobody;
+    // an entry below the limit is taken: the first has to be within the bound, a later one lower than the best
+    let mut limit = bound as u32 + 1;
+    while m != 0 {
+        let a = mask::lowest(m);
+        if a < row.len() {
+            let e = row[a] as u32;
+            if e < limit {
+                best = Partner::State(a);
+                limit = e;
+            }
+        }
+        m = mask::rest(m);
+    }
+    best
+}
+
+// Whether `partner_within` names a partner; it stops at the first.
+pub fn has_partner(moves: u64, matched: u64, row: &[u16], bound: u16) -> bool
+    ensures { λ r. ⌜ r ≡ found (partner moves (inRow matched (now (row .entry)) bound) (λ a. getD (now (row .entry)) a 0)) ⌝ }
+{
+    let mut m = moves & matched;
+    while m != 0 {
+        let a = mask::lowest(m);
+        if a < row.len() {
+            if row[a] <= bound {
+                return true;
+            }
+        }
+        m = mask::rest(m);
+    }
+    false
+}
+
+// The partner's number, 0 where there is none.
+pub fn state_of(found: Partner) -> usize
+    ensures { λ r. ⌜ r ≡ stateOf found ⌝ }
+{
+    match found {
+        Partner::State(a) => a,
+        Partner::Nobody => 0,
+    }
 }
 
 // ---- Sections and tables

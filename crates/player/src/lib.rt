@@ -106,20 +106,10 @@ impl Place {
         let found = best_partner(p, matched, table, successors[a], j, d);
         Self {
             position: next.position,
-            a: state_of(found),
+            a: machine::state_of(found),
             j: j,
             round: next.round,
         }
-    }
-}
-
-// The partner's number, 0 where there is none.
-fn state_of(found: Partner) -> usize
-    ensures { λ r. ⌜ r ≡ stateOf found ⌝ }
-{
-    match found {
-        Partner::State(a) => a,
-        Partner::Nobody => 0,
     }
 }
 
@@ -142,7 +132,7 @@ fn best_partner(
     let na = abstraction.states;
     let from = machine::entry_index(concrete.states, na, j, d, 0);
     let to = from + na;
-    step::partner_within(moves, matched[d], &table[from..to], machine::BLANK - 1)
+    machine::partner_within(moves, matched[d], &table[from..to], machine::BLANK - 1)
 }
 
 // The number, below 448, of a state a and a section j. It takes a modulo 64 and j modulo 7, so that any have an answer; states and sections are less.
@@ -295,7 +285,7 @@ fn write_run(
     ensures buffer { λ r. ⌜ now (run .exit) ≡ written p (now (table .entry)) (given (now (stem .entry)) (now (cycle .entry))) (now (run .entry)) ⌝ }
 {
     let start = stem.len();
-    let turn = cycle.len();
+    let period = cycle.len();
     // one more than the round at which a and j were seen at a loop start, 0 where they were not
     let mut marks = [0u16; 448];
     let mut place = Place::new(first);
@@ -309,8 +299,8 @@ fn write_run(
             let seen = marks[number] as usize;
             if seen != 0 {
                 let earlier = seen - 1;
-                let stem_length = start + earlier * turn;
-                let loop_length = (round - earlier) * turn;
+                let stem_length = start + earlier * period;
+                let loop_length = (round - earlier) * period;
                 return Played::Run(stem_length, loop_length);
             }
             marks[number] = (round + 1) as u16;
@@ -339,7 +329,7 @@ pub fn play(p: Pair, table: &[u16], stem: &[u8], cycle: &[u8], run: &mut [u8]) -
         return Played::Refused(r);
     }
     let abstraction = p.abstraction;
-    let matched = step::matched_masks(p);
+    let matched = machine::matched_masks(p);
     let c = state_at(stem, cycle, 0);
     let first = best_partner(p, &matched, table, abstraction.start, 0, c);
     let Partner::State(a) = first else {

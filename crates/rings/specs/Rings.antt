@@ -33,32 +33,32 @@ concreteState back rings s =
     (cond (ltb s end) (like 0 (ringMoves second end s (cond (eqb s (second + 1)) 64 (end + 1)) 64) true)
     (cond (eqb s end) (like 1 (withBit 0 (cond back (second + 1) end)) back) (like 2 (withBit 0 (end + 1)) false)))
 
--- the states after the rings of an abstract machine, from `end` on: the one that leads to the universal state, the universal state, ends of
+-- the states after the rings of an abstract machine, of which `after` is the first: the one that leads to the universal state, the universal state, ends of
 -- observation 1 and 2; in the second family one that leads back into the second ring and one that leads to the last
 unfoldable pub furtherStates : Bool → ℕ → ℕ → List State
-furtherStates back second end =
-    like 0 (withBit 0 (end + 1)) false
-    ∷ like 0 (threeStates (end + 1) (end + 2) (end + 3)) true
-    ∷ like 1 (withBit 0 (cond back (end + 1) (end + 2))) true
-    ∷ like 2 (withBit 0 (end + 3)) true
+furtherStates back second after =
+    like 0 (withBit 0 (after + 1)) false
+    ∷ like 0 (threeStates (after + 1) (after + 2) (after + 3)) true
+    ∷ like 1 (withBit 0 (cond back (after + 1) (after + 2))) true
+    ∷ like 2 (withBit 0 (after + 3)) true
     ∷ like 1 (withBit 0 (second + 1)) false
-    ∷ like 1 (withBit 0 (end + 6)) false
+    ∷ like 1 (withBit 0 (after + 6)) false
     ∷ []
 
 -- and the last, which never shows 1 again
 abbrev pub lastState : ℕ → State
-lastState end = like 0 (threeStates (end + 6) (end + 3) 64) false
+lastState after = like 0 (threeStates (after + 6) (after + 3) 64) false
 
 -- state s of an abstract machine: first ring, second ring, further states
 unfoldable pub abstractState : Bool → ℕ → Rings → ℕ → State
 abstractState back entry rings s =
     let second = rings .first in
-    let end = second + rings .second in
-    let side = cond back (end + 5) (second + entry) in
-    let backState = cond back (end + 4) 64 in
-    cond (ltb s second) (like 0 (ringMoves 0 second s (end + 3) (cond (eqb s 0) side (end + 2))) true)
-    (cond (ltb s end) (like 0 (withBit (ringMoves second end s (end + 3) (cond (eqb s second) end (end + 2))) (cond (eqb s second) backState 64)) false)
-    (getD (furtherStates back second end) (s - end) (lastState end)))
+    let after = second + rings .second in
+    let side = cond back (after + 5) (second + entry) in
+    let backState = cond back (after + 4) 64 in
+    cond (ltb s second) (like 0 (ringMoves 0 second s (after + 3) (cond (eqb s 0) side (after + 2))) true)
+    (cond (ltb s after) (like 0 (withBit (ringMoves second after s (after + 3) (cond (eqb s second) after (after + 2))) (cond (eqb s second) backState 64)) false)
+    (getD (furtherStates back second after) (s - after) (lastState after)))
 
 -- how many states a machine has
 unfoldable pub ringStates : Bool → Bool → Rings → ℕ

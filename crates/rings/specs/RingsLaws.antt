@@ -16,9 +16,9 @@ use Rattle.rings.specs.declared.Rings.{Rings}
 use Rattle.rings.specs.declared.State.{State}
 use Rattle.rings.specs.Rings.{furtherStates, lastState, ringMachine, ringState, ringStates}
 
-pub further-last : (back : Bool) (second end i : ℕ) → 6 ≤ i → getD (furtherStates back second end) i (lastState end) ≡ lastState end
+pub further-last : (back : Bool) (second after i : ℕ) → 6 ≤ i → getD (furtherStates back second after) i (lastState after) ≡ lastState after
 unfolding furtherStates
-further-last back second end i h = List·getD-eq-default (furtherStates back second end) (lastState end) h
+further-last back second after i h = List·getD-eq-default (furtherStates back second after) (lastState after) h
 
 module _ (abstraction back : Bool) (entry : ℕ) (rings : Rings) where
   abbrev at : ℕ → State

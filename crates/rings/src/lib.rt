@@ -85,31 +85,31 @@ fn concrete_state(back: bool, rings: Rings, s: usize) -> State
     }
 }
 
-// State number i after the rings of an abstract machine: the one that leads to the universal state, the universal state, ends of observation 1
+// State number i after the rings of an abstract machine, of which `after` is the first: the one that leads to the universal state, the universal state, ends of observation 1
 // and 2; in the second family one that leads back into the second ring, one that leads to the last, and the last, which never shows 1 again.
-fn further_state(back: bool, second: usize, end: usize, i: usize) -> State
-    requires { ⌜ (second ≤ 4294967296) × (end ≤ 8589934592) ⌝ }
-    ensures { λ r. ⌜ r ≡ getD (furtherStates back second end) i (lastState end) ⌝ }
+fn further_state(back: bool, second: usize, after: usize, i: usize) -> State
+    requires { ⌜ (second ≤ 4294967296) × (after ≤ 8589934592) ⌝ }
+    ensures { λ r. ⌜ r ≡ getD (furtherStates back second after) i (lastState after) ⌝ }
 {
     match i {
         0 => State {
             observation: 0,
-            successors: mask::with(0, end + 1),
+            successors: mask::with(0, after + 1),
             fair: false,
         },
         1 => State {
             observation: 0,
-            successors: three_states(end + 1, end + 2, end + 3),
+            successors: three_states(after + 1, after + 2, after + 3),
             fair: true,
         },
         2 => State {
             observation: 1,
-            successors: mask::with(0, pick(back, end + 1, end + 2)),
+            successors: mask::with(0, pick(back, after + 1, after + 2)),
             fair: true,
         },
         3 => State {
             observation: 2,
-            successors: mask::with(0, end + 3),
+            successors: mask::with(0, after + 3),
             fair: true,
         },
         4 => State {
@@ -119,12 +119,12 @@ fn further_state(back: bool, second: usize, end: usize, i: usize) -> State
         },
         5 => State {
             observation: 1,
-            successors: mask::with(0, end + 6),
+            successors: mask::with(0, after + 6),
             fair: false,
         },
         _ => State {
             observation: 0,
-            successors: three_states(end + 6, end + 3, 64),
+            successors: three_states(after + 6, after + 3, 64),
             fair: false,
         },
     }
@@ -136,25 +136,31 @@ fn abstract_state(back: bool, entry: u32, rings: Rings, s: usize) -> State
     ensures { λ r. ⌜ r ≡ abstractState back entry rings s ⌝ }
 {
     let second = rings.first as usize;
-    let end = second + rings.second as usize;
+    let after = second + rings.second as usize;
     if s < second {
-        let side = pick(back, end + 5, second + entry as usize);
+        let side = pick(back, after + 5, second + entry as usize);
         return State {
             observation: 0,
-            successors: ring_moves(0, second, s, end + 3, pick(s == 0, side, end + 2)),
+            successors: ring_moves(0, second, s, after + 3, pick(s == 0, side, after + 2)),
             fair: true,
         };
     }
-    if s < end {
-        let moves = ring_moves(second, end, s, end + 3, pick(s == second, end, end + 2));
-        let back_state = pick(back, end + 4, 64);
+    if s < after {
+        let moves = ring_moves(
+            second,
+            after,
+            s,
+            after + 3,
+            pick(s == second, after, after + 2),
+        );
+        let back_state = pick(back, after + 4, 64);
         return State {
             observation: 0,
             successors: mask::with(moves, pick(s == second, back_state, 64)),
             fair: false,
         };
     }
-    further_state(back, second, end, s - end)
+    further_state(back, second, after, s - after)
 }
 
 // How many states a machine has.

@@ -6,4 +6,4 @@ pub mod Entries
 pub mod RowsLaws
 pub mod SetRowsLaws
 pub mod LargestLaws
-pub mod StampLaws
+pub mod WriteLaws

@@ -10,7 +10,7 @@ ghost use lib.ListN.{length};
 ghost use Rattle.mask.specs.Tables.{table};
 ghost use Rattle.machine.specs.Table.{blank};
 ghost use Rattle.rows.specs.Largest.{Known, Largest};
-ghost use Rattle.rows.specs.Entries.{rowUpto, uptoOf, without, stampRow, stampOf, sectionRows};
+ghost use Rattle.rows.specs.Entries.{rowUpto, uptoOf, without, writeRow, writeOf, rowCount};
 ghost use Rattle.rows.specs.Rows.{moversOf, predecessorsOf, partnersOf, partnerRows, meetOf, stepRows, goalRows, joinRows, sameRows};
 
 // The count, 64 for one over 64.
@@ -191,8 +191,8 @@ pub fn largest(
 // ---- Entries
 
 // How many rows the entries have: nc where they are a section of nc by na pairs, of at most 64 by 64, and else none.
-fn section_rows(nc: usize, na: usize, entries: usize) -> usize
-    ensures { λ r. ⌜ r ≡ sectionRows nc na entries ⌝ }
+fn row_count(nc: usize, na: usize, entries: usize) -> usize
+    ensures { λ r. ⌜ r ≡ rowCount nc na entries ⌝ }
 {
     if 64 < nc {
         return 0;
@@ -222,7 +222,7 @@ pub fn upto(nc: usize, na: usize, part: &[u16], bound: u16) -> [u64; 64]
     ensures { λ r. ⌜ r ≡ uptoOf nc na (now (part .entry)) bound ⌝ }
 {
     let mut out = [0u64; 64];
-    let end = section_rows(nc, na, part.len());
+    let end = row_count(nc, na, part.len());
     for c in 0..end {
         let from = c * na;
         let to = from + na;
@@ -241,15 +241,15 @@ pub fn clear(part: &mut [u16])
 }
 
 // The states of x that are not in y.
-fn fresh(x: u64, y: u64) -> u64
+fn without(x: u64, y: u64) -> u64
     ensures { λ r. ⌜ r ≡ without x y ⌝ }
 {
     x ^ (x & y)
 }
 
 // Writes the entry v for each state of the row.
-fn stamp_row(row: u64, v: u16, part: &mut [u16])
-    ensures { λ _. ⌜ now (part .exit) ≡ stampRow row v (now (part .entry)) ⌝ }
+fn write_row(row: u64, v: u16, part: &mut [u16])
+    ensures { λ _. ⌜ now (part .exit) ≡ writeRow row v (now (part .entry)) ⌝ }
 {
     let mut left = row;
     while left != 0 {
@@ -263,13 +263,13 @@ fn stamp_row(row: u64, v: u16, part: &mut [u16])
 
 // Writes the entry v for each pair of x that is not in y; nothing where the entries are no section of nc by na, of at most
 // 64 by 64.
-pub fn stamp(nc: usize, na: usize, x: &[u64; 64], y: &[u64; 64], v: u16, part: &mut [u16])
-    ensures { λ _. ⌜ now (part .exit) ≡ stampOf nc na (now (x .entry)) (now (y .entry)) v (now (part .entry)) ⌝ }
+pub fn write_entry(nc: usize, na: usize, x: &[u64; 64], y: &[u64; 64], v: u16, part: &mut [u16])
+    ensures { λ _. ⌜ now (part .exit) ≡ writeOf nc na (now (x .entry)) (now (y .entry)) v (now (part .entry)) ⌝ }
 {
-    let end = section_rows(nc, na, part.len());
+    let end = row_count(nc, na, part.len());
     for c in 0..end {
         let from = c * na;
         let to = from + na;
-        stamp_row(fresh(x[c], y[c]), v, &mut part[from..to]);
+        write_row(without(x[c], y[c]), v, &mut part[from..to]);
     }
 }

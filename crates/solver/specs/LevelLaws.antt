@@ -24,7 +24,7 @@ use Rattle.theory.specs.GameLaws.{xOver-is, xOver-canonical, same-holds, level-
 use Rattle.theory.specs.TowerLaws.{tower-at}
 use Rattle.rows.specs.Rows.{rowsOf, pairsIn, joinRows, sameRows, stepRows, abstractPredecessors, stepsOf}
 use Rattle.rows.specs.SetRowsLaws.{mem-in, in-at, in-past, rows-same, set-back, no-rows}
-use Rattle.rows.specs.Entries.{uptoRows, stampRows}
+use Rattle.rows.specs.Entries.{uptoRows, writeRows}
 use Rattle.rows.specs.Largest.{Largest}
 use Rattle.solver.specs.Ranking.{Prepared, Holds, seenUpto, Bounded, RankedTo, AreRanks, LevelMade}
 use Rattle.solver.specs.XLaws.{HoldsMatched, largest-is}
@@ -74,7 +74,7 @@ module _ {p : Pair} {matched dependents predecessors goals : List ℕ} (m : Prep
 
     -- what the loop over due rows leaves is X(l + 1, k)
     pub x-is : {steps base start x : List ℕ} {bound : ℕ} (k : ℕ) → k < setsC p → steps ≡ stepRows (nC p) (p .concrete .successors) predecessors below
-        → base ≡ joinRows matched goals steps → bound ≡ l * setsC p + setsC p → start ≡ uptoRows (nC p) (nA p) first bound
+        → base ≡ joinRows matched goals steps → bound ≡ (l + 1) * setsC p → start ≡ uptoRows (nC p) (nA p) first bound
         → Largest (nC p) (p .concrete .successors) predecessors base (getD (p .concrete .fairness) k 0) start x → x ≡ rowsOf (X k)
     unfolding fairSet
     x-is {steps} {base} {start} {x} {bound} k hk et ebase ebound es q =
@@ -86,6 +86,9 @@ module _ {p : Pair} {matched dependents predecessors goals : List ℕ} (m : Prep
         below-is : pairsIn p below ≡ level p G l
         below-is = ap (pairsIn p) eb ∙ set-back p W (level p G l) (level-canonical p G l)
 
+        sized : bound ≡ l * setsC p + setsC p
+        sized = omega (arith, ebound)
+
         holds : HoldsMatched p start
         holds =
             let fits : suc l * setsC p ≤ pairs p * setsC p = mul-le-mul-right (setsC p) hl in
@@ -95,14 +98,14 @@ module _ {p : Pair} {matched dependents predecessors goals : List ℕ} (m : Prep
         made = rw (← base-is, ← m .predecessors-are) q
 
         inside : (c a : ℕ) → c < nC p → a < nA p → mem p (xOver p G (pairsIn p below) k) c a ≡ true → hasBit (getD start c 0) a ≡ true
-        inside c a hc ha t = rw (es, ebound) (start-holds p W G (h .only-matched) l k hl hk d c a hc ha (rw below-is at t))
+        inside c a hc ha t = rw (es, sized) (start-holds p W G (h .only-matched) l k hl hk d c a hc ha (rw below-is at t))
 
     tower-is : (k : ℕ) → k < setsC p → getD (tower p G) (l * setsC p + k) [] ≡ X k
     unfolding xSet
     tower-is k hk = tower-at p G l k hl hk
 
     pub made-turn : {seen part x : List ℕ} {v k : ℕ} → k < setsC p → x ≡ rowsOf (X k) → v ≡ l * setsC p + k + 1 → LevelMade p G first l k seen part
-        → LevelMade p G first l (k + 1) (joinRows matched x seen) (stampRows (nA p) x seen v part)
+        → LevelMade p G first l (k + 1) (joinRows matched x seen) (writeRows (nA p) x seen v part)
     made-turn {seen} {part} {x} {v} {k} hk ex ev q = record {
       seen-are = ap₂ (λ (M S : List ℕ). joinRows M S seen) (m .matched-are) ex ∙ ap (joinRows (matchedMasks p) (rowsOf (X k))) (q .seen-are)
           ∙ seen-more p W G (h .only-matched) (l * setsC p + k) (X k) (xOver-canonical p G (level p G l) k) (tower-is k hk) ∙ ap (λ (n : ℕ). rowsOf (seenUpto p G n)) next;
@@ -157,6 +160,6 @@ module _ {p : Pair} {matched dependents predecessors goals : List ℕ} (m : Prep
         (λ hc. sym (in-at p covered c hc))
         (λ n. ap (λ (R : List ℕ). getD R c 0) ec ∙ k .past c (omega arith) ∙ sym (in-past p covered c (omega arith))))
 
-    pub section-done : {y made T : List ℕ} → y ≡ rowsOf (levels p G) → RankedTo p G part (pairs p * setsC p) made → T ≡ stampRows (nA p) covered y blank made → AreRanks p G T
+    pub section-done : {y made T : List ℕ} → y ≡ rowsOf (levels p G) → RankedTo p G part (pairs p * setsC p) made → T ≡ writeRows (nA p) covered y blank made → AreRanks p G T
     section-done ey d eT = rw (eT, ey, covered-set) (ranked-done p W G (h .only-matched) b d (pairsIn p covered)
         (λ c a hc ha. mem-in p covered c a hc ∙ ap (λ (R : List ℕ). hasBit (getD R c 0) a) ec ∙ upto-bit p W part (blank - 1) c a hc ha))

@@ -32,9 +32,9 @@ use Rattle.theory.specs.TowerLaws.{x-is, level-x, x-level, tower-at}
 use Rattle.theory.specs.RankLaws.{Ranked, is-goal, is-placed, is-outside, ranked, goal-zero, rank-le, rank-bounded, level-rank, covered-levels}
 use Rattle.rows.specs.Rows.{rowsOf, joinRows}
 use Rattle.rows.specs.SetRowsLaws.{rows-at, join-is}
-use Rattle.rows.specs.Entries.{uptoRows, without, stampRows}
+use Rattle.rows.specs.Entries.{uptoRows, without, writeRows}
 use Rattle.solver.specs.Ranking.{rankOver, seenUpto, entryOf, Bounded, RankedTo, AreRanks}
-use Rattle.rows.specs.StampLaws.{has-without}
+use Rattle.rows.specs.WriteLaws.{has-without}
 use Rattle.solver.specs.XLaws.{HoldsMatched}
 
 swap : (a b c : Bool) → or a (or b c) ≡ or b (or a c)
@@ -55,10 +55,10 @@ module _ (p : Pair) (w : WellPair p) where
   index-lt : (c a : ℕ) → c < nC p → a < nA p → c * nA p + a < pairs p
   index-lt c a hc ha = digits-lt hc ha
 
-  pub stamped-at : (X S part : List ℕ) (v c a : ℕ) → length part ≡ pairs p → c < nC p → a < nA p
-      → entryOf p (stampRows (nA p) (rowsOf X) (rowsOf S) v part) c a ≡ cond (and (mem p X c a) (not (mem p S c a))) v (entryOf p part c a)
-  unfolding stampRows mem
-  stamped-at X S part v c a long hc ha =
+  pub written-at : (X S part : List ℕ) (v c a : ℕ) → length part ≡ pairs p → c < nC p → a < nA p
+      → entryOf p (writeRows (nA p) (rowsOf X) (rowsOf S) v part) c a ≡ cond (and (mem p X c a) (not (mem p S c a))) v (entryOf p part c a)
+  unfolding writeRows mem
+  written-at X S part v c a long hc ha =
       table-at (length part) (λ e. cond (hasBit (without (getD (rowsOf X) (e / nA p) 0) (getD (rowsOf S) (e / nA p) 0)) (e % nA p)) v (getD part e 0))
       (c * nA p + a) 0 (omega (arith, index-lt c a hc ha))
       ∙ rw (digits-div c ha, digits-mod c ha, rows-at X c wide, rows-at S c wide, has-without a (getD X c 0) (getD S c 0))
@@ -66,9 +66,9 @@ module _ (p : Pair) (w : WellPair p) where
       wide : c < 64
       wide = omega (arith, w .concrete .states-high)
 
-  pub stamped-long : (x y part : List ℕ) (v : ℕ) → length (stampRows (nA p) x y v part) ≡ length part
-  unfolding stampRows
-  stamped-long x y part v = table-length _ _
+  pub written-long : (x y part : List ℕ) (v : ℕ) → length (writeRows (nA p) x y v part) ≡ length part
+  unfolding writeRows
+  written-long x y part v = table-length _ _
 
   -- the pairs up to a bound
   upto-at : (part : List ℕ) (bound c : ℕ) → c < nC p → getD (uptoRows (nC p) (nA p) part bound) c 0 ≡ maskOf (nA p) (λ a. leb (entryOf p part c a) bound)
@@ -208,13 +208,13 @@ module _ (p : Pair) (w : WellPair p) where
     module _ {first part : List ℕ} {i : ℕ} (hi : i < pairs p * setsC p) (d : RankedTo p G first i part)
         (X : List ℕ) (e : getD (tower p G) i [] ≡ X) (m : (c a : ℕ) → c < nC p → a < nA p → mem p X c a ≡ true → matched p c a ≡ true) where
       abbrev Part : List ℕ
-      Part = stampRows (nA p) (rowsOf X) (rowsOf (seenUpto p G i)) (suc i) part
+      Part = writeRows (nA p) (rowsOf X) (rowsOf (seenUpto p G i)) (suc i) part
 
       abbrev New : ℕ → ℕ → Bool
       New c a = and (mem p X c a) (not (mem p (seenUpto p G i) c a))
 
       at : (c a : ℕ) → c < nC p → a < nA p → entryOf p Part c a ≡ cond (New c a) (suc i) (entryOf p part c a)
-      at c a hc ha = stamped-at X (seenUpto p G i) part (suc i) c a (d .bounded .long) hc ha
+      at c a hc ha = written-at X (seenUpto p G i) part (suc i) c a (d .bounded .long) hc ha
 
       new : (c a : ℕ) → c < nC p → a < nA p → New c a ≡ true → (entryOf p Part c a ≡ suc i) × (rankOver p G c a ≡ suc i)
       unfolding seenUpto
@@ -252,7 +252,7 @@ module _ (p : Pair) (w : WellPair p) where
       pub ranked-more : RankedTo p G first (suc i) Part
       ranked-more = record {
         bounded = record {
-          long = stamped-long _ _ part (suc i) ∙ d .bounded .long;
+          long = written-long _ _ part (suc i) ∙ d .bounded .long;
           low = λ c a hc ha. cases c a hc ha (λ r. r ≤ rankOver p G c a) (λ n. omega (arith, n)) (d .bounded .low c a hc ha);
           unmatched = λ c a hc ha u. old c a hc ha (and-false-l _ (refute _ (λ v. clash u (m c a hc ha v)))) ∙ d .bounded .unmatched c a hc ha u;
         };
@@ -315,8 +315,8 @@ module _ (p : Pair) (w : WellPair p) where
     -- ---- what is outside the levels is made blank
     module _ {first part : List ℕ} (b : Bounded p G first) (d : RankedTo p G first (pairs p * setsC p) part) (C : List ℕ)
         (covers : (c a : ℕ) → c < nC p → a < nA p → mem p C c a ≡ leb (entryOf p first c a) (blank - 1)) where
-      pub ranked-done : AreRanks p G (stampRows (nA p) (rowsOf C) (rowsOf (levels p G)) blank part)
-      ranked-done = record { long = stamped-long _ _ part blank ∙ d .bounded .long; ranks = λ c a hc ha. stamped-at C (levels p G) part blank c a (d .bounded .long) hc ha ∙ value c a hc ha }
+      pub ranked-done : AreRanks p G (writeRows (nA p) (rowsOf C) (rowsOf (levels p G)) blank part)
+      ranked-done = record { long = written-long _ _ part blank ∙ d .bounded .long; ranks = λ c a hc ha. written-at C (levels p G) part blank c a (d .bounded .long) hc ha ∙ value c a hc ha }
         where
           value : (c a : ℕ) → c < nC p → a < nA p → cond (and (mem p C c a) (not (mem p (levels p G) c a))) blank (entryOf p part c a) ≡ rankOver p G c a
           value c a hc ha = ⊎-elim kept (λ t. ⊎-elim (made t) (left t) (dec (mem p C c a))) (dec (mem p (levels p G) c a))

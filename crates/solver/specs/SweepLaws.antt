@@ -43,11 +43,11 @@ use Rattle.theory.specs.FamilyLaws.{WithinF, tabled, goals-mono, family-is, fam
 use Rattle.theory.specs.RankLaws.{table-rank, table-entries}
 use Rattle.rows.specs.Rows.{rowsOf, pairsIn, sameRows, goalRows, stepRows, abstractPredecessors}
 use Rattle.rows.specs.SetRowsLaws.{rows-same, set-back, matched-rows, goals-is}
-use Rattle.rows.specs.Entries.{uptoRows, without, stampRows}
+use Rattle.rows.specs.Entries.{uptoRows, without, writeRows}
 use Rattle.solver.specs.Ranking.{rankOver, entryOf, Holds, Bounded, AreRanks}
 use Rattle.solver.specs.Sweeps.{partOf, coveredFamily, goalsIn, Begun, Renewable, Renewed, Sweeping}
 use Rattle.rows.specs.LargestLaws.{wider}
-use Rattle.rows.specs.StampLaws.{has-without, patch, patch-length, patch-before, patch-in, patch-after, cut-long}
+use Rattle.rows.specs.WriteLaws.{has-without, patch, patch-length, patch-before, patch-in, patch-after, cut-long}
 use Rattle.solver.specs.XLaws.{holds-set, holds-rows}
 use Rattle.solver.specs.RankRowsLaws.{upto-bit, upto-holds, rank-top, outside-blank, levels-ranked, places-small, levels-covered, ranks-rise}
 
@@ -56,9 +56,9 @@ unfolding withBit
 with-small m s h l = rw (lt-ltb s 64 h) (or-lt 64 m (2 ^ s) l (pow-lt h))
 
 -- ---- the first entries of a section
-pub first-at : (P nA : ℕ) (matched : List ℕ) {ys : List ℕ} → ys ≡ stampRows nA matched (replicate 64 0) 0 (table P (λ e. blank))
+pub first-at : (P nA : ℕ) (matched : List ℕ) {ys : List ℕ} → ys ≡ writeRows nA matched (replicate 64 0) 0 (table P (λ e. blank))
     → (length ys ≡ P) × ((e : ℕ) → e < P → getD ys e 0 ≡ cond (hasBit (getD matched (e / nA) 0) (e % nA)) 0 blank)
-unfolding stampRows
+unfolding writeRows
 first-at P nA matched {ys} ey = (
   ap length ey ∙ table-length _ _ ∙ table-length P _,
   λ e h.
@@ -76,7 +76,7 @@ module _ {P nA : ℕ} {matched first : List ℕ} where
   begun-start = record { long = refl; begun = λ i e h. absurd (omega arith); rest = λ e h. refl }
 
   pub begun-turn : {l ys : List ℕ} {j a k : ℕ} → j * P + P ≤ length first → a ≡ j * P → k ≡ P
-      → ys ≡ stampRows nA matched (replicate 64 0) 0 (table P (λ e. blank)) → Begun P nA matched first j l → Begun P nA matched first (j + 1) (patch l a ys k)
+      → ys ≡ writeRows nA matched (replicate 64 0) 0 (table P (λ e. blank)) → Begun P nA matched first j l → Begun P nA matched first (j + 1) (patch l a ys k)
   begun-turn {l} {ys} {j} {a} {k} room ea ek ey d = record {
     long = patch-length l ys a k fits long ∙ d .long;
     begun = λ i e hi he. by-cases (ℕ-discrete i j)
@@ -161,7 +161,7 @@ module _ (p : Pair) (w : WellPair p) where
       outside-blank p w G q c a hc ha (refute _ (λ t. clash m (of-allMatched p c a hc ha (levels-matched p G c a hc ha t))))
 
   -- a section's first entries bound the ranks over any goals, and cover the matched pairs
-  module _ {masks ys : List ℕ} (em : masks ≡ matchedMasks p) (ey : ys ≡ stampRows (nA p) masks (replicate 64 0) 0 (table (pairs p) (λ e. blank))) where
+  module _ {masks ys : List ℕ} (em : masks ≡ matchedMasks p) (ey : ys ≡ writeRows (nA p) masks (replicate 64 0) 0 (table (pairs p) (λ e. blank))) where
     first-entry : (c a : ℕ) → c < nC p → a < nA p → entryOf p ys c a ≡ cond (matched p c a) 0 blank
     first-entry c a hc ha =
         first-at (pairs p) (nA p) masks ey .1 (c * nA p + a) (digits-lt hc ha)

@@ -17,7 +17,7 @@ ghost use Rattle.machine.specs.Observed.{matchedMasks};
 ghost use Rattle.machine.specs.WellFormed.{wellFormed};
 ghost use Rattle.machine.specs.Game.{level, levels, turn};
 ghost use Rattle.rows.specs.Rows.{rowsOf, pairsIn, stepRows, goalRows};
-ghost use Rattle.rows.specs.Entries.{uptoRows, stampRows};
+ghost use Rattle.rows.specs.Entries.{uptoRows, writeRows};
 ghost use Rattle.solver.specs.Families.{flatOf, sectionOf, familyIn, putSection};
 ghost use Rattle.solver.specs.Ranking.{Prepared, Holds, Bounded, RankedTo, AreRanks};
 ghost use Rattle.solver.specs.Sweeps.{Begun, Renewable, Renewed, Sweeping};
@@ -30,11 +30,11 @@ use machine::Validity;
 // The entries that a section begins with: 0 for matched pairs, which no rank is below, and blank for all others.
 fn first_entries(nc: usize, na: usize, matched: &[u64; 64], part: &mut [u16])
     requires { ⌜ ((nc ≤ 64) × (na ≤ 64)) × (length (now part) ≡ nc * na) ⌝ }
-    ensures { λ _. ⌜ now (part .exit) ≡ stampRows na (now (matched .entry)) (replicate 64 0) 0 (table (nc * na) (λ e. blank)) ⌝ }
+    ensures { λ _. ⌜ now (part .exit) ≡ writeRows na (now (matched .entry)) (replicate 64 0) 0 (table (nc * na) (λ e. blank)) ⌝ }
 {
     let none = [0u64; 64];
     rows::clear(part);
-    rows::stamp(nc, na, matched, &none, 0, part);
+    rows::write_entry(nc, na, matched, &none, 0, part);
 }
 
 // ---- Levels
@@ -47,12 +47,12 @@ fn rank_of(m: usize, l: usize, k: usize) -> u16
     (l * m + k + 1) as u16
 }
 
-// The greatest rank of level l + 1, with l from 0.
+// The greatest rank of level l.
 fn level_bound(m: usize, l: usize) -> u16
-    requires { ⌜ (m ≤ 8) × (l < 4096) ⌝ }
-    ensures { λ r. ⌜ r ≡ l * m + m ⌝ }
+    requires { ⌜ (m ≤ 8) × (l ≤ 4096) ⌝ }
+    ensures { λ r. ⌜ r ≡ l * m ⌝ }
 {
-    (l * m + m) as u16
+    (l * m) as u16
 }
 
 // Level l + 1 from level l, with its rank for each pair that X(l + 1, k) has and no set before it. Each X starts from the pairs whose entry is
@@ -77,7 +77,7 @@ fn level(
     let moves = concrete.successors;
     let steps = rows::step_rows(nc, &moves, predecessors, below);
     let base = rows::join_rows(matched, goals, &steps);
-    let bound = level_bound(m, l);
+    let bound = level_bound(m, l + 1);
     let start = rows::upto(nc, abstraction.states, part, bound);
     let reached = rows::partner_rows(nc, predecessors, &start);
     let mut seen = rows::join_rows(matched, goals, below);
@@ -94,7 +94,7 @@ fn level(
             &reached,
         );
         let v = rank_of(m, l, k);
-        rows::stamp(nc, abstraction.states, &x, &seen, v, part);
+        rows::write_entry(nc, abstraction.states, &x, &seen, v, part);
         seen = rows::join_rows(matched, &x, &seen);
     }
     seen
@@ -167,7 +167,7 @@ fn section(
     let nc = concrete.states;
     let na = abstraction.states;
     let y = levels(p, matched, dependents, predecessors, goals, part);
-    rows::stamp(nc, na, covered, &y, machine::BLANK, part);
+    rows::write_entry(nc, na, covered, &y, machine::BLANK, part);
     y
 }
 
@@ -274,7 +274,7 @@ fn rank_all(p: Pair, table: &mut [u16])
     let na = abstraction.states;
     let concrete_moves = concrete.successors;
     let abstract_moves = abstraction.successors;
-    let matched = step::matched_masks(p);
+    let matched = machine::matched_masks(p);
     let dependents = rows::predecessors(nc, &concrete_moves);
     let predecessors = rows::predecessors(na, &abstract_moves);
     first_table(p, &matched, table);
@@ -289,7 +289,7 @@ pub fn solve(p: Pair, table: &mut [u16]) -> Validity
     if table.len() < machine::TABLE_ROOM {
         return Validity::Refused(machine::refuse(machine::SHORT_BUFFER, 0, 0, 0));
     }
-    let validity = machine::pair_validity(p);
+    let validity = validity::pair_validity(p);
     match validity {
         Validity::Refused(r) => Validity::Refused(r),
         Validity::Valid => {
@@ -343,7 +343,8 @@ fn afresh(
     section(p, matched, dependents, predecessors, goals, matched, part)
 }
 
-// A turn: every section's set afresh from a family of any content. `part` is room for one section's entries; those of the last section stay in it.
+// A turn: every section's set afresh from a family of any content. `part` is room for one section's entries; what it holds in
+// the end is left open.
 fn turn(
     p: Pair,
     matched: &[u64; 64],

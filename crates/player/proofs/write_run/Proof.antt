@@ -19,11 +19,11 @@ use Rattle.player.proofs.write_run.Statement.{statement}
 use Rattle.player.proofs.write_run.Tie as tie
 
 abbrev Inv-loop : tie.InvT-loop
-Inv-loop p matched table stem cycle first run₀ start turn marks₀ place₀ t₀ run marks place t =
+Inv-loop p matched table stem cycle first run₀ start period marks₀ place₀ t₀ run marks place t =
     Playing p table (given stem cycle) run₀ run marks place t
 
 abbrev μ-loop : tie.MeasureT-loop
-μ-loop p matched table stem cycle first run₀ start turn marks₀ place₀ t₀ run marks place t = runRoom - t
+μ-loop p matched table stem cycle first run₀ start period marks₀ place₀ t₀ run marks place t = runRoom - t
 
 new-requires : tie.Need-new-requires Inv-loop μ-loop
 new-requires c κs = search needs

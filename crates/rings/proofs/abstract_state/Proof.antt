@@ -8,11 +8,11 @@ use Rattle.rings.proofs.abstract_state.Tie as tie
 cast-second : tie.Need-cast-second
 cast-second c = search needs
 
-cast-end : tie.Need-cast-end
-cast-end c = search needs
+cast-after : tie.Need-cast-after
+cast-after c = search needs
 
-add-end : tie.Need-add-end
-add-end c = search needs
+add-after : tie.Need-add-after
+add-after c = search needs
 
 add-pick : tie.Need-add-pick
 add-pick c = search needs
@@ -79,8 +79,8 @@ abstract-state-spec =
     tie.close
     (tie.spec
     cast-second
-    cast-end
-    add-end
+    cast-after
+    add-after
     add-pick
     add-pick-2
     pick-requires

@@ -8,22 +8,22 @@ use borrow.Author.Needs.{needs}
 use Rattle.mask.specs.Tables.{maskOf, front}
 use Rattle.mask.specs.FrontLaws.{front-none, front-turn}
 use Rattle.rows.specs.RowsLaws.{front-rows}
-use Rattle.rows.specs.Entries.{uptoRows, uptoOf, sectionRows}
-use Rattle.rows.specs.StampLaws.{row-fits, row-part, cut-long, section-some, section-few}
+use Rattle.rows.specs.Entries.{uptoRows, uptoOf, rowCount}
+use Rattle.rows.specs.WriteLaws.{row-fits, row-part, cut-long, section-some, section-few}
 use Rattle.rows.proofs.upto.Statement.{statement}
 use Rattle.rows.proofs.upto.Tie as tie
 
 abbrev Inv-loop : tie.InvT-loop
-Inv-loop nc na part bound out₀ end c₀ out c = (c ≤ end) × (end ≡ sectionRows nc na (length part)) × (out ≡ front c (λ k. maskOf na (λ a. leb (getD part (k * na + a) 0) bound)) (replicate 64 0))
+Inv-loop nc na part bound out₀ end c₀ out c = (c ≤ end) × (end ≡ rowCount nc na (length part)) × (out ≡ front c (λ k. maskOf na (λ a. leb (getD part (k * na + a) 0) bound)) (replicate 64 0))
 
 abbrev μ-loop : tie.MeasureT-loop
 μ-loop nc na part bound out₀ end c₀ out c = end - c
 
-section-rows-requires : tie.Need-section-rows-requires Inv-loop μ-loop
-section-rows-requires c κs = search needs
+row-count-requires : tie.Need-row-count-requires Inv-loop μ-loop
+row-count-requires c κs = search needs
 
 loop-holds : tie.Need-loop-holds Inv-loop μ-loop
-loop-holds c = (omega arith, c .section-rows .ensures, front-none _ _)
+loop-holds c = (omega arith, c .row-count .ensures, front-none _ _)
 
 abbrev entry : tie.At-loop Inv-loop μ-loop → tie.Start Inv-loop μ-loop
 entry c = c .before .before .before
@@ -104,7 +104,7 @@ upto-spec =
     (tie.spec
     Inv-loop
     μ-loop
-    section-rows-requires
+    row-count-requires
     loop-holds
     mul-from
     add-to

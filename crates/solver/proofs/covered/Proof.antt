@@ -5,7 +5,7 @@ use native.Mathlib.Omega.{arith}
 use lib.ListN.{take, drop}
 use borrow.Author.Needs.{needs}
 use Rattle.rows.specs.Entries.{uptoRows}
-use Rattle.rows.specs.StampLaws.{upto-is, cut-long}
+use Rattle.rows.specs.WriteLaws.{upto-is, cut-long}
 use Rattle.solver.proofs.covered.Statement.{statement}
 use Rattle.solver.proofs.covered.Tie as tie
 

@@ -7,7 +7,7 @@ use Rattle.machine.specs.Machines.{pairs}
 use Rattle.machine.specs.Table.{tableRoom}
 use Rattle.machine.specs.WellFormedLaws.{WellPair, well-pair, pairs-small, section-fits}
 use Rattle.solver.specs.Sweeps.{Begun}
-use Rattle.rows.specs.StampLaws.{cut-long}
+use Rattle.rows.specs.WriteLaws.{cut-long}
 use Rattle.solver.specs.SweepLaws.{begun-start, begun-turn}
 use Rattle.solver.proofs.first_table.Statement.{statement}
 use Rattle.solver.proofs.first_table.Tie as tie

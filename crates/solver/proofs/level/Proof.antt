@@ -10,7 +10,7 @@ use Rattle.machine.specs.Game.{level, xOver}
 use Rattle.machine.specs.WellFormedLaws.{WellPair, well-pair, pairs-small}
 use Rattle.rows.specs.Rows.{rowsOf, pairsIn}
 use Rattle.rows.specs.Entries.{uptoRows}
-use Rattle.rows.specs.StampLaws.{upto-is, upto-long, stamp-is}
+use Rattle.rows.specs.WriteLaws.{upto-is, upto-long, write-entry-is}
 use Rattle.solver.specs.Ranking.{LevelMade}
 use Rattle.solver.specs.LevelLaws.{made-start, made-turn, made-done, x-is}
 use Rattle.solver.proofs.level.Statement.{statement}
@@ -44,8 +44,11 @@ step-rows-requires c κs = search needs
 join-rows-requires : tie.Need-join-rows-requires Inv-loop μ-loop
 join-rows-requires c κs = search needs
 
+add-level-bound : tie.Need-add-level-bound Inv-loop μ-loop
+add-level-bound c = omega (arith, few (c .before .before .before .before .before .before .before .before))
+
 level-bound-requires : tie.Need-level-bound-requires Inv-loop μ-loop
-level-bound-requires c κs = let s = c .before .before .before .before .before .before .before .before in (well s .concrete .sets-high, few s)
+level-bound-requires c κs = let s = c .before .before .before .before .before .before .before .before in (well s .concrete .sets-high, omega (arith, few s))
 
 upto-requires : tie.Need-upto-requires Inv-loop μ-loop
 upto-requires c κs = search needs
@@ -98,8 +101,8 @@ rank-of-requires c κs =
     let k = c .before .before .before .before .before .before .loop-test .taken in
     (well s .concrete .sets-high, (omega (arith, few s, k, well s .concrete .sets-high), omega (arith, few s, k, well s .concrete .sets-high)))
 
-stamp-requires : tie.Need-stamp-requires Inv-loop μ-loop
-stamp-requires c κs = search needs
+write-entry-requires : tie.Need-write-entry-requires Inv-loop μ-loop
+write-entry-requires c κs = search needs
 
 join-rows-requires-3 : tie.Need-join-rows-requires-3 Inv-loop μ-loop
 join-rows-requires-3 c κs = search needs
@@ -117,7 +120,7 @@ loop-again c =
     let s = entry h in
     let w = well s in (
       omega (arith, x .before .before .before .before .before .before .loop-test .taken),
-      rw (c .join-rows3 .ensures, c .before .before .before .before .before .stamp .ensures, stamp-is _ _ _ _ _ _ (w .concrete .states-high) (w .abstraction .states-high) (h .loop .inv .1 .ranked .bounded .long)) (made-turn (s .pre .0 .0) (s .pre .0 .1) (s .pre .1 .0) (s .pre .1 .1 .0) (s .pre .1 .1 .1) (x .before .before .before .before .before .before .loop-test .taken) (made x) (c .before .before .before .before .before .before .before .before .before .rank-of .ensures) (h .loop .inv .1)),
+      rw (c .join-rows3 .ensures, c .before .before .before .before .before .write-entry .ensures, write-entry-is _ _ _ _ _ _ (w .concrete .states-high) (w .abstraction .states-high) (h .loop .inv .1 .ranked .bounded .long)) (made-turn (s .pre .0 .0) (s .pre .0 .1) (s .pre .1 .0) (s .pre .1 .1 .0) (s .pre .1 .1 .1) (x .before .before .before .before .before .before .loop-test .taken) (made x) (c .before .before .before .before .before .before .before .before .before .rank-of .ensures) (h .loop .inv .1)),
     )
 
 same-length : tie.Need-same-length Inv-loop μ-loop
@@ -137,6 +140,7 @@ level-spec =
     μ-loop
     step-rows-requires
     join-rows-requires
+    add-level-bound
     level-bound-requires
     upto-requires
     partner-rows-requires
@@ -146,7 +150,7 @@ level-spec =
     array-read-largest
     largest-requires
     rank-of-requires
-    stamp-requires
+    write-entry-requires
     join-rows-requires-3
     add-k
     loop-less

@@ -2,7 +2,7 @@
 use mathlib.Core.Path.{sym, _∙_}
 use borrow.Author.Needs.{needs}
 use Rattle.machine.specs.WellFormedLaws.{WellPair, well-pair}
-use Rattle.rows.specs.StampLaws.{stamp-is}
+use Rattle.rows.specs.WriteLaws.{write-entry-is}
 use Rattle.solver.specs.LevelLaws.{section-done}
 use Rattle.solver.proofs.section.Statement.{statement}
 use Rattle.solver.proofs.section.Tie as tie
@@ -13,8 +13,8 @@ well c = well-pair (c .args .p) (c .pre .0 .0 .well)
 levels-requires : tie.Need-levels-requires
 levels-requires c κs = let s = c .before .before .before .before in (s .pre .0, s .pre .1 .0)
 
-stamp-requires : tie.Need-stamp-requires
-stamp-requires c κs = search needs
+write-entry-requires : tie.Need-write-entry-requires
+write-entry-requires c κs = search needs
 
 ranked : tie.Need-returns
 ranked c =
@@ -23,7 +23,7 @@ ranked c =
     let l = c .before .before .before .before .before .before .before .levels .ensures in (
       l .0,
       section-done (s .pre .0 .0) (s .pre .0 .1) (s .pre .1 .0) (s .pre .1 .1) (l .0) (l .1)
-          (c .before .before .stamp .ensures ∙ stamp-is _ _ _ _ _ _ (w .concrete .states-high) (w .abstraction .states-high) (l .1 .bounded .long)),
+          (c .before .before .write-entry .ensures ∙ write-entry-is _ _ _ _ _ _ (w .concrete .states-high) (w .abstraction .states-high) (l .1 .bounded .long)),
     )
 
 same-length : tie.Need-same-length
@@ -33,4 +33,4 @@ returns : tie.Need-returns
 returns = ranked
 
 pub section-spec : {M : Type 1} → statement M
-section-spec = tie.close (tie.spec levels-requires stamp-requires same-length returns)
+section-spec = tie.close (tie.spec levels-requires write-entry-requires same-length returns)
