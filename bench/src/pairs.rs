@@ -219,7 +219,7 @@ fn concrete_rings(r: Lengths, sets: usize) -> Machine {
     c
 }
 
-// the two rings, then a state that leads to the universal one, the universal state, which can follow every state, one with observation 1 and one
+// the two rings, then a state that leads to the universal one, the universal state, which has an answer to every move, one with observation 1 and one
 // with observation 2; the rings' first states lack observation 1
 fn abstract_rings(r: Lengths, states: usize, sets: usize) -> Machine {
     let mut a = machine_of(states, sets);

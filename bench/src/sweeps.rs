@@ -63,7 +63,7 @@ impl Game<'_> {
     }
 
     // writes an entry for the pairs of x that are not in y
-    fn stamp(&self, x: &Set, y: &Set, entry: u16, section: &mut [u16]) {
+    fn write_entry(&self, x: &Set, y: &Set, entry: u16, section: &mut [u16]) {
         for c in 0..self.c.states {
             for u in bits(x[c] & !y[c]) {
                 section[c * self.a.states + u] = entry;
@@ -103,7 +103,7 @@ impl Game<'_> {
             let start_rows = self.partner_rows(&start);
             for k in 0..m {
                 let x = self.largest(&base, self.c.fairness[k], &start, &start_rows);
-                self.stamp(&x, &seen, (l * m + k + 1) as u16, section);
+                self.write_entry(&x, &seen, (l * m + k + 1) as u16, section);
                 for c in 0..nc {
                     seen[c] |= x[c];
                 }
@@ -113,7 +113,7 @@ impl Game<'_> {
             }
             level = seen;
         }
-        self.stamp(&before, &level, BLANK, section);
+        self.write_entry(&before, &level, BLANK, section);
         before != level
     }
 }

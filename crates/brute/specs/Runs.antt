@@ -1,11 +1,7 @@
 -- Lassos and runs as the plain reading meets them.
 use Rattle.machine.specs.Player as Told
-use mathlib.Core.List.{List}
-use Prim.Native.Nat.{ℕ}
-use Rattle.machine.specs.declared.Pair.{Pair}
-use Rattle.machine.specs.Lassos.{Lasso}
-use Rattle.machine.specs.Player.{Place, playValidity, stemLength, loopLength}
-use Rattle.machine.specs.Refusals.{Result, answer, refused, andThen}
+use Rattle.machine.specs.Player.{Place}
+use Rattle.machine.specs.Refusals.{Result, answer, refused}
 use Rattle.brute.specs.declared.runs.Spot.{Spot}
 use Rattle.brute.specs.declared.runs.Played.{Played}
 use Rattle.brute.specs.declared.runs.Played.the-variants.{Run, Refused}

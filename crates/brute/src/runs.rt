@@ -9,7 +9,7 @@ ghost use Rattle.mask.specs.Bounded.{every, first};
 ghost use Rattle.mask.specs.Logic.{and};
 ghost use Rattle.machine.specs.Machines.{setsA};
 ghost use Rattle.machine.specs.WellFormed.{wellFormed};
-ghost use Rattle.machine.specs.Step.{partner, stateOf};
+ghost use Rattle.machine.specs.Step.{partner};
 ghost use Rattle.machine.specs.Table.{entry};
 ghost use Rattle.machine.specs.Lines.{nonBlank};
 ghost use Rattle.machine.specs.Player.{sectionAfter, stepTo, placeAt, samePlace, lastRound, playAnswer};

@@ -22,8 +22,8 @@ use Rattle.machine.specs.ObservedLaws.{has-matched-at}
 use Rattle.machine.specs.WellFormedLaws.{WellPair, bits-small}
 use Rattle.machine.specs.Ranks.{levelOf, setOf}
 use Rattle.machine.specs.Step.{steps, partner, inRow, found}
-use Rattle.machine.specs.Table.{blank, entryIndex, placeOf, entry}
-use Rattle.machine.specs.RowLaws.{row-found, place-is}
+use Rattle.machine.specs.Table.{blank, tableRoom, entryIndex, placeOf, entry}
+use Rattle.machine.specs.RowLaws.{row-found, row-room, place-is}
 use Rattle.machine.specs.Lines.{atMost, rankLine, passes}
 use Rattle.machine.specs.LinesLaws.{goal-bound, inside-bound, outside-bound, passes-covered, blank-passes}
 use Rattle.linecheck.specs.declared.Line.{Line}
@@ -90,6 +90,16 @@ pub place-at : (p : Pair) → WellPair p → (r j c a : ℕ) → r ≡ placeOf (
 place-at p w r j c a e hj hc ha =
     e ∙ place-is (nC p) (nA p) j c a (omega (arith, w .concrete .states-high)) (omega (arith, w .abstraction .states-high)) (omega arith)
     (omega (arith, w .concrete .states-high)) (omega arith)
+
+-- the row of any section that starts there lies within the table
+pub row-fits : (p : Pair) → WellPair p → (r j c room : ℕ) → r ≡ placeOf (nC p) (nA p) j c 0 → j < 7 → c < nC p → tableRoom ≤ room → r + nA p ≤ room
+row-fits p w r j c room e hj hc h =
+    omega (
+      arith,
+      place-at p w r j c 0 e hj hc (omega arith),
+      h,
+      row-room (nC p) (nA p) j c hj (w .concrete .states-high) (w .abstraction .states-high) hc,
+    )
 
 -- a successor mask of the concrete machine has no state at or past nC
 pub moves-small : (p : Pair) → WellPair p → (c : ℕ) → c < nC p → getD (p .concrete .successors) c 0 < 2 ^ 64 → getD (p .concrete .successors) c 0 < 2 ^ nC p

@@ -1,5 +1,5 @@
 // Pairs that take a solver by iteration long, from a few numbers. A concrete machine has two rings and two ends; an abstract one has two rings,
-// then a state that leads to the universal one, the universal state, which can follow every state, two ends, and in the second family, where plays
+// then a state that leads to the universal one, the universal state, which has an answer to every move, two ends, and in the second family, where plays
 // go back from an end, three more.
 // The pairs of a concrete and an abstract ring of coprime lengths make one chain, each leading to the next. Of the first rings' chain a turn
 // loses one pair. Of the concrete first and the abstract second ring's a round of X(l, k) loses one; in the second family it is covered, one

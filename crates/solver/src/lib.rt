@@ -47,7 +47,7 @@ fn rank_of(m: usize, l: usize, k: usize) -> u16
     (l * m + k + 1) as u16
 }
 
-// The greatest rank of level l.
+// The greatest rank that a pair of level l can have; 0 of level 0, which is empty.
 fn level_bound(m: usize, l: usize) -> u16
     requires { ⌜ (m ≤ 8) × (l ≤ 4096) ⌝ }
     ensures { λ r. ⌜ r ≡ l * m ⌝ }
@@ -289,8 +289,8 @@ pub fn solve(p: Pair, table: &mut [u16]) -> Validity
     if table.len() < machine::TABLE_ROOM {
         return Validity::Refused(machine::refuse(machine::SHORT_BUFFER, 0, 0, 0));
     }
-    let validity = validity::pair_validity(p);
-    match validity {
+    let valid = validity::pair_validity(p);
+    match valid {
         Validity::Refused(r) => Validity::Refused(r),
         Validity::Valid => {
             rank_all(p, table);

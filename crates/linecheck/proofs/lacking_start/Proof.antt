@@ -8,13 +8,12 @@ use lib.ListN.{length, getD}
 use borrow.Author.Count.{below-more, below-none}
 use borrow.Author.Needs.{needs}
 use borrow.Author.Tests.{not-true, not-false}
-use Rattle.machine.specs.Machines.{starts, nC, nA}
+use Rattle.machine.specs.Machines.{starts}
 use Rattle.machine.specs.WellFormedLaws.{WellPair, well-pair}
-use Rattle.machine.specs.Table.{blank, entryIndex}
-use Rattle.machine.specs.RowLaws.{row-room}
+use Rattle.machine.specs.Table.{blank}
 use Rattle.machine.specs.Verdict.{startCovered}
 use Rattle.machine.specs.VerdictLaws.{lacks, lacks-not, lacks-covered, lacks-is, lacking-is, lacking-none}
-use Rattle.linecheck.specs.BoundsLaws.{asPair, place-at}
+use Rattle.linecheck.specs.BoundsLaws.{asPair, place-at, row-fits}
 use Rattle.linecheck.specs.StartsLaws.{start-found}
 use Rattle.linecheck.proofs.lacking_start.Statement.{statement}
 use Rattle.linecheck.proofs.lacking_start.Tie as tie
@@ -34,30 +33,15 @@ well c = well-pair (top c .args .p) (top c .pre .0)
 small : (c : tie.At-loop Inv-loop μ-loop) (i : ℕ) → getD (top c .args .table .now) i 0 ≤ blank
 small c i = omega (arith, c .before .before .before .shared-slice-known .given i)
 
--- the row of section 1 beside c
-from : (c : tie.After-entry-index Inv-loop μ-loop)
-    → let l = c .before .before .before .before in
-    let p = top l .args .p in
-    c .entry-index .result ≡ entryIndex (nC p) (nA p) 0 (l .loop .c) 0
-from c =
-    let l = c .before .before .before .before in
-    place-at (top l .args .p) (well l) _ 0 (l .loop .c) 0 (c .entry-index .ensures) (omega arith) (omega arith) (omega arith)
-
--- lies within the table
+-- the row lies within the table
 room : (c : tie.After-entry-index Inv-loop μ-loop)
     → let x = top (c .before .before .before .before) .args in
     c .entry-index .result + x .p .abstraction .states ≤ length (x .table .now)
 room c =
     let l = c .before .before .before .before in
-    let p = top l .args .p in
-    let w = well l in
-    omega (
-      arith,
-      from c,
-      top l .pre .1,
-      row-room (p .concrete .states) (p .abstraction .states) 0 (l .loop .c) (omega arith) (w .concrete .states-high) (w .abstraction .states-high) (omega arith),
-    )
+    row-fits (top l .args .p) (well l) _ _ (l .loop .c) _ (c .entry-index .ensures) (omega arith) (omega arith) (top l .pre .1)
 
+-- it is that of section 1 beside c
 covered : (c : tie.After-has-partner Inv-loop μ-loop)
     → let l = c .before .before .before .before .before .before in
     c .has-partner .result ≡ startCovered (top l .args .p) (top l .args .table .now) (l .loop .c)
@@ -66,7 +50,8 @@ covered c =
     let l = i .before .before .before .before in
     let x = top l .args in
     c .has-partner .ensures
-    ∙ start-found (x .p) (x .table .now) (well l) (small l) (l .loop .c) (i .entry-index .result) (i .entry-index .result + x .p .abstraction .states) (from i) refl (room i) _
+    ∙ start-found (x .p) (x .table .now) (well l) (small l) (l .loop .c) (i .entry-index .result) (i .entry-index .result + x .p .abstraction .states)
+    (place-at (x .p) (well l) _ 0 (l .loop .c) 0 (i .entry-index .ensures) (omega arith) (omega arith) (omega arith)) refl (room i) _
 
 loop-holds : tie.Need-loop-holds Inv-loop μ-loop
 loop-holds c = (search needs, below-none _)

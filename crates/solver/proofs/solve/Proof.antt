@@ -23,8 +23,8 @@ returns c =
 pair-validity-requires : tie.Need-pair-validity-requires
 pair-validity-requires c κs = search needs
 
-enum-known-validity : tie.Need-enum-known-validity
-enum-known-validity c = search needs
+enum-known-valid : tie.Need-enum-known-valid
+enum-known-valid c = search needs
 
 enum-told : tie.Need-enum-told
 enum-told c = search needs
@@ -39,7 +39,7 @@ unfolding testedOf
 returns-2 c =
     let v = c .before .before .before in
     let s = v .before .before .before .args in
-    let e = solve-long (s .p) (length (s .table .now)) (v .before .if1 .left) ∙ tested-refused (v .pair-validity .ensures) (c .before .validity .given .1) in
+    let e = solve-long (s .p) (length (s .table .now)) (v .before .if1 .left) ∙ tested-refused (v .pair-validity .ensures) (c .before .valid .given .1) in
     (sym e, solved-refused (s .p) (s .table .now) _ e)
 
 same-length : tie.Need-same-length
@@ -61,7 +61,7 @@ solve-spec =
     refuse-requires
     returns
     pair-validity-requires
-    enum-known-validity
+    enum-known-valid
     enum-told
     rank-all-requires
     returns-2
