@@ -53,11 +53,11 @@ seal() {
     byte 511 $((sum / 256))
 }
 
-# the shelf examples, a large show, and shows without a table
+# the shelf examples, a large show, shows with a hidden mask, and shows without a table
 for n in 01 03 05 06 10 12; do expect 100 "samples/case-$n.dom"; done
 for n in 02 04 09 11; do expect 200 "samples/case-$n.dom"; done
 for n in 07 08; do expect 12 "samples/case-$n.dom"; done
-expect 100 samples/large.dom
+for name in large lamp choice; do expect 100 "samples/$name.dom"; done
 for name in lost hard; do expect 101 "samples/$name.dom"; done
 
 # each refusal of the reader
@@ -66,7 +66,8 @@ head -c 511 samples/case-05.dom >"$work/short"; expect 2 "$work/short"
 from check case-05; byte 100 1; expect 3 "$file"
 from number case-05; byte 0 1; seal; expect 3 "$file"
 from letters case-05; byte 2 100; seal; expect 4 "$file"
-from zero case-05; byte 10 1; seal; expect 4 "$file"
+from first-zero case-05; byte 12 1; seal; expect 4 "$file"
+from last-zero case-05; byte 17 1; seal; expect 4 "$file"
 from table-byte case-05; byte 11 2; seal; expect 4 "$file"
 from no-states case-05; byte 6 0; seal; expect 5 "$file"
 from eight-sets case-05; byte 9 8; seal; expect 5 "$file"
@@ -89,6 +90,15 @@ same 'console pipe 4096' 58880 "$(cat samples/large.dom | { "$work/console" /dev
 from odd case-05; printf x >>"$file"; expect 2 "$file"
 same 'console letters 0' 4 "$("$work/console" "$work/letters" 0)"
 
+# the hidden mask may be any byte; what it hides, and what not
+for mask in 1 128 255; do from mask case-05; byte 10 $mask; seal; expect 100 "$file"; done
+from lamp-compared lamp; byte 10 251; seal; expect 12 "$file"
+from lamp-too lamp; byte 10 255; seal; expect 100 "$file"
+from four-with-1 case-04; byte 10 1; seal; expect 200 "$file"
+from four-with-2 case-04; byte 10 2; seal; expect 200 "$file"
+from lamp-shown lamp; byte 10 0; seal; expect 12 "$file"
+from choice-shown choice; byte 10 0; seal; expect 12 "$file"
+
 # another entry, and a start state of the rig that lacks a partner
 from entry case-05; byte 77 3; seal; expect 12 "$file"
 from lacking large; byte 82 8; seal; expect 203 "$file"
@@ -97,7 +107,17 @@ from lacking large; byte 82 8; seal; expect 203 "$file"
 for name in lost case-06 case-07 case-08 case-09; do restores "samples/$name.dom" 100 samples/case-05.dom; done
 for n in 01 03 05 10 12; do restores "samples/case-$n.dom" 100 "samples/case-$n.dom"; done
 for n in 02 04 11; do restores "samples/case-$n.dom" 200 "samples/case-$n.dom"; done
-restores samples/large.dom 100 samples/large.dom
+for name in large lamp choice; do restores "samples/$name.dom" 100 "samples/$name.dom"; done
+# a hidden mask is kept, and decides what the table is
+# masked NUMBER LINE NAME: the copy is restored with this number, and then gets this line
+masked() {
+    same "restore $3" "$1" "$("$work/restore" "$work/$3" "$work/$3.new")"
+    same "shelf $3" "$2" "$(target/bin/shelf <"$work/$3.new")"
+}
+masked 100 'carried 1' four-with-1
+masked 200 'not carried 0 0' four-with-2
+masked 200 'not carried 0 0' lamp-shown
+masked 100 'carried 2' choice-shown
 # a show that is hard to solve: its number, its count of entries, and its table once more
 same 'restore hard' 200 "$("$work/restore" samples/hard.dom "$work/hard")"
 same 'shelf hard' 'not carried 0 539' "$(target/bin/shelf <"$work/hard")"
@@ -111,6 +131,9 @@ same 'restore longer' 'refused 2 0 0 0' "$("$work/restore" "$file" "$work/none")
 # case 10, a longer run, and each refusal of the player; a show without a table
 plays 'run 0 / 1' samples/case-10.dom / 0
 plays 'run 0 / 1 1 1 1 1 1 1' samples/large.dom 0 / 1
+plays 'run / 0 1' samples/choice.dom / 0 1
+plays 'run / 0 2' "$work/choice-shown.new" / 0 1
+plays 'refused 12 1 0 1' "$work/choice-shown" / 0 1
 plays 'refused 12 1 0 0' samples/case-07.dom / 0
 plays 'refused 13 0 0 0' samples/case-10.dom 0 /
 plays 'refused 14 1 0 0' samples/case-10.dom 0 / 1

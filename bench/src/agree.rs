@@ -1,6 +1,6 @@
 //! Compares results of the proved library with those of the plain implementation.
 use crate::pairs::Random;
-use crate::plain::{self, Answer, Machine, FILE_ROOM};
+use crate::plain::{self, Answer, Machine, Pair, FILE_ROOM};
 use crate::{nested, proved, sweeps};
 
 // walks of a machine from a start state, of a few states, closed where a state comes back; some are damaged
@@ -26,9 +26,9 @@ fn lasso(r: &mut Random, c: &Machine) -> (Vec<u8>, Vec<u8>) {
     }
 }
 
-pub fn file(c: &Machine, a: &Machine, table: Option<&[u16]>) -> Vec<u8> {
+pub fn file(p: &Pair, table: Option<&[u16]>) -> Vec<u8> {
     let mut out = vec![0u8; FILE_ROOM];
-    let n = plain::write(c, a, table, &mut out);
+    let n = plain::write(p, table, &mut out);
     out.truncate(n);
     out
 }
@@ -85,28 +85,47 @@ fn compare_play(f: &[u8], stem: &[u8], cycle: &[u8], counts: &mut [usize; 3]) {
     }] += 1;
 }
 
-pub fn on_files(r: &mut Random) {
+// whether the solver's table is carried
+fn carried(p: &Pair) -> bool {
+    let mut t = vec![0u16; plain::ROOM];
+    sweeps::solve(p, &mut t);
+    matches!(plain::check(p, &t), Answer::Carried(_))
+}
+
+// what concerns masks is drawn from h, so that the machines that r makes later, to be timed, do not depend on it
+pub fn on_files(r: &mut Random, h: &mut Random) {
     let mut counts = [0usize; 4];
     let mut plays = [0usize; 3];
+    let (mut masked, mut thanks_to_mask) = (0, 0);
     for round in 0..3000 {
-        let (c, a) = r.pair(if round % 50 == 0 { 64 } else { 7 });
+        let mut p = r.pair(if round % 50 == 0 { 64 } else { 7 });
+        h.may_hide(&mut p);
+        if p.hidden != 0 {
+            masked += 1;
+            thanks_to_mask += (carried(&p) && !carried(&Pair::new(p.c, p.a))) as usize;
+        }
         let mut t = vec![0u16; plain::ROOM];
-        nested::solve(&c, &a, &mut t);
+        nested::solve(&p, &mut t);
         let mut f = match round % 4 {
-            0 => file(&c, &a, None),
-            _ => file(&c, &a, Some(&t)),
+            0 => file(&p, None),
+            _ => file(&p, Some(&t)),
         };
         compare(&f, &mut counts);
         for _ in 0..4 {
-            let (stem, cycle) = lasso(r, &c);
+            let (stem, cycle) = lasso(r, &p.c);
             compare_play(&f, &stem, &cycle, &mut plays);
         }
-        // an entry, a byte or a length is damaged
-        let n = a.sets * c.states * a.states;
-        t[r.below(n)] = [0, 1, 2, 65535, 9][r.below(5)];
-        let altered = file(&c, &a, Some(&t));
+        // an entry, a bit of the mask, a byte or a length is damaged
+        let entry = [0, 1, 2, 65535, 9][r.below(5)];
+        let place = r.below(p.a.sets * p.c.states * p.a.states);
+        if h.below(4) == 0 {
+            p.hidden ^= 1 << h.below(8);
+        } else {
+            t[place] = entry;
+        }
+        let altered = file(&p, Some(&t));
         compare(&altered, &mut counts);
-        let (stem, cycle) = lasso(r, &c);
+        let (stem, cycle) = lasso(r, &p.c);
         compare_play(&altered, &stem, &cycle, &mut plays);
         compare_play(&f, &stem, &[], &mut plays);
         compare_play(&f, &stem, &[0; 65], &mut plays);
@@ -121,15 +140,17 @@ pub fn on_files(r: &mut Random) {
         compare(&f, &mut counts);
     }
     println!("agreed: carried {}, not carried {}, no table {}, refused {}", counts[0], counts[1], counts[2], counts[3]);
+    println!("agreed on shows with a hidden mask: {masked}, carried only thanks to it {thanks_to_mask}");
     println!("agreed on plays: run {}, no table {}, refused {}", plays[0], plays[1], plays[2]);
 }
 
 // the tables of two files with the same show, entry by entry; how many entries there are
 pub fn same_tables(ours: &[u8], theirs: &[u8]) -> usize {
     let (mut x, mut y) = (vec![0u16; plain::ROOM], vec![0u16; plain::ROOM]);
-    let (c, a, table) = plain::read(ours, &mut x).expect("a file");
+    let (p, table) = plain::read(ours, &mut x).expect("a file");
     assert!(table, "no table");
-    assert_eq!(plain::read(theirs, &mut y), Ok((c, a, true)), "the show");
+    assert_eq!(plain::read(theirs, &mut y), Ok((p, true)), "the show");
+    let (c, a) = (&p.c, &p.a);
     for j in 0..a.sets {
         for s in 0..c.states {
             for u in 0..a.states {
@@ -142,20 +163,21 @@ pub fn same_tables(ours: &[u8], theirs: &[u8]) -> usize {
 }
 
 // the proved solver's table of a show, beside that of each of the plain solvers
-pub fn compare_tables(c: &Machine, a: &Machine) -> usize {
-    let f = file(c, a, None);
+pub fn compare_tables(p: &Pair) -> usize {
+    let f = file(p, None);
     let (mut x, mut y) = (vec![0u8; FILE_ROOM], vec![0u8; FILE_ROOM]);
-    let p = proved::solve(&f, &mut x).expect("a show that is taken");
+    let ours = proved::solve(&f, &mut x).expect("a show that is taken");
     let mut entries = 0;
     for solve in [sweeps::solve, nested::solve] {
-        let q = plain::solve_file(solve, &f, &mut y).expect("a show that is taken");
-        entries = same_tables(&x[..p], &y[..q]);
+        let theirs = plain::solve_file(solve, &f, &mut y).expect("a show that is taken");
+        entries = same_tables(&x[..ours], &y[..theirs]);
     }
     entries
 }
 
 // the proved solver's tables beside those of both plain solvers
-pub fn on_pairs(name: &str, pairs: &[(Machine, Machine)]) {
-    let entries: usize = pairs.iter().map(|(c, a)| compare_tables(c, a)).sum();
-    println!("agreed on tables: {name}, entries {entries}");
+pub fn on_pairs(name: &str, pairs: &[Pair]) {
+    let entries: usize = pairs.iter().map(compare_tables).sum();
+    let masked = pairs.iter().filter(|p| p.hidden != 0).count();
+    println!("agreed on tables: {name}, {masked} with a hidden mask, entries {entries}");
 }

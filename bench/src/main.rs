@@ -10,18 +10,22 @@ mod sweeps;
 use agree::file;
 use measure::{at_least, at_most, batch, hard_family, judge, playing, solving};
 use pairs::{chain, first_hard, linked_chain, rings, second_hard, Lengths, Links, Random};
+use plain::Pair;
 
 fn main() {
     let mut r = Random(0x9E3779B97F4A7C15);
-    agree::on_files(&mut r);
+    let mut h = Random(0x8CB92BA72F3D8DD7);
+    agree::on_files(&mut r, &mut h);
     let mut q = Random(0xD1B54A32D192ED03);
     let small = |q: &mut Random| {
         let (nc, na) = (1 + q.below(9), 1 + q.below(9));
         q.shaped_pair(nc, na)
     };
-    let small: Vec<_> = (0..2000).map(|_| small(&mut q)).collect();
+    let mut small: Vec<_> = (0..2000).map(|_| small(&mut q)).collect();
+    small.iter_mut().for_each(|p| h.may_hide(p));
     agree::on_pairs("2000 random, to 9 by 9", &small);
-    let altered: Vec<_> = (0..1000).map(|_| q.altered_hard_pair()).collect();
+    let mut altered: Vec<_> = (0..1000).map(|_| q.altered_hard_pair()).collect();
+    altered.iter_mut().for_each(|p| h.may_hide(p));
     agree::on_pairs("1000 altered hard ones, to 14 by 14", &altered);
     let eight: Vec<_> = (0..1000).map(|_| q.shaped_pair(8, 8)).collect();
     agree::on_pairs("1000 random, 8 by 8", &eight);
@@ -31,33 +35,31 @@ fn main() {
     println!("{:52} {:>12}    {:>12} {:>30}", "job", "proved", "plain", "nested");
     let mut chain_times = f64::MAX;
     for states in [8, 16, 32, 64] {
-        let c = r.machine(states, 8, 1, 8, 8);
-        let a = r.machine(states, 7, 1, 8, 12);
+        let p = Pair::new(r.machine(states, 8, 1, 8, 8), r.machine(states, 7, 1, 8, 12));
         let mut t = vec![0u16; plain::ROOM];
-        nested::solve(&c, &a, &mut t);
-        let good = file(&c, &a, Some(&t));
+        nested::solve(&p, &mut t);
+        let good = file(&p, Some(&t));
         t[0] = 65534;
-        let bad = file(&c, &a, Some(&t));
+        let bad = file(&p, Some(&t));
         judge(&format!("read, {states} by {states} (first entry fails)"), &bad);
         judge(&format!("read and check, {states} by {states}, dense"), &good);
-        solving(&format!("read, solve and write, {states} by {states}, dense"), &c, &a);
-        let c = r.machine(states, 8, 2, 1, 8);
-        let a = r.machine(states, 7, 2, 3, 10);
-        nested::solve(&c, &a, &mut t);
-        judge(&format!("read and check, {states} by {states}, sparse"), &file(&c, &a, Some(&t)));
-        solving(&format!("read, solve and write, {states} by {states}, sparse"), &c, &a);
-        let (c, a) = chain(states, 8, 7);
-        nested::solve(&c, &a, &mut t);
-        judge(&format!("read and check, {states} by {states}, chain"), &file(&c, &a, Some(&t)));
-        let times = solving(&format!("read, solve and write, {states} by {states}, chain"), &c, &a);
+        solving(&format!("read, solve and write, {states} by {states}, dense"), &p);
+        let p = Pair::new(r.machine(states, 8, 2, 1, 8), r.machine(states, 7, 2, 3, 10));
+        nested::solve(&p, &mut t);
+        judge(&format!("read and check, {states} by {states}, sparse"), &file(&p, Some(&t)));
+        solving(&format!("read, solve and write, {states} by {states}, sparse"), &p);
+        let p = chain(states, 8, 7);
+        nested::solve(&p, &mut t);
+        judge(&format!("read and check, {states} by {states}, chain"), &file(&p, Some(&t)));
+        let times = solving(&format!("read, solve and write, {states} by {states}, chain"), &p);
         if states == 64 {
             chain_times = times;
         }
     }
-    let (c, a) = rings(8, 7);
+    let p = rings(8, 7);
     let mut t = vec![0u16; plain::ROOM];
-    nested::solve(&c, &a, &mut t);
-    let f = file(&c, &a, Some(&t));
+    nested::solve(&p, &mut t);
+    let f = file(&p, Some(&t));
     let round: Vec<u8> = (0..64).collect();
     judge("read and check, 64 by 64, rings", &f);
     playing("read, check and play, 64 by 64, rings", &f, &[], &round);
@@ -65,8 +67,8 @@ fn main() {
     let (full_ratio, full_times) = batch("64 by 64, 1000 random", &full_size);
     let (eight_ratio, eight_times) = batch("8 by 8, 1000 random", &eight);
     for (name, links) in [("last link", Links::Last), ("all links", Links::All), ("fourth links", Links::Fourths)] {
-        let (c, a) = linked_chain(links);
-        chain_times = chain_times.min(solving(&format!("read, solve and write, 64 by 64, chain, {name}"), &c, &a));
+        let p = linked_chain(links);
+        chain_times = chain_times.min(solving(&format!("read, solve and write, 64 by 64, chain, {name}"), &p));
     }
     // coprime lengths, of those that are dearest to nested iteration
     let lengths = |x, x2, y, y2| Lengths { x, x2, y, y2 };

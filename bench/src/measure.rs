@@ -1,6 +1,6 @@
 //! Times of the proved library beside those of the plain implementation.
 use crate::agree::{compare_tables, file, same_tables};
-use crate::plain::{self, Machine, EMPTY, FILE_ROOM};
+use crate::plain::{self, Machine, Pair, EMPTY, FILE_ROOM};
 use crate::{nested, proved, sweeps};
 use std::hint::black_box;
 use std::time::Instant;
@@ -86,16 +86,16 @@ fn solve_proved(files: &[Vec<u8>], out: &mut [u8]) {
     }
 }
 
-fn solve_plain(solve: fn(&Machine, &Machine, &mut [u16]), files: &[Vec<u8>], out: &mut [u8]) {
+fn solve_plain(solve: fn(&Pair, &mut [u16]), files: &[Vec<u8>], out: &mut [u8]) {
     for f in files {
         black_box(plain::solve_file(solve, black_box(f), out)).unwrap();
     }
 }
 
 // one pair; how many times longer nested iteration takes
-pub fn solving(name: &str, c: &Machine, a: &Machine) -> f64 {
-    compare_tables(c, a);
-    let files = [file(c, a, None)];
+pub fn solving(name: &str, p: &Pair) -> f64 {
+    compare_tables(p);
+    let files = [file(p, None)];
     let mut out = vec![0u8; FILE_ROOM];
     let ours = time(|| solve_proved(&files, &mut out));
     let theirs = time(|| solve_plain(sweeps::solve, &files, &mut out));
@@ -105,7 +105,7 @@ pub fn solving(name: &str, c: &Machine, a: &Machine) -> f64 {
 }
 
 // a show of the same counts in which no pair is matched, so that the solver has next to nothing to do
-fn idle(c: &Machine, a: &Machine) -> (Machine, Machine) {
+fn idle(p: &Pair) -> Pair {
     let still = |m: &Machine, observation: u8| {
         let mut x = Machine { states: m.states, sets: m.sets, start: 1, ..EMPTY };
         for s in 0..m.states {
@@ -114,14 +114,14 @@ fn idle(c: &Machine, a: &Machine) -> (Machine, Machine) {
         }
         x
     };
-    (still(c, 0), still(a, 1))
+    Pair::new(still(&p.c, 0), still(&p.a, 1))
 }
 
 // Many pairs, times for one: the whole call, and the solver's part of it, which is what the same call on idle shows of the same counts does not
 // take. The larger ratio of the two, and how many times longer the whole call takes with nested iteration.
-pub fn batch(name: &str, pairs: &[(Machine, Machine)]) -> (f64, f64) {
-    let files: Vec<_> = pairs.iter().map(|(c, a)| file(c, a, None)).collect();
-    let idle_files: Vec<_> = pairs.iter().map(|(c, a)| idle(c, a)).map(|(c, a)| file(&c, &a, None)).collect();
+pub fn batch(name: &str, pairs: &[Pair]) -> (f64, f64) {
+    let files: Vec<_> = pairs.iter().map(|p| file(p, None)).collect();
+    let idle_files: Vec<_> = pairs.iter().map(|p| file(&idle(p), None)).collect();
     let [v, w, x, y, z] = &mut [(); 5].map(|_| vec![0u8; FILE_ROOM]);
     let [ours, our_idle, theirs, their_idle] = race([
         &mut || solve_proved(&files, v),
@@ -138,11 +138,12 @@ pub fn batch(name: &str, pairs: &[(Machine, Machine)]) -> (f64, f64) {
 }
 
 // Pairs of growing size. Nested iteration is measured on the first only: on the others it would take from minutes to days.
-pub fn hard_family(name: &str, pairs: &[(Machine, Machine)]) {
+pub fn hard_family(name: &str, pairs: &[Pair]) {
     let mut entries = 0;
     let mut last = None;
-    for (c, a) in pairs {
-        let f = file(c, a, None);
+    for pair in pairs {
+        let (c, a) = (&pair.c, &pair.a);
+        let f = file(pair, None);
         let [x, y, z] = &mut [(); 3].map(|_| vec![0u8; FILE_ROOM]);
         let (mut p, mut q, mut r) = (0, 0, 0);
         let [ours, theirs] = race([

@@ -1,6 +1,6 @@
 //! The solver by plain nested iteration of the fixpoints, as docs/RULES.md states them: every X from all matched pairs, every level from the
 //! empty set, every section again in each turn, and a last pass for the ranks. It is the plainest way to the table, and the other opinion on it.
-use crate::plain::{bits, full, matched, Machine, Set, BLANK};
+use crate::plain::{bits, full, matched, Machine, Pair, Set, BLANK};
 
 struct Game<'a> {
     c: &'a Machine,
@@ -82,8 +82,9 @@ impl Game<'_> {
     }
 }
 
-pub fn solve(c: &Machine, a: &Machine, t: &mut [u16]) {
-    let g = Game { c, a, matched: matched(c, a) };
+pub fn solve(p: &Pair, t: &mut [u16]) {
+    let (c, a) = (&p.c, &p.a);
+    let g = Game { c, a, matched: matched(p) };
     let n = a.sets;
     let mut z = [g.matched; 7];
     loop {

@@ -1,5 +1,5 @@
 //! Pairs of machines to compare and to measure on: random ones, and ones made by hand to be slow.
-use crate::plain::{full, Machine, EMPTY};
+use crate::plain::{full, Machine, Pair, EMPTY};
 
 pub struct Random(pub u64);
 
@@ -35,11 +35,11 @@ impl Random {
         m
     }
 
-    pub fn pair(&mut self, limit: usize) -> (Machine, Machine) {
+    pub fn pair(&mut self, limit: usize) -> Pair {
         let (nc, na, m, n) = (1 + self.below(limit), 1 + self.below(limit), 1 + self.below(8), 1 + self.below(7));
         let (o, x, y) = (1 + self.below(3), self.below(8), 1 + self.below(15));
         let (u, v) = (4 + self.below(12), 8 + self.below(8));
-        (self.machine(nc, m, o, x, y), self.machine(na, n, o, u, v))
+        Pair::new(self.machine(nc, m, o, x, y), self.machine(na, n, o, u, v))
     }
 
     // a mask of states below n, each with a chance of d in 1000
@@ -74,23 +74,23 @@ impl Random {
     }
 
     // a pair of any density and of these numbers of states; half of the time its fairness sets have very few states
-    pub fn shaped_pair(&mut self, nc: usize, na: usize) -> (Machine, Machine) {
+    pub fn shaped_pair(&mut self, nc: usize, na: usize) -> Pair {
         let (m, n, o) = (1 + self.below(8), 1 + self.below(7), 1 + self.below(3));
         let (x, u) = (5 * self.below(100), 10 * self.below(100));
         let y = if self.below(2) == 0 { 30 } else { 10 * self.below(50) };
         let v = if self.below(2) == 0 { 20 } else { 7 * self.below(45) };
-        (self.shaped(nc, m, o, x, y), self.shaped(na, n, o, u, v))
+        Pair::new(self.shaped(nc, m, o, x, y), self.shaped(na, n, o, u, v))
     }
 
     // a small pair of the first hard family, with some moves and sets changed
-    pub fn altered_hard_pair(&mut self) -> (Machine, Machine) {
+    pub fn altered_hard_pair(&mut self) -> Pair {
         let states = 10 + self.below(5);
         let (x, y) = (2 + self.below(states - 6), 2 + self.below(states - 8));
         let lengths = Lengths { x, x2: states - 2 - x, y, y2: states - 4 - y };
         let wait = if self.below(5) == 0 { None } else { Some(self.below(4)) };
-        let (mut c, mut a) = first_hard(lengths, wait, 1 + self.below(3), 1 + self.below(3));
+        let mut p = first_hard(lengths, wait, 1 + self.below(3), 1 + self.below(3));
         for _ in 0..self.below(5) {
-            for machine in [&mut c, &mut a] {
+            for machine in [&mut p.c, &mut p.a] {
                 let (s, k) = (self.below(states), self.below(machine.sets));
                 machine.successors[s] ^= 1 << self.below(states);
                 if machine.successors[s] == 0 {
@@ -99,7 +99,28 @@ impl Random {
                 machine.fairness[k] ^= 1 << self.below(states);
             }
         }
-        (c, a)
+        p
+    }
+
+    // Gives a half of the pairs a hidden mask, of bits that their observations use, which are the lowest two, or of others. Hidden bits of one machine,
+    // of both or of none are then changed at random, so that many states are matched only thanks to the mask.
+    pub fn may_hide(&mut self, p: &mut Pair) {
+        if self.below(2) == 0 {
+            return;
+        }
+        p.hidden = match self.below(4) {
+            0 => 1 + self.below(3),
+            1 => 1 + self.below(255),
+            _ => 4 * (1 + self.below(63)),
+        } as u8;
+        let changed = self.below(4);
+        for (i, machine) in [&mut p.c, &mut p.a].into_iter().enumerate() {
+            if changed >> i & 1 == 1 {
+                for s in 0..machine.states {
+                    machine.observations[s] ^= self.below(256) as u8 & p.hidden;
+                }
+            }
+        }
     }
 }
 
@@ -108,7 +129,7 @@ fn machine_of(states: usize, sets: usize) -> Machine {
 }
 
 // a concrete cycle, all of it one observation, against an abstract chain whose sets alternate
-pub fn chain(states: usize, m: usize, n: usize) -> (Machine, Machine) {
+pub fn chain(states: usize, m: usize, n: usize) -> Pair {
     let mut c = machine_of(states, m);
     for s in 0..states {
         c.successors[s] = 1 << ((s + 1) % states);
@@ -123,7 +144,7 @@ pub fn chain(states: usize, m: usize, n: usize) -> (Machine, Machine) {
     for j in 0..n {
         a.fairness[j] = (0..states).filter(|s| s % n == j).fold(0, |x, s| x | 1 << s);
     }
-    (c, a)
+    Pair::new(c, a)
 }
 
 // which states of a linked chain are in its fairness sets: the state in which the last link waits, or the second states of links
@@ -135,7 +156,7 @@ pub enum Links {
 
 // A concrete ring that shows observation 1 once a round, against an abstract chain of 32 links. A link is a state that waits and one that shows
 // observation 1 and leads to the next link; where each fourth link is in the sets, the others may also wait again.
-pub fn linked_chain(links: Links) -> (Machine, Machine) {
+pub fn linked_chain(links: Links) -> Pair {
     let mut c = machine_of(64, 8);
     c.observations[0] = 1;
     for s in 0..64 {
@@ -162,12 +183,12 @@ pub fn linked_chain(links: Links) -> (Machine, Machine) {
     for j in 0..7 {
         a.fairness[j] = fair;
     }
-    (c, a)
+    Pair::new(c, a)
 }
 
 // a ring of 64 states, and one of 61 with three more states that lead into it; one observation, every state in every set: the run of a lasso
 // round the first comes back to its beginning only after 61 rounds, or 61 x 7 where the sections go round too
-pub fn rings(m: usize, n: usize) -> (Machine, Machine) {
+pub fn rings(m: usize, n: usize) -> Pair {
     let ring = |length: usize, sets: usize| {
         let mut x = machine_of(64, sets);
         for s in 0..64 {
@@ -178,7 +199,7 @@ pub fn rings(m: usize, n: usize) -> (Machine, Machine) {
         }
         x
     };
-    (ring(64, m), ring(61, n))
+    Pair::new(ring(64, m), ring(61, n))
 }
 
 // The hard families. The concrete machine has rings of x and x2 states, the abstract one rings of y and y2. Where two lengths are coprime, the
@@ -247,17 +268,17 @@ fn abstract_rings(r: Lengths, states: usize, sets: usize) -> Machine {
 }
 
 // x + x2 + 2 and y + y2 + 4 states; the pair that the first chain loses may wait for the third chain, from a place of the ring y2 on
-pub fn first_hard(r: Lengths, wait: Option<usize>, m: usize, n: usize) -> (Machine, Machine) {
+pub fn first_hard(r: Lengths, wait: Option<usize>, m: usize, n: usize) -> Pair {
     let mut a = abstract_rings(r, r.y + r.y2 + 4, n);
     if let Some(w) = wait {
         a.successors[0] |= 1 << (r.y + w % r.y2);
     }
-    (concrete_rings(r, m), a)
+    Pair::new(concrete_rings(r, m), a)
 }
 
 // x + x2 + 2 and y + y2 + 7 states. Made against solvers that drop at first what cannot stay: the third chain stays, one level above all of the
 // second, and the first one is lost only by fairness.
-pub fn second_hard(r: Lengths, m: usize, n: usize) -> (Machine, Machine) {
+pub fn second_hard(r: Lengths, m: usize, n: usize) -> Pair {
     let mut c = concrete_rings(r, m);
     let one = r.x + r.x2;
     c.successors[one] = 1 << (r.x + 1);
@@ -275,5 +296,5 @@ pub fn second_hard(r: Lengths, m: usize, n: usize) -> (Machine, Machine) {
         a.successors[s] = moves;
     }
     a.successors[idle] = 1 << idle | 1 << two;
-    (c, a)
+    Pair::new(c, a)
 }

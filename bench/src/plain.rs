@@ -12,6 +12,22 @@ pub struct Machine {
 }
 
 pub const EMPTY: Machine = Machine { states: 0, sets: 0, start: 0, observations: [0; 64], successors: [0; 64], fairness: [0; 8] };
+
+// the machines of a show; a set bit of the hidden mask is not compared in their observations
+#[derive(Clone, Copy, PartialEq, Eq, Debug)]
+pub struct Pair {
+    pub c: Machine,
+    pub a: Machine,
+    pub hidden: u8,
+}
+
+impl Pair {
+    // every bit is compared
+    pub fn new(c: Machine, a: Machine) -> Pair {
+        Pair { c, a, hidden: 0 }
+    }
+}
+
 pub const ROOM: usize = 28672;
 pub const BLANK: u16 = 65535;
 pub const FILE_ROOM: usize = 59392;
@@ -123,7 +139,7 @@ fn machine_at(q: &[u8], at: usize, states: usize, sets: usize) -> Machine {
     m
 }
 
-pub fn read(bytes: &[u8], table: &mut [u16]) -> Result<(Machine, Machine, bool), Refusal> {
+pub fn read(bytes: &[u8], table: &mut [u16]) -> Result<(Pair, bool), Refusal> {
     let refuse = |n| Err(Refusal(n, 0, 0, 0));
     if table.len() < ROOM {
         return refuse(1);
@@ -135,10 +151,11 @@ pub fn read(bytes: &[u8], table: &mut [u16]) -> Result<(Machine, Machine, bool),
         return refuse(3);
     }
     let h = &bytes[2..18];
-    if &h[0..4] != b"DOM1" || h[8] != 0 || h[9] > 1 || h[10..16].iter().any(|&x| x != 0) {
+    if &h[0..4] != b"DOM1" || h[9] > 1 || h[10..16].iter().any(|&x| x != 0) {
         return refuse(4);
     }
-    let (nc, na, m, n, note) = (h[4] as usize, h[5] as usize, h[6] as usize, h[7] as usize, h[9] == 1);
+    let (nc, na, m, n) = (h[4] as usize, h[5] as usize, h[6] as usize, h[7] as usize);
+    let (hidden, note) = (h[8], h[9] == 1);
     if !counts_ok(8, nc, m) || !counts_ok(7, na, n) {
         return refuse(5);
     }
@@ -169,7 +186,7 @@ pub fn read(bytes: &[u8], table: &mut [u16]) -> Result<(Machine, Machine, bool),
             table[e] = u16::from_le_bytes([q[at + 2 * e], q[at + 2 * e + 1]]);
         }
     }
-    Ok((c, a, note))
+    Ok((Pair { c, a, hidden }, note))
 }
 
 fn put_machine(q: &mut Vec<u8>, m: &Machine) {
@@ -183,10 +200,11 @@ fn put_machine(q: &mut Vec<u8>, m: &Machine) {
     }
 }
 
-pub fn write(c: &Machine, a: &Machine, table: Option<&[u16]>, out: &mut [u8]) -> usize {
+pub fn write(p: &Pair, table: Option<&[u16]>, out: &mut [u8]) -> usize {
+    let (c, a) = (&p.c, &p.a);
     let mut q = Vec::with_capacity(FILE_ROOM);
     q.extend_from_slice(b"DOM1");
-    q.extend_from_slice(&[c.states as u8, a.states as u8, c.sets as u8, a.sets as u8, 0, table.is_some() as u8, 0, 0, 0, 0, 0, 0]);
+    q.extend_from_slice(&[c.states as u8, a.states as u8, c.sets as u8, a.sets as u8, p.hidden, table.is_some() as u8, 0, 0, 0, 0, 0, 0]);
     put_machine(&mut q, c);
     put_machine(&mut q, a);
     if let Some(t) = table {
@@ -208,11 +226,11 @@ pub fn write(c: &Machine, a: &Machine, table: Option<&[u16]>, out: &mut [u8]) ->
 
 // ---- the check
 
-pub fn matched(c: &Machine, a: &Machine) -> Set {
+pub fn matched(p: &Pair) -> Set {
     let mut out = [0u64; 64];
-    for s in 0..c.states {
-        for t in 0..a.states {
-            if c.observations[s] == a.observations[t] {
+    for s in 0..p.c.states {
+        for t in 0..p.a.states {
+            if p.hidden | p.c.observations[s] == p.hidden | p.a.observations[t] {
                 out[s] |= 1 << t;
             }
         }
@@ -233,8 +251,9 @@ fn has_partner(moves: u64, matched: u64, row: &[u16], bound: u16) -> bool {
     false
 }
 
-fn first_failing(c: &Machine, a: &Machine, t: &[u16]) -> Option<Refusal> {
-    let mt = matched(c, a);
+fn first_failing(p: &Pair, t: &[u16]) -> Option<Refusal> {
+    let mt = matched(p);
+    let (c, a) = (&p.c, &p.a);
     let (nc, na, m, n) = (c.states, a.states, c.sets, a.sets);
     for j in 0..n {
         for s in 0..nc {
@@ -268,10 +287,11 @@ fn first_failing(c: &Machine, a: &Machine, t: &[u16]) -> Option<Refusal> {
     None
 }
 
-pub fn check(c: &Machine, a: &Machine, t: &[u16]) -> Answer {
-    if let Some(r) = first_failing(c, a, t) {
+pub fn check(p: &Pair, t: &[u16]) -> Answer {
+    if let Some(r) = first_failing(p, t) {
         return Answer::Refused(r);
     }
+    let (c, a) = (&p.c, &p.a);
     let count = t[..a.sets * c.states * a.states].iter().filter(|&&e| e != BLANK).count();
     for s in bits(c.start) {
         if !bits(a.start).any(|u| t[s * a.states + u] != BLANK) {
@@ -285,8 +305,8 @@ pub fn verdict(bytes: &[u8]) -> Answer {
     let mut t = [0u16; ROOM];
     match read(bytes, &mut t) {
         Err(r) => Answer::Refused(r),
-        Ok((_, _, false)) => Answer::NoTable,
-        Ok((c, a, true)) => check(&c, &a, &t),
+        Ok((_, false)) => Answer::NoTable,
+        Ok((p, true)) => check(&p, &t),
     }
 }
 
@@ -318,10 +338,11 @@ fn best(moves: u64, row: &[u16]) -> Option<usize> {
     bits(moves).filter(|&u| row[u] != BLANK).min_by_key(|&u| row[u])
 }
 
-pub fn play(c: &Machine, a: &Machine, t: &[u16], stem: &[u8], cycle: &[u8], run: &mut [u8]) -> Result<(usize, usize), Refusal> {
-    if let Answer::Refused(r) = check(c, a, t) {
+pub fn play(p: &Pair, t: &[u16], stem: &[u8], cycle: &[u8], run: &mut [u8]) -> Result<(usize, usize), Refusal> {
+    if let Answer::Refused(r) = check(p, t) {
         return Err(r);
     }
+    let (c, a) = (&p.c, &p.a);
     lasso_holds(c, stem, cycle)?;
     let (nc, na, n) = (c.states, a.states, a.sets);
     let row = |j: usize, s: usize| &t[(j * nc + s) * na..(j * nc + s + 1) * na];
@@ -350,16 +371,16 @@ pub fn play(c: &Machine, a: &Machine, t: &[u16], stem: &[u8], cycle: &[u8], run:
 pub fn play_file(bytes: &[u8], stem: &[u8], cycle: &[u8], run: &mut [u8]) -> Result<Option<(usize, usize)>, Refusal> {
     let mut t = [0u16; ROOM];
     match read(bytes, &mut t)? {
-        (_, _, false) => Ok(None),
-        (c, a, true) => play(&c, &a, &t, stem, cycle, run).map(Some),
+        (_, false) => Ok(None),
+        (p, true) => play(&p, &t, stem, cycle, run).map(Some),
     }
 }
 
 // ---- a show in, the same show with a solver's table out
 
-pub fn solve_file(solve: fn(&Machine, &Machine, &mut [u16]), bytes: &[u8], out: &mut [u8]) -> Result<usize, Refusal> {
+pub fn solve_file(solve: fn(&Pair, &mut [u16]), bytes: &[u8], out: &mut [u8]) -> Result<usize, Refusal> {
     let mut t = [0u16; ROOM];
-    let (c, a, _) = read(bytes, &mut t)?;
-    solve(&c, &a, &mut t);
-    Ok(write(&c, &a, Some(&t), out))
+    let (p, _) = read(bytes, &mut t)?;
+    solve(&p, &mut t);
+    Ok(write(&p, Some(&t), out))
 }

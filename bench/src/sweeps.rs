@@ -4,7 +4,7 @@
 //! - An X is found with a worklist: a row is looked at again only when the row of a successor has lost a pair.
 //! - Sections are swept in place, the last one first, and a section is solved again only when the set of the next one has lost a pair.
 //!   Its goals only shrink meanwhile, so ranks only rise, and an X starts from the pairs whose entries so far let them be in it.
-use crate::plain::{bits, full, matched, Machine, Set, BLANK};
+use crate::plain::{bits, full, matched, Machine, Pair, Set, BLANK};
 
 struct Game<'a> {
     c: &'a Machine,
@@ -118,8 +118,9 @@ impl Game<'_> {
     }
 }
 
-pub fn solve(c: &Machine, a: &Machine, t: &mut [u16]) {
-    let g = Game { c, a, matched: matched(c, a), concrete_predecessors: predecessors(c), abstract_predecessors: predecessors(a) };
+pub fn solve(p: &Pair, t: &mut [u16]) {
+    let (c, a) = (&p.c, &p.a);
+    let g = Game { c, a, matched: matched(p), concrete_predecessors: predecessors(c), abstract_predecessors: predecessors(a) };
     let (n, pairs) = (a.sets, c.states * a.states);
     for j in 0..n {
         for s in 0..c.states {

@@ -22,7 +22,7 @@ use Rattle.theory.specs.Figure2.{figure2, FigureGoal}
 use Rattle.theory.specs.Statements.{IsRank}
 use Rattle.codec.specs.Reader.{taken, readAnswer, readTable}
 use Rattle.codec.specs.Writer.{fileRoom}
-use Rattle.codec.specs.Statements.{AreBytes, WriteRead, ReadWrite, WrittenReads, ReadWrites, FirstBlockTellsSize, TakenFits, EntriesUnread}
+use Rattle.codec.specs.Statements.{AreBytes, WriteRead, ReadWrite, WrittenReads, ReadWrites, FirstBlockTellsSize, TakenFits, TakenHidden, StoredTest, StoredMatched, EntriesUnread}
 use Rattle.soundness.specs.Statements.{CheckUnread, PlayerUnread}
 use Rattle.restore.specs.Restoring.{restoreAnswer, restoreBuffer}
 use Rattle.solver.specs.Solver.{solveValidity, solvedTable}
@@ -49,14 +49,19 @@ TakenIsNotCut = TakenFits
 abbrev pub EntriesAreUnread : Type 0
 EntriesAreUnread = CheckUnread × PlayerUnread × EntriesUnread
 
+-- Document 02, No. 4: the mask that was read is the header's byte after n, and "Stored files have 0 and keep their meaning": where that byte is 0, test 4
+-- is document 01's, and so are the matched pairs, by which alone check, solver and player go
+abbrev pub StoredFilesKeepMeaning : Type 0
+StoredFilesKeepMeaning = TakenHidden × StoredTest × StoredMatched
+
 -- ---- demand 3, first part
 -- "Take any file that is read without refusal and holds a table, whoever made it, and let the check say Carried of the machines and the table so
 -- read. Then every fair lasso of the rig from a start state has a fair lasso of the score, from a start state, with the same observation at
--- every moment of endless play."
+-- every moment of endless play." Document 02, No. 4: "The matching of plays is then about the bits not hidden."
 abbrev pub FilesAreSound : Type 0
 FilesAreSound = (f T : List ℕ) (p : Pair) (n : ℕ) → readAnswer f T ≡ answer (taken p true) → checkVerdict p (readTable f T) ≡ answer (carried n)
     → (l : Lasso) → isPlay (p .concrete) l ≡ true
-    → (k : Lasso) × (isPlay (p .abstraction) k ≡ true) × SameObservations (p .concrete) l (p .abstraction) k
+    → (k : Lasso) × (isPlay (p .abstraction) k ≡ true) × SameObservations (p .hidden) (p .concrete) l (p .abstraction) k
 
 -- "a lost table must be replaceable": of every file that is read without refusal, whatever its table, the file solver writes a file that is read
 -- without refusal, as the same machines with the solver's entries

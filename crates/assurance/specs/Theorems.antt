@@ -23,12 +23,12 @@ use Rattle.theory.specs.RankLaws.{table-entries, table-is}
 use Rattle.theory.specs.RankTheorems.{rank-is-goal, rank-is-figure2, rank-is-least, table-holds-ranks, solver-table-passes, solver-table-covers, carried-exactly}
 use Rattle.soundness.specs.Theorems.{carried-is-sound, check-unread, player-unread}
 use Rattle.codec.specs.Format.{fileOf}
-use Rattle.codec.specs.FileLaws.{write-read, read-write, written-reads, read-writes, first-block-tells-size, entries-unread, taken-fits, taken-representable, Was, was-taken, was-well}
+use Rattle.codec.specs.FileLaws.{write-read, read-write, written-reads, read-writes, first-block-tells-size, entries-unread, taken-fits, taken-hidden, stored-test, stored-matched, taken-representable, Was, was-taken, was-well}
 use Rattle.solver.specs.Solver.{solveValidity, solvedTable}
 use Rattle.solver.specs.SolvedLaws.{solve-takes, solved-same, solved-room}
 use Rattle.restore.specs.Restoring.{restored, restoreBuffer}
 use Rattle.restore.specs.RestoringLaws.{restore-valid, restore-made}
-use Rattle.assurance.specs.Statements.{FilesReadBack, FilesAreWritten, FirstBlockIsEnough, TakenIsNotCut, EntriesAreUnread, FilesAreSound, LostTableIsReplaced}
+use Rattle.assurance.specs.Statements.{FilesReadBack, FilesAreWritten, FirstBlockIsEnough, TakenIsNotCut, EntriesAreUnread, StoredFilesKeepMeaning, FilesAreSound, LostTableIsReplaced}
 use Rattle.assurance.specs.Statements.{SolverTakesMachines, SolvedPasses, SolvedCovers, SolvedIsCarried, SolvedIsFigure2, SolvedGoals, SolvedRanks, SolvedRest}
 
 pub files-read-back : FilesReadBack
@@ -45,6 +45,9 @@ taken-is-not-cut = taken-fits
 
 pub entries-are-unread : EntriesAreUnread
 entries-are-unread = (check-unread, player-unread, entries-unread)
+
+pub stored-files-keep-meaning : StoredFilesKeepMeaning
+stored-files-keep-meaning = (taken-hidden, stored-test, stored-matched)
 
 pub files-are-sound : FilesAreSound
 files-are-sound f T p n taken said = carried-is-sound p _ n (check-said p _ (carried n) said)

@@ -16,21 +16,22 @@ unfoldable pub digitOf : ℕ → ℕ → ℕ → ℕ
 digitOf top x zero = x % (top + 1)
 digitOf top x (suc i) = digitOf top (x / (top + 1)) i
 
--- machine number x of a shape: digit 0 is its start mask, digit 1 has the states of observation 1, then come the successor masks, one for
--- each state, then the sets
+-- machine number x of a shape: digit 0 is its start mask, digit 1 has the states of an odd observation, then come the successor masks, one for
+-- each state, then the sets; the shape has the states whose observation has 2 added
 unfoldable pub numberedMachine : Shape → ℕ → Machine
 numberedMachine shape x = record {
   states = shape .states;
   sets = shape .sets;
   start = digitOf (shape .top) x 0;
-  observations = table 64 (λ s. cond (hasBit (digitOf (shape .top) x 1) s) 1 0);
+  observations = table 64 (λ s. cond (hasBit (digitOf (shape .top) x 1) s) 1 0 + cond (hasBit (shape .twos) s) 2 0);
   successors = table 64 (λ s. cond (ltb s (shape .states)) (digitOf (shape .top) x (2 + s)) 0);
   fairness = table 8 (λ k. cond (ltb k (shape .sets)) (digitOf (shape .top) x (2 + min (shape .states) 64 + k)) 0);
 }
 
--- the pair of concrete machine number x and abstract machine number y
-unfoldable pub numberedPair : Shape → Shape → ℕ → ℕ → Pair
-numberedPair concrete abstraction x y = record { concrete = numberedMachine concrete x; abstraction = numberedMachine abstraction y }
+-- the pair of concrete machine number x and abstract machine number y, under a hidden mask
+unfoldable pub numberedPair : Shape → Shape → ℕ → ℕ → ℕ → Pair
+numberedPair concrete abstraction hidden x y =
+    record { concrete = numberedMachine concrete x; abstraction = numberedMachine abstraction y; hidden = hidden }
 
 -- the entry that a digit stands for: blank for 0, and else one less
 unfoldable pub entryOf : ℕ → ℕ

@@ -1,5 +1,5 @@
 -- Laws of digits.
-use mathlib.Core.Bool.{cond}
+use mathlib.Core.Bool.{Bool, true, false, cond}
 use mathlib.Core.List.{List}
 use mathlib.Core.Path.{_≡_}
 use Prim.Native.Nat.{_%_, _+_, _/_, _≤_, min, suc, zero, ℕ}
@@ -26,10 +26,15 @@ pub digit-last : (top x i : ℕ) → i ≡ 0 → x % (top + 1) ≡ digitOf top x
 unfolding digitOf
 digit-last top x i e = rw e
 
+-- what a test lets through is no more than it is given
+pub cond-le : (b : Bool) (v : ℕ) → cond b v 0 ≤ v
+cond-le true v = omega arith
+cond-le false v = omega arith
+
 -- a machine from its parts
 pub machine-is : (shape : Shape) (x n start : ℕ) (observations successors fairness : List ℕ) → n ≡ min (shape .states) 64
     → start ≡ digitOf (shape .top) x 0
-    → observations ≡ table 64 (λ s. cond (hasBit (digitOf (shape .top) x 1) s) 1 0)
+    → observations ≡ table 64 (λ s. cond (hasBit (digitOf (shape .top) x 1) s) 1 0 + cond (hasBit (shape .twos) s) 2 0)
     → successors ≡ table 64 (λ s. cond (ltb s (shape .states)) (digitOf (shape .top) x (2 + s)) 0)
     → fairness ≡ table 8 (λ k. cond (ltb k (shape .sets)) (digitOf (shape .top) x (2 + n + k)) 0)
     → record {

@@ -84,8 +84,9 @@ pub fn is_play(m: Machine, stem: &[u8], cycle: &[u8]) -> bool
     has_start(m, moment_at(stem, cycle, 0) as usize)
 }
 
-// Whether two lassos have the same observations at the first n moments.
+// Whether two lassos have the same observations, in the bits that are not hidden, at the first n moments.
 pub fn same_until(
+    hidden: u8,
     m: Machine,
     stem: &[u8],
     cycle: &[u8],
@@ -94,13 +95,13 @@ pub fn same_until(
     round: &[u8],
     n: usize,
 ) -> bool
-    ensures { λ r. ⌜ r ≡ every n (λ t. sameObservation (observation m (moment (given (now (stem .entry)) (now (cycle .entry))) t))
+    ensures { λ r. ⌜ r ≡ every n (λ t. sameObservation hidden (observation m (moment (given (now (stem .entry)) (now (cycle .entry))) t))
         (observation k (moment (given (now (run .entry)) (now (round .entry))) t))) ⌝ }
 {
     for t in 0..n {
         let s = observed(m, moment_at(stem, cycle, t) as usize);
         let u = observed(k, moment_at(run, round, t) as usize);
-        if !machine::same_observation(s, u) {
+        if !machine::same_observation(hidden, s, u) {
             return false;
         }
     }

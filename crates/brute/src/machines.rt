@@ -57,7 +57,11 @@ pub fn observed(m: Machine, s: usize) -> u8
 pub fn is_matched(p: Pair, c: usize, a: usize) -> bool
     ensures { λ r. ⌜ r ≡ matched p c a ⌝ }
 {
-    machine::same_observation(observed(p.concrete, c), observed(p.abstraction, a))
+    machine::same_observation(
+        p.hidden,
+        observed(p.concrete, c),
+        observed(p.abstraction, a),
+    )
 }
 
 // ---- Well-formedness

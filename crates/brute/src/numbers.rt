@@ -10,11 +10,12 @@ ghost use Rattle.brute.specs.Numbers.{digitOf, entryOf, numberedTable, s
 use machine::Machine;
 use machine::Pair;
 
-// How many states and sets a machine has; each of its masks is a digit from 0 to `top`.
+// How many states and sets a machine has; each of its masks is a digit from 0 to `top`. The observations of the states of `twos` have 2 added.
 pub struct Shape {
     pub states: usize,
     pub sets: usize,
     pub top: u32,
+    pub twos: u64,
 }
 
 // Digit i of x, from the lowest, where digits run from 0 to `top`.
@@ -40,24 +41,32 @@ fn put_masks(x: u64, top: u32, at: usize, n: usize, out: &mut [u64])
     }
 }
 
-// Fills `out` with the bits of a mask.
-fn put_bits(m: u64, out: &mut [u8])
-    ensures { λ _. ⌜ now (out .exit) ≡ table (length (now (out .entry))) (λ s. cond (hasBit m s) 1 0) ⌝ }
+// v where a test holds, and else 0.
+fn value_if(b: bool, v: u8) -> u8
+    ensures { λ r. ⌜ r ≡ cond b v 0 ⌝ }
+{
+    if b { v } else { 0 }
+}
+
+// Fills `out` with observations: 1 for a state of the first mask, and 2 more for one of the second.
+fn put_observations(ones: u64, twos: u64, out: &mut [u8])
+    ensures { λ _. ⌜ now (out .exit) ≡ table (length (now (out .entry))) (λ s. cond (hasBit ones s) 1 0 + cond (hasBit twos s) 2 0) ⌝ }
 {
     for s in 0..out.len() {
-        let v = if mask::has(m, s) { 1 } else { 0 };
-        out[s] = v;
+        let one = value_if(mask::has(ones, s), 1);
+        let two = value_if(mask::has(twos, s), 2);
+        out[s] = one + two;
     }
 }
 
-// Machine number x of a shape: digit 0 is its start mask, digit 1 has the states of observation 1, then come the successor masks, then
+// Machine number x of a shape: digit 0 is its start mask, digit 1 has the states of an odd observation, then come the successor masks, then
 // the sets.
 pub fn numbered_machine(shape: Shape, x: u64) -> Machine
     ensures { λ r. ⌜ r ≡ numberedMachine shape x ⌝ }
 {
     let n = if shape.states < 64 { shape.states } else { 64 };
     let mut observations = [0u8; 64];
-    put_bits(digit(x, shape.top, 1), &mut observations);
+    put_observations(digit(x, shape.top, 1), shape.twos, &mut observations);
     let mut successors = [0u64; 64];
     put_masks(x, shape.top, 2, shape.states, &mut successors);
     let mut fairness = [0u64; 8];
@@ -72,13 +81,14 @@ pub fn numbered_machine(shape: Shape, x: u64) -> Machine
     }
 }
 
-// The pair of concrete machine number x and abstract machine number y.
-pub fn numbered_pair(concrete: Shape, abstraction: Shape, x: u64, y: u64) -> Pair
-    ensures { λ r. ⌜ r ≡ numberedPair concrete abstraction x y ⌝ }
+// The pair of concrete machine number x and abstract machine number y, under a hidden mask.
+pub fn numbered_pair(concrete: Shape, abstraction: Shape, hidden: u8, x: u64, y: u64) -> Pair
+    ensures { λ r. ⌜ r ≡ numberedPair concrete abstraction hidden x y ⌝ }
 {
     Pair {
         concrete: numbered_machine(concrete, x),
         abstraction: numbered_machine(abstraction, y),
+        hidden: hidden,
     }
 }
 

@@ -1,7 +1,7 @@
 -- The file laws, each as Statements.antt states it.
 use mathlib.Core.Bool.{Bool, true, false, false≢true, cond}
 use mathlib.Core.Logic.{⊎-elim}
-use mathlib.Core.Path.{_≡_, sym, ap, ap₂, subst, _∙_}
+use mathlib.Core.Path.{_≡_, refl, sym, ap, ap₂, subst, _∙_}
 use mathlib.Core.List.{List, _++_}
 use Prim.Native.Nat.{ℕ, _+_, _*_, _/_, _%_, _≤_, _<_}
 use native.Mathlib.Omega.{arith}
@@ -10,7 +10,7 @@ use lib.ListN.{length, getD, take, drop, length-append, length-drop, List·getD-
 use lib.Seq.{getD-take, take-at, take-all, length-take-le}
 use borrow.Author.Tests.{eq-eqb, ne-eqb, eqb-true, eqb-false}
 use Rattle.mask.specs.Logic.{not, or}
-use Rattle.mask.specs.LogicLaws.{dec, or-false, not-f}
+use Rattle.mask.specs.LogicLaws.{dec, and-true-l, or-false, not-f}
 use Rattle.mask.specs.BoundedLaws.{every-cong}
 use Rattle.mask.specs.TablesLaws.{table-length}
 use Rattle.machine.specs.declared.Machine.{Machine}
@@ -22,10 +22,11 @@ use Rattle.machine.specs.Machines.{nC, nA, setsC, setsA}
 use Rattle.machine.specs.Table.{entries, tableRoom}
 use Rattle.machine.specs.WellFormed.{wellFormed, beyondCounts, stuckState, contentValidity, pairValidity}
 use Rattle.machine.specs.WellFormedLaws.{valid-is-well}
+use Rattle.machine.specs.HiddenLaws.{matched-zero}
 use Rattle.codec.specs.Format.{letters, fileLength, fileOf}
 use Rattle.codec.specs.Reader.{inputRoom, taken, checkHolds, numberHolds, blockHolds, headerByte, noteOf, headerHolds, countsHold, firstValidity, demanded, badBlock, paddingHolds, blocksValidity, payloadOf, machineAt, pairOf, entriesOf, readValidity, readAnswer, readTable, sizeOf}
 use Rattle.codec.specs.Writer.{fileRoom, writeValidity, writeAnswer, writeBuffer}
-use Rattle.codec.specs.Statements.{Representable, WriteRead, ReadWrite, TableUnread, FirstBlock, FirstBlockTellsSize, TakenRepresentable, TakenFits, WriteAnswers, WrittenReads, ReadWrites, EntriesUnread}
+use Rattle.codec.specs.Statements.{Representable, AreBytes, WriteRead, ReadWrite, TableUnread, FirstBlock, FirstBlockTellsSize, TakenRepresentable, TakenHidden, StoredTest, StoredMatched, TakenFits, WriteAnswers, WrittenReads, ReadWrites, EntriesUnread}
 use Rattle.codec.specs.NumberLaws.{number-cong}
 use Rattle.codec.specs.FormatLaws.{check-cong, file-length, file-cong}
 use Rattle.codec.specs.WriterLaws as writer
@@ -87,6 +88,10 @@ entries-length : (f : List ℕ) → length (entriesOf f) ≡ entries (pairOf f)
 unfolding entriesOf
 entries-length f = table-length (entries (pairOf f)) _
 
+header-bytes : (f : List ℕ) → AreBytes f → (k : ℕ) → headerByte f k < 256
+unfolding headerByte
+header-bytes f b k = b (2 + k)
+
 pub taken-representable : TakenRepresentable
 unfolding pairOf
 taken-representable f lent p note b e =
@@ -96,7 +101,20 @@ taken-representable f lent p note b e =
     subst Representable (w .pair-is) (record {
       concrete = machine-representable Q 16 (headerByte f 4) (headerByte f 6) bytes;
       abstraction = machine-representable Q (24 + 9 * headerByte f 4 + 8 * headerByte f 6) (headerByte f 5) (headerByte f 7) bytes;
+      hidden-byte = header-bytes f b 8;
     })
+
+-- ---- the hidden mask
+pub taken-hidden : TakenHidden
+unfolding pairOf
+taken-hidden f lent p note e = sym (ap (λ (q : Pair). q .hidden) (was-taken f lent p note e .pair-is))
+
+pub stored-test : StoredTest
+unfolding headerHolds
+stored-test f e = rw (eq-eqb (headerByte f 8) 0 e, and-true-l _ refl)
+
+pub stored-matched : StoredMatched
+stored-matched f lent p note e z = matched-zero p (taken-hidden f lent p note e ∙ z)
 
 pub taken-fits : TakenFits
 taken-fits f lent p note e =
@@ -184,7 +202,6 @@ module _ (f g : List ℕ) (start : take 512 f ≡ take 512 g) where
   unfolding headerHolds
   holds-same = rw (
     every-cong 4 _ _ (λ i h. ap (λ (x : ℕ). eqb x (getD letters i 0)) (header-same i (omega arith))),
-    header-same 8 (omega arith),
     header-same 9 (omega arith),
     every-cong 6 _ _ (λ i h. ap (λ (x : ℕ). eqb x 0) (header-same (10 + i) (omega arith))),
   )

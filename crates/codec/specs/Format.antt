@@ -30,9 +30,10 @@ numberAt n s at = sum n (λ i. getD s (at + i) 0 * 256 ^ i)
 abbrev pub letters : List ℕ
 letters = 68 ∷ 79 ∷ 77 ∷ 49 ∷ []
 
--- "16 bytes: the letters DOM1 in ASCII, then nC, nA, m, n, a zero, a byte that is 1 if a table follows and else 0, six zeros"
+-- "16 bytes: the letters DOM1 in ASCII, then nC, nA, m, n, a zero, a byte that is 1 if a table follows and else 0, six zeros". Document 02, No. 4:
+-- "The header's zero after n becomes the hidden mask".
 unfoldable pub header : Pair → Bool → List ℕ
-header p note = letters ++ (nC p ∷ nA p ∷ setsC p ∷ setsA p ∷ 0 ∷ cond note 1 0 ∷ 0 ∷ 0 ∷ 0 ∷ 0 ∷ 0 ∷ 0 ∷ [])
+header p note = letters ++ (nC p ∷ nA p ∷ setsC p ∷ setsA p ∷ p .hidden ∷ cond note 1 0 ∷ 0 ∷ 0 ∷ 0 ∷ 0 ∷ 0 ∷ 0 ∷ [])
 
 -- "observations, start mask, successor masks, sets"
 unfoldable pub machineBytes : Machine → List ℕ

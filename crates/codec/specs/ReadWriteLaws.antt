@@ -68,12 +68,11 @@ module _ (f : List ℕ) (b : AreBytes f) (w : Whole f) where
   header-stands =
       let P = payloadOf f (length f / 512) in
       let t = w .start .header in
-      let u = and-r _ _ t in
-      let v = and-r _ _ u in
+      let v = and-r _ _ t in
       let zero-at : (i : ℕ) → i < 6 → getD P (10 + i) 0 ≡ 0 = λ i h. joined-header (10 + i) (omega arith) ∙ eqb-true _ 0 (every-at 6 _ (and-r _ _ v) i h) in
       let from10 : List ℕ = 0 ∷ 0 ∷ 0 ∷ 0 ∷ 0 ∷ 0 ∷ [] in
       let from9 : List ℕ = cond (eqb (headerByte f 9) 1) 1 0 ∷ from10 in
-      let from8 : List ℕ = 0 ∷ from9 in
+      let from8 : List ℕ = headerByte f 8 ∷ from9 in
       let from7 : List ℕ = headerByte f 7 ∷ from8 in
       let from6 : List ℕ = headerByte f 6 ∷ from7 in
       let from5 : List ℕ = headerByte f 5 ∷ from6 in
@@ -84,7 +83,7 @@ module _ (f : List ℕ) (b : AreBytes f) (w : Whole f) where
       (stands-cons _ from6 P 5 (joined-header 5 (omega arith))
       (stands-cons _ from7 P 6 (joined-header 6 (omega arith))
       (stands-cons _ from8 P 7 (joined-header 7 (omega arith))
-      (stands-cons _ from9 P 8 (joined-header 8 (omega arith) ∙ eqb-true _ 0 (and-l _ _ u))
+      (stands-cons _ from9 P 8 (joined-header 8 (omega arith))
       (stands-cons _ from10 P 9 (joined-header 9 (omega arith) ∙ byte-note (headerByte f 9) (and-l _ _ v))
       (λ i h. zero-at i h ∙ sym (getD-replicate {A = ℕ} 6 i 0 0 h))))))))
 

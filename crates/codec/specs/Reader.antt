@@ -52,11 +52,11 @@ headerByte f k = getD f (2 + k) 0
 unfoldable pub noteOf : List ℕ → Bool
 noteOf f = eqb (headerByte f 9) 1
 
--- 4: "letters, a zero or the table byte wrong"
+-- 4: "letters, a zero or the table byte wrong"; byte 8, the hidden mask, is left alone
 unfoldable pub headerHolds : List ℕ → Bool
 headerHolds f =
     and (every 4 (λ i. eqb (headerByte f i) (getD letters i 0)))
-    (and (eqb (headerByte f 8) 0) (and (leb (headerByte f 9) 1) (every 6 (λ i. eqb (headerByte f (10 + i)) 0))))
+    (and (leb (headerByte f 9) 1) (every 6 (λ i. eqb (headerByte f (10 + i)) 0)))
 
 -- 5, by the first block
 unfoldable pub countsHold : List ℕ → Bool
@@ -110,13 +110,17 @@ machineAt Q at N sets = record {
   fairness = table 8 (λ k. cond (ltb k sets) (numberAt 8 Q (at + 9 * N + 8 + 8 * k)) 0);
 }
 
--- the machines of a file whose blocks hold
+-- the machines and the hidden mask of a file whose blocks hold
 unfoldable pub pairOf : List ℕ → Pair
 pairOf f =
     let Q = payloadOf f (length f / 512) in
     let c = headerByte f 4 in
     let m = headerByte f 6 in
-    record { concrete = machineAt Q 16 c m; abstraction = machineAt Q (24 + 9 * c + 8 * m) (headerByte f 5) (headerByte f 7) }
+    record {
+      concrete = machineAt Q 16 c m;
+      abstraction = machineAt Q (24 + 9 * c + 8 * m) (headerByte f 5) (headerByte f 7);
+      hidden = headerByte f 8;
+    }
 
 -- its table's entries
 unfoldable pub entriesOf : List ℕ → List ℕ
@@ -143,9 +147,9 @@ tableOf f = cond (noteOf f) (entriesOf f) []
 unfoldable pub readTable : List ℕ → List ℕ → List ℕ
 readTable f T = bufferAfter (readValidity f (length T)) (tableOf f) T
 
--- "Beside a refusal all machines .. in the result are zero"
+-- "Beside a refusal all machines .. in the result are zero", and so is the hidden mask
 unfoldable pub zeroMachine : Machine
 zeroMachine = record { states = 0; sets = 0; start = 0; observations = replicate 64 0; successors = replicate 64 0; fairness = replicate 8 0 }
 
 unfoldable pub zeroPair : Pair
-zeroPair = record { concrete = zeroMachine; abstraction = zeroMachine }
+zeroPair = record { concrete = zeroMachine; abstraction = zeroMachine; hidden = 0 }

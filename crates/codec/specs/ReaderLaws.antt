@@ -17,7 +17,9 @@ use Rattle.mask.specs.Tables.{table}
 use Rattle.mask.specs.TablesLaws.{table-length, table-cong}
 use Rattle.machine.specs.Refusals.{Tested, valid, refused, andThen, bufferAfter, refusal, short-buffer, wrong-length}
 use Rattle.machine.specs.RefusalsLaws.{valid-next, then-of, then-refused, then-then, buffer-valid, buffer-short, buffer-made}
+use Rattle.machine.specs.declared.Machine.{Machine}
 use Rattle.machine.specs.declared.Refusal.{Refusal}
+use Rattle.machine.specs.HiddenLaws.{pairUnder}
 use Rattle.machine.specs.WellFormed.{pairValidity}
 use Rattle.machine.specs.WellFormedLaws.{counts-at, mul-bound}
 use Rattle.machine.specs.Table.{tableRoom}
@@ -180,11 +182,15 @@ pub machines-fit : (f : List ℕ) → 32 + 9 * (headerByte f 4 + headerByte f 5)
 unfolding payloadDemanded payloadLength
 machines-fit f = omega arith
 
-pub pair-is : (f Q : List ℕ) → Loaded f Q → let c = headerByte f 4 in let m = headerByte f 6 in
-    record { concrete = machineAt Q 16 c m; abstraction = machineAt Q (24 + 9 * c + 8 * m) (headerByte f 5) (headerByte f 7) } ≡ pairOf f
+pub pair-is : (f Q : List ℕ) (concrete abstraction : Machine) (hidden : ℕ) → Loaded f Q → concrete ≡ machineAt Q 16 (headerByte f 4) (headerByte f 6)
+    → abstraction ≡ machineAt Q (24 + 9 * headerByte f 4 + 8 * headerByte f 6) (headerByte f 5) (headerByte f 7) → hidden ≡ headerByte f 8
+    → pairUnder hidden concrete abstraction ≡ pairOf f
 unfolding pairOf
-pair-is f Q w =
+pair-is f Q concrete abstraction hidden w ec ea eh =
     rw (
+      ec,
+      ea,
+      eh,
       machine-cong Q (payloadOf f (length f / 512)) (w .same) 16 (headerByte f 4) (headerByte f 6),
       machine-cong Q (payloadOf f (length f / 512)) (w .same) (24 + 9 * headerByte f 4 + 8 * headerByte f 6) (headerByte f 5) (headerByte f 7),
     )

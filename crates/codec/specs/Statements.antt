@@ -3,18 +3,21 @@
 use mathlib.Core.Bool.{Bool, true, false, cond}
 use mathlib.Core.List.{List, _++_}
 use mathlib.Core.Path.{_≡_}
-use Prim.Native.Nat.{ℕ, _≤_, _<_, _%_, _^_}
+use Prim.Native.Nat.{ℕ, _+_, _≤_, _<_, _%_, _^_}
 use lib.ListN.{length, getD, take, drop}
+use lib.Dec.{eqb, leb}
+use Rattle.mask.specs.Logic.{and}
+use Rattle.mask.specs.Bounded.{every}
 use Rattle.mask.specs.Tables.{table}
 use Rattle.machine.specs.declared.Machine.{Machine}
 use Rattle.machine.specs.declared.Pair.{Pair}
 use Rattle.machine.specs.declared.Refusal.{Refusal}
 use Rattle.machine.specs.Table.{entries, tableRoom, AreEntries, SameEntries}
 use Rattle.machine.specs.WellFormed.{wellFormed}
-use Rattle.machine.specs.Machines.{nC, nA, setsC, setsA}
+use Rattle.machine.specs.Machines.{observation, matched, nC, nA, setsC, setsA}
 use Rattle.machine.specs.Refusals.{answer, refused}
-use Rattle.codec.specs.Format.{fileLength, fileOf}
-use Rattle.codec.specs.Reader.{inputRoom, taken, firstValidity, demanded, entriesOf, readAnswer, readTable, sizeOf}
+use Rattle.codec.specs.Format.{letters, fileLength, fileOf}
+use Rattle.codec.specs.Reader.{inputRoom, taken, headerByte, headerHolds, firstValidity, demanded, entriesOf, readAnswer, readTable, sizeOf}
 use Rattle.codec.specs.Writer.{fileRoom, writeAnswer, writeBuffer}
 
 -- what the types of the code give of a machine, whoever made it
@@ -30,6 +33,7 @@ pub record RepresentableMachine (m : Machine) : Type 0 where
 pub record Representable (p : Pair) : Type 0 where
   pub concrete : RepresentableMachine (p .concrete)
   pub abstraction : RepresentableMachine (p .abstraction)
+  pub hidden-byte : p .hidden < 256
 
 -- and of a list of bytes
 abbrev pub AreBytes : List ℕ → Type 0
@@ -66,6 +70,21 @@ FirstBlockTellsSize = (f : List ℕ) → (length f ≡ 0 → ⊥) → length f %
 -- the machines are such as the code's types have
 abbrev pub TakenRepresentable : Type 0
 TakenRepresentable = (f lent : List ℕ) (p : Pair) (note : Bool) → AreBytes f → readAnswer f lent ≡ answer (taken p note) → Representable p
+
+-- the hidden mask is the header's byte after n, whatever its value
+abbrev pub TakenHidden : Type 0
+TakenHidden = (f lent : List ℕ) (p : Pair) (note : Bool) → readAnswer f lent ≡ answer (taken p note) → p .hidden ≡ headerByte f 8
+
+-- Document 02, No. 4: "Stored files have 0 and keep their meaning." Where that byte is 0, test 4 is document 01's, which asks for a zero there,
+abbrev pub StoredTest : Type 0
+StoredTest = (f : List ℕ) → headerByte f 8 ≡ 0
+    → headerHolds f ≡ and (every 4 (λ i. eqb (headerByte f i) (getD letters i 0)))
+    (and (eqb (headerByte f 8) 0) (and (leb (headerByte f 9) 1) (every 6 (λ i. eqb (headerByte f (10 + i)) 0))))
+
+-- and the pairs that are matched are document 01's, those with equal observations
+abbrev pub StoredMatched : Type 0
+StoredMatched = (f lent : List ℕ) (p : Pair) (note : Bool) → readAnswer f lent ≡ answer (taken p note) → headerByte f 8 ≡ 0
+    → (c a : ℕ) → matched p c a ≡ eqb (observation (p .concrete) c) (observation (p .abstraction) a)
 
 -- the file has room where any file has, so that its first 59,904 bytes are all of it
 abbrev pub TakenFits : Type 0

@@ -118,13 +118,16 @@ module _ (p : Pair) (note : Bool) (T : List ℕ) (w : WellPair p) where
   unfolding headerHolds header
   header-is =
       and-i (every-of 4 _ (λ i h. eq-eqb _ _ (header-byte i (omega arith) ∙ header-letters p note i h)))
-      (and-i (eq-eqb _ _ (header-byte 8 (omega arith)))
       (and-i (ap (λ (x : ℕ). leb x 1) (header-byte 9 (omega arith)) ∙ note-low note)
-      (every-of 6 _ (λ i h. eq-eqb _ _ (header-byte (10 + i) (omega arith) ∙ header-zeros p note i h)))))
+      (every-of 6 _ (λ i h. eq-eqb _ _ (header-byte (10 + i) (omega arith) ∙ header-zeros p note i h))))
 
   counts-are : (headerByte (fileOf p note T) 4 ≡ nC p) × (headerByte (fileOf p note T) 5 ≡ nA p) × (headerByte (fileOf p note T) 6 ≡ setsC p) × (headerByte (fileOf p note T) 7 ≡ setsA p)
   unfolding header
   counts-are = (header-byte 4 (omega arith), header-byte 5 (omega arith), header-byte 6 (omega arith), header-byte 7 (omega arith))
+
+  hidden-is : headerByte (fileOf p note T) 8 ≡ p .hidden
+  unfolding header
+  hidden-is = header-byte 8 (omega arith)
 
   counts-hold : countsHold (fileOf p note T) ≡ true
   unfolding countsHold
@@ -175,6 +178,7 @@ module _ (p : Pair) (note : Bool) (T : List ℕ) (w : WellPair p) where
       (λ i. record {
         concrete = machine-reads 8 (p .concrete) P 16 (r .concrete) (w .concrete) (parts .concrete) i;
         abstraction = machine-reads 7 (p .abstraction) P (24 + 9 * nC p + 8 * setsC p) (r .abstraction) (w .abstraction) (parts .abstraction) i;
+        hidden = hidden-is i;
       })
 
   table-is : note ≡ true → tableBytes p note T ≡ numbers 2 (entries p) (λ e. getD T e 0)

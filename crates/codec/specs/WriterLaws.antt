@@ -69,10 +69,10 @@ note-byte true = refl
 note-byte false = refl
 
 pub store-header : (p : Pair) (note : Bool) (l s t : List ℕ) → 16 ≤ length l → length s ≡ length l → s ≡ paste l 0 (drop 0 letters) 4
-    → t ≡ paste s 4 (drop 0 (nC p ∷ nA p ∷ setsC p ∷ setsA p ∷ 0 ∷ boolByte note ∷ 0 ∷ 0 ∷ 0 ∷ 0 ∷ 0 ∷ 0 ∷ [])) 12 → t ≡ sets l 0 (header p note)
+    → t ≡ paste s 4 (drop 0 (nC p ∷ nA p ∷ setsC p ∷ setsA p ∷ p .hidden ∷ boolByte note ∷ 0 ∷ 0 ∷ 0 ∷ 0 ∷ 0 ∷ 0 ∷ [])) 12 → t ≡ sets l 0 (header p note)
 unfolding header table
 store-header p note l s t room kept e f =
-    pasted s (nC p ∷ nA p ∷ setsC p ∷ setsA p ∷ 0 ∷ boolByte note ∷ 0 ∷ 0 ∷ 0 ∷ 0 ∷ 0 ∷ 0 ∷ []) t 4 0 12 (omega arith) (omega arith) f
+    pasted s (nC p ∷ nA p ∷ setsC p ∷ setsA p ∷ p .hidden ∷ boolByte note ∷ 0 ∷ 0 ∷ 0 ∷ 0 ∷ 0 ∷ 0 ∷ []) t 4 0 12 (omega arith) (omega arith) f
     ∙ rw (pasted l letters s 0 0 4 (omega arith) (omega arith) e, note-byte note)
 
 -- ---- a machine: observations, start mask, successor masks, sets

@@ -119,15 +119,12 @@ fn note_of(bytes: &[u8]) -> bool
     header_byte(bytes, 9) == 1
 }
 
-// Whether the header has its letters, its zeros, and a table byte of 0 or 1.
+// Whether the header has its letters, six zeros, and a table byte of 0 or 1.
 fn header_holds(bytes: &[u8]) -> bool
     requires { ⌜ 512 ≤ length (now bytes) ⌝ }
     ensures { λ r. ⌜ r ≡ headerHolds (now (bytes .entry)) ⌝ }
 {
     if !letters_hold(bytes) {
-        return false;
-    }
-    if header_byte(bytes, 8) != 0 {
         return false;
     }
     if 1 < header_byte(bytes, 9) {
@@ -335,7 +332,7 @@ fn machine_at(q: &[u8], at: usize, n: usize, sets: usize) -> Machine
     }
 }
 
-// The machines of a file whose payload is loaded.
+// The machines and the hidden mask of a file whose payload is loaded.
 fn pair_at(bytes: &[u8], q: &[u8]) -> Pair
     requires { ⌜ Loaded (now bytes) (now q) ⌝ }
     ensures { λ r. ⌜ r ≡ pairOf (now (bytes .entry)) ⌝ }
@@ -344,9 +341,11 @@ fn pair_at(bytes: &[u8], q: &[u8]) -> Pair
     let a = header_byte(bytes, 5);
     let m = header_byte(bytes, 6);
     let n = header_byte(bytes, 7);
+    let hidden = header_byte(bytes, 8) as u8;
     Pair {
         concrete: machine_at(q, 16, c, m),
         abstraction: machine_at(q, 24 + 9 * c + 8 * m, a, n),
+        hidden: hidden,
     }
 }
 
@@ -390,6 +389,7 @@ fn refused_show(r: Refusal) -> Show
         pair: Pair {
             concrete: zero_machine(),
             abstraction: zero_machine(),
+            hidden: 0,
         },
         reading: Reading::Refused(r),
     }

@@ -79,7 +79,7 @@ fn put_machine(out: &mut [u8], at: usize, m: Machine) -> usize
     sets_at + 8 * sets
 }
 
-// Writes the header: the letters, the counts and the note whether a table follows.
+// Writes the header: the letters, the counts, the hidden mask and the note whether a table follows.
 fn put_header(out: &mut [u8], p: Pair, with_table: bool)
     requires { ⌜ (p .concrete .states ≤ 64) × ((p .concrete .sets ≤ 8) × ((p .abstraction .states ≤ 64) × (p .abstraction .sets ≤ 8))) ⌝ }
     requires { ⌜ 16 ≤ length (now out) ⌝ }
@@ -92,7 +92,7 @@ fn put_header(out: &mut [u8], p: Pair, with_table: bool)
         a.states as u8,
         c.sets as u8,
         a.sets as u8,
-        0,
+        p.hidden,
         with_table as u8,
         0,
         0,

@@ -1,4 +1,5 @@
 // Compares solver, check and player with brute force on series of small pairs, and writes a line of counts for each.
+ghost use mathlib.Core.Bool.{true, false};
 ghost use mathlib.Core.Path.{_≡_};
 use brute::Shape;
 use comparison::Numbers;
@@ -33,6 +34,10 @@ fn line(s: Series) {
     let c = s.concrete;
     let a = s.abstraction;
     let t = comparison::compare(s);
+    if c.twos != 0 {
+        show(b"hidden ", s.hidden as u64);
+        io::write_all(STDOUT_FILENO, b", ");
+    }
     show(b"states ", c.states as u64);
     show(b" and ", a.states as u64);
     show(b", sets ", c.sets as u64);
@@ -40,11 +45,24 @@ fn line(s: Series) {
     counts(t);
 }
 
-// A machine's states and sets, and the greatest digit: 2^states - 1, so that a mask can be any set of states.
-fn shape(states: usize, sets: usize, top: u32) -> Shape
-    ensures { λ r. ⌜ r ≡ record { states = states; sets = sets; top = top } ⌝ }
+// A machine's states and sets, the greatest digit, 2^states - 1, so that a mask can be any set of states, and the states whose observation has
+// 2 added.
+fn shape_with(states: usize, sets: usize, top: u32, twos: u64) -> Shape
+    ensures { λ r. ⌜ r ≡ record { states = states; sets = sets; top = top; twos = twos } ⌝ }
 {
-    Shape { states, sets, top }
+    Shape {
+        states,
+        sets,
+        top,
+        twos,
+    }
+}
+
+// The same, with observations 0 and 1 only.
+fn shape(states: usize, sets: usize, top: u32) -> Shape
+    ensures { λ r. ⌜ r ≡ record { states = states; sets = sets; top = top; twos = 0 } ⌝ }
+{
+    shape_with(states, sets, top, 0)
 }
 
 // The numbers 0, step, 2 x step, .., so many of them.
@@ -54,34 +72,69 @@ fn numbers(count: u32, step: u32) -> Numbers
     Numbers { count, step }
 }
 
-// Tiny pairs, with all the tables that they have.
-fn tiny(c: Shape, x: Numbers, a: Shape, y: Numbers, tables: u64) {
+// All tables of a tiny pair, and lassos with a stem of at most two states.
+fn every_table(tables: u64) -> Trial
+    ensures { λ r. ⌜ r ≡ record { every = true; tables = tables; stem = 2 } ⌝ }
+{
+    Trial {
+        every: true,
+        tables,
+        stem: 2,
+    }
+}
+
+// The solver's table and all that differ from it in one entry, and lassos with a stem of at most one state.
+fn altered_tables(tables: u64) -> Trial
+    ensures { λ r. ⌜ r ≡ record { every = false; tables = tables; stem = 1 } ⌝ }
+{
+    Trial {
+        every: false,
+        tables,
+        stem: 1,
+    }
+}
+
+// Pairs under a hidden mask.
+fn under(hidden: u8, c: Shape, x: Numbers, a: Shape, y: Numbers, trial: Trial) {
     line(Series {
         concrete: c,
         concretes: x,
         abstraction: a,
         abstractions: y,
-        trial: Trial {
-            every: true,
-            tables,
-            stem: 2,
-        },
+        hidden,
+        trial,
     });
+}
+
+// Tiny pairs, with all the tables that they have.
+fn tiny(c: Shape, x: Numbers, a: Shape, y: Numbers, tables: u64) {
+    under(0, c, x, a, y, every_table(tables));
 }
 
 // Other pairs, with the solver's table and all that differ from it in one entry.
 fn small(c: Shape, x: Numbers, a: Shape, y: Numbers, tables: u64) {
-    line(Series {
-        concrete: c,
-        concretes: x,
-        abstraction: a,
-        abstractions: y,
-        trial: Trial {
-            every: false,
-            tables,
-            stem: 1,
-        },
-    });
+    under(0, c, x, a, y, altered_tables(tables));
+}
+
+// Pairs with observations from 0 to 3 under a hidden mask, which are two of the other series but for the observations: with bit 1 hidden their
+// counts are the same.
+fn masked(hidden: u8) {
+    under(
+        hidden,
+        shape_with(1, 1, 1, 1),
+        numbers(16, 1),
+        shape_with(2, 1, 3, 2),
+        numbers(1024, 1),
+        every_table(25),
+    );
+    under(
+        hidden,
+        shape_with(2, 2, 3, 2),
+        numbers(32, 119),
+        shape_with(3, 2, 7, 5),
+        numbers(32, 60811),
+        altered_tables(180),
+    );
 }
 
 // The lengths of a machine's rings, and its sets.
@@ -194,6 +247,10 @@ fn main() {
         numbers(16, 121013),
         378,
     );
+    masked(0);
+    masked(1);
+    masked(2);
+    masked(3);
     io::write_all(STDOUT_FILENO, b"rings with ends that stay");
     counts(staying());
     io::write_all(STDOUT_FILENO, b"rings with an end that leads back");

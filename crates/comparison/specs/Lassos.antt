@@ -18,9 +18,9 @@ use Rattle.comparison.specs.Answers.{playedFour, sameFour}
 use Rattle.comparison.specs.Tallies.{total, ofLasso}
 use Rattle.comparison.specs.Tables.{zeros}
 
--- two lassos have the same observations at the first n moments
+-- two lassos have the same observations, in the bits that are not hidden, at the first n moments
 unfoldable pub sameMoments : Pair → Lasso → Lasso → ℕ → Bool
-sameMoments p l k n = every n (λ t. sameObservation (observation (p .concrete) (moment l t)) (observation (p .abstraction) (moment k t)))
+sameMoments p l k n = every n (λ t. sameObservation (p .hidden) (observation (p .concrete) (moment l t)) (observation (p .abstraction) (moment k t)))
 
 -- the first s + q states of B are the rule's run, and with a stem of s a play of the abstract machine with the lasso's observations
 unfoldable pub runFits : Pair → List ℕ → Lasso → List ℕ → ℕ → ℕ → Bool

@@ -45,7 +45,7 @@ module _ (p : Pair) (T : List ℕ) (l : Lasso) (B : List ℕ) where
         fits-no-play f = and-true-l _ (le-leb _ _ h) ∙ and-true-l _ e ∙ and-false-l _ (rw en at f)
 
         pub fits-play : (r : Bool) → isPlay (p .abstraction) (given (take s B) (take n (drop s B))) ≡ true
-            → r ≡ every (s + q) (λ t. sameObservation (observation (p .concrete) (moment l t))
+            → r ≡ every (s + q) (λ t. sameObservation (p .hidden) (observation (p .concrete) (moment l t))
             (observation (p .abstraction) (moment (given (take s B) (take n (drop s B))) t)))
             → r ≡ runFits p T l B s q
         unfolding runFits sameMoments

@@ -57,7 +57,7 @@ module _ (t : Trial) where
 module _ (s : Series) where
   -- the pairs of concrete machine number x
   unfoldable pub rowTally : ℕ → Tally
-  rowTally x = total (s .abstractions .count) (λ i. pairTally (s .trial) (numberedPair (s .concrete) (s .abstraction) x (i * s .abstractions .step)))
+  rowTally x = total (s .abstractions .count) (λ i. pairTally (s .trial) (numberedPair (s .concrete) (s .abstraction) (s .hidden) x (i * s .abstractions .step)))
 
   -- all pairs of the series
   unfoldable pub seriesTally : Tally

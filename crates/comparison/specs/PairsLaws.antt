@@ -101,9 +101,9 @@ module _ (t : Trial) (p : Pair) (v u : Tested) (x y : Refusal) (same : Bool) (tr
   pair-formed e S formed r eS ef er = rw (er, ef, eS) (sym (pair-at ∙ rw e))
 
 module _ (s : Series) where
-  pub row-is : (x n : ℕ) (r : Tally) → n ≡ s .abstractions .count → r ≡ total n (λ i. pairTally (s .trial) (numberedPair (s .concrete) (s .abstraction) x (i * s .abstractions .step))) → r ≡ rowTally s x
+  pub row-is : (x n : ℕ) (r : Tally) → n ≡ s .abstractions .count → r ≡ total n (λ i. pairTally (s .trial) (numberedPair (s .concrete) (s .abstraction) (s .hidden) x (i * s .abstractions .step))) → r ≡ rowTally s x
   unfolding rowTally
-  row-is x n r e er = er ∙ ap (λ k. total k (λ i. pairTally (s .trial) (numberedPair (s .concrete) (s .abstraction) x (i * s .abstractions .step)))) e
+  row-is x n r e er = er ∙ ap (λ k. total k (λ i. pairTally (s .trial) (numberedPair (s .concrete) (s .abstraction) (s .hidden) x (i * s .abstractions .step)))) e
 
   pub series-is : (n : ℕ) (r : Tally) → n ≡ s .concretes .count → r ≡ total n (λ i. rowTally s (i * s .concretes .step)) → r ≡ seriesTally s
   unfolding seriesTally

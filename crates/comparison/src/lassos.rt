@@ -40,7 +40,16 @@ fn run_fits(
     if !brute::is_play(p.abstraction, front, back) {
         return false;
     }
-    brute::same_until(p.concrete, stem, cycle, p.abstraction, front, back, s + q)
+    brute::same_until(
+        p.hidden,
+        p.concrete,
+        stem,
+        cycle,
+        p.abstraction,
+        front,
+        back,
+        s + q,
+    )
 }
 
 // Whether the player's answer is the rule's, and its run fits.

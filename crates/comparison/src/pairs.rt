@@ -32,12 +32,13 @@ pub struct Trial {
     pub stem: usize,
 }
 
-// The pairs of some concrete and some abstract machines, and what is tried of each.
+// The pairs of some concrete and some abstract machines under a hidden mask, and what is tried of each.
 pub struct Series {
     pub concrete: Shape,
     pub concretes: Numbers,
     pub abstraction: Shape,
     pub abstractions: Numbers,
+    pub hidden: u8,
     pub trial: Trial,
 }
 
@@ -125,7 +126,7 @@ fn compare_row(s: Series, x: u64) -> Tally
     let mut sum = none();
     for i in 0..numbers.count {
         let y = i as u64 * numbers.step as u64;
-        let p = brute::numbered_pair(s.concrete, s.abstraction, x, y);
+        let p = brute::numbered_pair(s.concrete, s.abstraction, s.hidden, x, y);
         sum = add(sum, compare_pair(p, s.trial));
     }
     sum

@@ -1,5 +1,5 @@
 -- Document 01, "Shelf examples", cases 1 to 12, as one fact about one list, by computation; and a second list of small cases with two
--- concrete states or with more than one set, which tell slips that cases 1 to 12 do not tell.
+-- concrete states, with more than one set or with a hidden mask, which tell slips that cases 1 to 12 do not tell.
 use mathlib.Core.List.{List, [], _∷_}
 use mathlib.Core.Path.{_≡_, refl}
 use Prim.Native.Nat.{ℕ}
@@ -37,7 +37,11 @@ machineOf observations successors sets = record {
 -- "By" has the rig before it and the score after it.
 infix 20 _by_
 _by_ : Machine → Machine → Pair
-C by A = record { concrete = C; abstraction = A }
+C by A = record { concrete = C; abstraction = A; hidden = 0 }
+
+-- the same machines under a hidden mask
+under : ℕ → Pair → Pair
+under hidden p = record { concrete = p .concrete; abstraction = p .abstraction; hidden = hidden }
 
 -- K with its observation and its sets
 K : ℕ → List ℕ → Machine
@@ -117,7 +121,16 @@ cases = refl
 Two : List ℕ → Machine
 Two sets = machineOf (0 ∷ 0 ∷ []) (1 ∷ 1 ∷ []) sets
 
--- cases with two concrete states, or with more than one set
+-- a concrete machine that shows a lamp, bit 2, in every second state
+Lamp : Machine
+Lamp = machineOf (0 ∷ 4 ∷ []) (2 ∷ 1 ∷ []) (3 ∷ [])
+
+-- an abstract machine that goes from 0 to 1 or 2 and back, and shows the lamp in 2
+Choice : Machine
+Choice = machineOf (0 ∷ 0 ∷ 4 ∷ []) (6 ∷ 1 ∷ 1 ∷ []) (7 ∷ [])
+
+-- cases with two concrete states, or with more than one set; then case 4 with bit 0 hidden and with bit 1 hidden, a lamp that is compared and one
+-- that is hidden, and a play in which the hidden lamp leaves the lowest state to be taken
 askedMore : List Reply
 askedMore =
     solve (Two (2 ∷ []) by K 0 (0 ∷ []))
@@ -127,6 +140,15 @@ askedMore =
     ∷ check (K 0 (0 ∷ []) by K 0 (0 ∷ 1 ∷ [])) (blank ∷ 0 ∷ [])
     ∷ solve (K 0 (1 ∷ []) by K 0 (0 ∷ 1 ∷ []))
     ∷ solve (K 0 (1 ∷ 0 ∷ []) by K 0 (0 ∷ 0 ∷ []))
+    ∷ solve (under 1 (K 0 (1 ∷ []) by K 1 (1 ∷ [])))
+    ∷ solveAndCheck (under 1 (K 0 (1 ∷ []) by K 1 (1 ∷ [])))
+    ∷ solve (under 2 (K 0 (1 ∷ []) by K 1 (1 ∷ [])))
+    ∷ solveAndCheck (Lamp by K 0 (1 ∷ []))
+    ∷ solveAndCheck (under 4 (Lamp by K 0 (1 ∷ [])))
+    ∷ solve (Lamp by Choice)
+    ∷ solve (under 4 (Lamp by Choice))
+    ∷ play (Lamp by Choice) (0 ∷ blank ∷ blank ∷ blank ∷ blank ∷ 0 ∷ []) (record { stem = []; loop = 0 ∷ 1 ∷ [] })
+    ∷ play (under 4 (Lamp by Choice)) (0 ∷ 0 ∷ 0 ∷ 0 ∷ 0 ∷ 0 ∷ []) (record { stem = []; loop = 0 ∷ 1 ∷ [] })
     ∷ []
 
 answeredMore : List Reply
@@ -138,8 +160,17 @@ answeredMore =
     ∷ says (refused (refusal 12 2 0 0))
     ∷ solves (blank ∷ blank ∷ [])
     ∷ solves (2 ∷ 2 ∷ [])
+    ∷ solves (0 ∷ [])
+    ∷ says (answer (carried 1))
+    ∷ solves (blank ∷ [])
+    ∷ says (answer (notCarried 0 0))
+    ∷ says (answer (carried 2))
+    ∷ solves (0 ∷ blank ∷ blank ∷ blank ∷ blank ∷ 0 ∷ [])
+    ∷ solves (0 ∷ 0 ∷ 0 ∷ 0 ∷ 0 ∷ 0 ∷ [])
+    ∷ plays (answer (played 0 2)) (0 ∷ 2 ∷ [])
+    ∷ plays (answer (played 0 2)) (0 ∷ 1 ∷ [])
     ∷ []
 
 casesMore : askedMore ≡ answeredMore
-unfolding machineOf _by_ K S Late Early solve check solveAndCheck play askedMore answeredMore Two not and or hasBit every some first sum count everyIn someIn maskOf table observation successors moves starts fairSet inFairSet sameObservation matched next andThen passOn countsOk beyond stateBeyond setBeyond beyondCounts stuckState contentValidity pairValidity moment steps better least partner found stateOf iterate settle pairSet mem sameSet none allMatched goals inX roundX xOver xsOver union levelOver levels turn firstFamily sameFamily family levelOf setOf towerOver tower rankIn solverTable entryIndex entry covers coveredCount nonBlank lower atMost goalLine rankLine passes linesValidity startCovered lackingStart startVerdict linesVerdict badLength badStep missedSet lassoValidity startPartner startValidity sectionAfter follow stepTo placeAt samePlace lastRound earlierRound stemLength loopLength run playValidity playAnswer
+unfolding machineOf _by_ K S Late Early solve check solveAndCheck play askedMore answeredMore Two under Lamp Choice not and or hasBit every some first sum count everyIn someIn maskOf table observation successors moves starts fairSet inFairSet sameObservation matched next andThen passOn countsOk beyond stateBeyond setBeyond beyondCounts stuckState contentValidity pairValidity moment steps better least partner found stateOf iterate settle pairSet mem sameSet none allMatched goals inX roundX xOver xsOver union levelOver levels turn firstFamily sameFamily family levelOf setOf towerOver tower rankIn solverTable entryIndex entry covers coveredCount nonBlank lower atMost goalLine rankLine passes linesValidity startCovered lackingStart startVerdict linesVerdict badLength badStep missedSet lassoValidity startPartner startValidity sectionAfter follow stepTo placeAt samePlace lastRound earlierRound stemLength loopLength run playValidity playAnswer
 casesMore = refl

@@ -14,7 +14,6 @@ use Rattle.mask.specs.Logic.{and, not}
 use Rattle.mask.specs.LogicLaws.{cond-cases, not-e, not-i, not-f, not-not, and-true-l, and-false-l}
 use Rattle.mask.specs.Bounded.{everyIn, someIn}
 use Rattle.mask.specs.BoundedLaws.{everyIn-width, someIn-cong}
-use Rattle.machine.specs.declared.Machine.{Machine}
 use Rattle.machine.specs.declared.Pair.{Pair}
 use Rattle.machine.specs.Machines.{matched, moves, successors, inFairSet, fairSet, next, nC, nA, setsC, setsA, pairs}
 use Rattle.machine.specs.Observed.{matchedMasks}
@@ -28,10 +27,6 @@ use Rattle.machine.specs.Lines.{atMost, rankLine, passes}
 use Rattle.machine.specs.LinesLaws.{goal-bound, inside-bound, outside-bound, passes-covered, blank-passes}
 use Rattle.linecheck.specs.declared.Line.{Line}
 use Rattle.linecheck.specs.Bounds.{lineOf}
-
--- a pair from its machines, as the loops of the check hold it
-abbrev pub asPair : Machine → Machine → Pair
-asPair concrete abstraction = record { concrete = concrete; abstraction = abstraction }
 
 -- ---- the cases of a line
 abbrev pub fails : Line

@@ -108,6 +108,7 @@ fn lines_validity(p: Pair, matched: [u64; 64], table: &[u16]) -> Validity
 {
     let concrete = p.concrete;
     let abstraction = p.abstraction;
+    let hidden = p.hidden;
     let nc = concrete.states;
     let na = abstraction.states;
     let m = concrete.sets;
@@ -182,6 +183,7 @@ fn lacking_start(p: Pair, table: &[u16]) -> usize
 {
     let concrete = p.concrete;
     let abstraction = p.abstraction;
+    let hidden = p.hidden;
     let nc = concrete.states;
     let na = abstraction.states;
     for c in 0..nc {

@@ -46,6 +46,7 @@ fromStart m l = starts m (moment l 0)
 unfoldable pub isPlay : Machine → Lasso → Bool
 isPlay m l = and (isLasso m l) (and (isFair m l) (fromStart m l))
 
--- "for every t, the two states at moment t have equal observations", l of the machine m and k of the machine m′
-unfoldable pub SameObservations : Machine → Lasso → Machine → Lasso → Type 0
-SameObservations m l m′ k = (t : ℕ) → sameObservation (observation m (moment l t)) (observation m′ (moment k t)) ≡ true
+-- "for every t, the two states at moment t have equal observations", l of the machine m and k of the machine m′; by document 02, No. 4, "about
+-- the bits not hidden"
+unfoldable pub SameObservations : ℕ → Machine → Lasso → Machine → Lasso → Type 0
+SameObservations hidden m l m′ k = (t : ℕ) → sameObservation hidden (observation m (moment l t)) (observation m′ (moment k t)) ≡ true

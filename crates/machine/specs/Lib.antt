@@ -13,6 +13,7 @@ pub mod Lines
 pub mod Verdict
 pub mod Player
 -- laws
+pub mod HiddenLaws
 pub mod StepLaws
 pub mod RefusalsLaws
 pub mod WellFormedLaws

@@ -4,6 +4,7 @@
 use mathlib.Core.Bool.{Bool, cond}
 use Prim.Native.Nat.{ℕ, suc, _*_}
 use lib.ListN.{getD}
+use lib.Bits.{bitOr}
 use lib.Dec.{eqb, ltb}
 use Rattle.mask.specs.Bits.{hasBit}
 use Rattle.machine.specs.declared.Machine.{Machine}
@@ -33,9 +34,10 @@ fairSet m k = getD (m .fairness) k 0
 unfoldable pub inFairSet : Machine → ℕ → ℕ → Bool
 inFairSet m k s = hasBit (fairSet m k) s
 
--- two observations are the same
-unfoldable pub sameObservation : ℕ → ℕ → Bool
-sameObservation x y = eqb x y
+-- Document 02, No. 4: "the hidden mask, one byte for both machines; a set bit isn't compared". Two observations are the same in the bits that
+-- are not hidden: with the hidden bits set in both, they are equal.
+unfoldable pub sameObservation : ℕ → ℕ → ℕ → Bool
+sameObservation hidden x y = eqb (bitOr hidden x) (bitOr hidden y)
 
 -- document 01's nC, m, nA, n and P of a pair
 abbrev pub nC : Pair → ℕ
@@ -53,9 +55,9 @@ setsA p = p .abstraction .sets
 abbrev pub pairs : Pair → ℕ
 pairs p = nC p * nA p
 
--- "A pair (c, a) is matched if the observations of c and a are equal"
+-- "A pair (c, a) is matched if the observations of c and a are equal", and by document 02, No. 4, "equal in the other bits", those not hidden
 unfoldable pub matched : Pair → ℕ → ℕ → Bool
-matched p c a = sameObservation (observation (p .concrete) c) (observation (p .abstraction) a)
+matched p c a = sameObservation (p .hidden) (observation (p .concrete) c) (observation (p .abstraction) a)
 
 -- "Sections run 1 to n, and after n comes 1."
 unfoldable pub next : ℕ → ℕ → ℕ

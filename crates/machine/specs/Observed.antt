@@ -8,10 +8,10 @@ use Rattle.mask.specs.Tables.{maskOf, table}
 use Rattle.machine.specs.declared.Pair.{Pair}
 use Rattle.machine.specs.Machines.{observation, sameObservation, nC, nA}
 
--- the states below n, and below 64, whose observation is o
-unfoldable pub sameMask : ℕ → ℕ → List ℕ → ℕ
-sameMask o n observations = maskOf (min n 64) (λ a. sameObservation o (getD observations a 0))
+-- the states below n, and below 64, whose observation is o in the bits that are not hidden
+unfoldable pub sameMask : ℕ → ℕ → ℕ → List ℕ → ℕ
+sameMask hidden o n observations = maskOf (min n 64) (λ a. sameObservation hidden o (getD observations a 0))
 
 -- for each concrete state the mask of the abstract states that are matched with it
 unfoldable pub matchedMasks : Pair → List ℕ
-matchedMasks p = table 64 (λ c. let row = sameMask (observation (p .concrete) c) (nA p) (p .abstraction .observations) in cond (ltb c (nC p)) row 0)
+matchedMasks p = table 64 (λ c. let row = sameMask (p .hidden) (observation (p .concrete) c) (nA p) (p .abstraction .observations) in cond (ltb c (nC p)) row 0)

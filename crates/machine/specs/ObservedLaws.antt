@@ -19,57 +19,57 @@ use Rattle.machine.specs.Observed.{sameMask, matchedMasks}
 use Rattle.machine.specs.WellFormedLaws.{WellPair}
 
 -- ---- the mask of one observation
-module _ (o : ℕ) (observations : List ℕ) where
+module _ (hidden o : ℕ) (observations : List ℕ) where
   abbrev Same : ℕ → Bool
-  Same a = sameObservation o (getD observations a 0)
+  Same a = sameObservation hidden o (getD observations a 0)
 
   low : (n : ℕ) → n ≤ 64 → min n 64 ≡ n
   low n h = omega arith
 
-  pub same-of : (n : ℕ) → n ≤ 64 → sameMask o n observations ≡ maskOf n Same
+  pub same-of : (n : ℕ) → n ≤ 64 → sameMask hidden o n observations ≡ maskOf n Same
   unfolding sameMask
   same-of n h = ap (λ (w : ℕ). maskOf w Same) (low n h)
 
-  pub same-small : (n : ℕ) → n ≤ 64 → sameMask o n observations < 2 ^ n
+  pub same-small : (n : ℕ) → n ≤ 64 → sameMask hidden o n observations < 2 ^ n
   same-small n h = rw (same-of n h) (maskOf-lt n Same)
 
-  pub has-same : (n a : ℕ) → n ≤ 64 → hasBit (sameMask o n observations) a ≡ and (ltb a n) (sameObservation o (getD observations a 0))
+  pub has-same : (n a : ℕ) → n ≤ 64 → hasBit (sameMask hidden o n observations) a ≡ and (ltb a n) (sameObservation hidden o (getD observations a 0))
   has-same n a h = rw (same-of n h) (has-maskOf n Same a)
 
-  pub same-none : sameMask o 0 observations ≡ 0
+  pub same-none : sameMask hidden o 0 observations ≡ 0
   unfolding sameMask maskOf
   same-none = refl
 
-  pub same-hit : (a : ℕ) → a < 64 → sameObservation o (getD observations a 0) ≡ true
-      → withBit (sameMask o a observations) a ≡ sameMask o (a + 1) observations
+  pub same-hit : (a : ℕ) → a < 64 → sameObservation hidden o (getD observations a 0) ≡ true
+      → withBit (sameMask hidden o a observations) a ≡ sameMask hidden o (a + 1) observations
   same-hit a h t = rw (same-of a (omega arith), same-of (a + 1) (omega arith), add-one) (maskOf-hit a Same h t)
 
-  pub same-miss : (a : ℕ) → a < 64 → sameObservation o (getD observations a 0) ≡ false
-      → sameMask o a observations ≡ sameMask o (a + 1) observations
+  pub same-miss : (a : ℕ) → a < 64 → sameObservation hidden o (getD observations a 0) ≡ false
+      → sameMask hidden o a observations ≡ sameMask hidden o (a + 1) observations
   same-miss a h t = rw (same-of a (omega arith), same-of (a + 1) (omega arith), add-one) (maskOf-miss a Same t)
 
   -- states from 64 on make no difference
-  pub same-min : (n : ℕ) → sameMask o (min n 64) observations ≡ sameMask o n observations
+  pub same-min : (n : ℕ) → sameMask hidden o (min n 64) observations ≡ sameMask hidden o n observations
   unfolding sameMask
   same-min n = ap (λ (w : ℕ). maskOf w Same) (low (min n 64) (omega arith))
 
 -- ---- the masks of all concrete states
--- the mask of state c, from the observations and counts of both machines
-unfoldable pub matchedRow : List ℕ → List ℕ → ℕ → ℕ → ℕ → ℕ
-matchedRow concrete abstraction nC nA c = let row = sameMask (getD concrete c 0) nA abstraction in cond (ltb c nC) row 0
+-- the mask of state c, from the hidden mask and the observations and counts of both machines
+unfoldable pub matchedRow : ℕ → List ℕ → List ℕ → ℕ → ℕ → ℕ → ℕ
+matchedRow hidden concrete abstraction nC nA c = let row = sameMask hidden (getD concrete c 0) nA abstraction in cond (ltb c nC) row 0
 
-module _ (concrete abstraction : List ℕ) (nC nA c : ℕ) where
-  pub row-in : c < nC → matchedRow concrete abstraction nC nA c ≡ sameMask (getD concrete c 0) nA abstraction
+module _ (hidden : ℕ) (concrete abstraction : List ℕ) (nC nA c : ℕ) where
+  pub row-in : c < nC → matchedRow hidden concrete abstraction nC nA c ≡ sameMask hidden (getD concrete c 0) nA abstraction
   unfolding matchedRow
   row-in h = rw (lt-ltb c nC h)
 
-  pub row-out : nC ≤ c → matchedRow concrete abstraction nC nA c ≡ 0
+  pub row-out : nC ≤ c → matchedRow hidden concrete abstraction nC nA c ≡ 0
   unfolding matchedRow
   row-out h = rw (le-ltb c nC h)
 
 module _ (p : Pair) where
   abbrev Row : ℕ → ℕ
-  Row = matchedRow (p .concrete .observations) (p .abstraction .observations) (nC p) (nA p)
+  Row = matchedRow (p .hidden) (p .concrete .observations) (p .abstraction .observations) (nC p) (nA p)
 
   matched-table : matchedMasks p ≡ table 64 Row
   unfolding matchedMasks matchedRow observation
@@ -86,18 +86,18 @@ module _ (p : Pair) where
 
 -- of a well-formed pair: the row of c is the mask of the abstract states that are matched with c
 module _ (p : Pair) (well : WellPair p) (c : ℕ) (h : c < nC p) where
-  pub matched-row : getD (matchedMasks p) c 0 ≡ sameMask (observation (p .concrete) c) (nA p) (p .abstraction .observations)
+  pub matched-row : getD (matchedMasks p) c 0 ≡ sameMask (p .hidden) (observation (p .concrete) c) (nA p) (p .abstraction .observations)
   unfolding observation
   matched-row =
       matched-at p c (omega (arith, well .concrete .states-high))
-      ∙ row-in (p .concrete .observations) (p .abstraction .observations) (nC p) (nA p) c h
+      ∙ row-in (p .hidden) (p .concrete .observations) (p .abstraction .observations) (nC p) (nA p) c h
 
   pub has-matched : (a : ℕ) → hasBit (getD (matchedMasks p) c 0) a ≡ and (ltb a (nA p)) (matched p c a)
   unfolding matched observation
-  has-matched a = rw matched-row (has-same _ (p .abstraction .observations) (nA p) a (well .abstraction .states-high))
+  has-matched a = rw matched-row (has-same (p .hidden) _ (p .abstraction .observations) (nA p) a (well .abstraction .states-high))
 
   pub has-matched-at : (a : ℕ) → a < nA p → hasBit (getD (matchedMasks p) c 0) a ≡ matched p c a
   has-matched-at a l = has-matched a ∙ and-true-l _ (lt-ltb a (nA p) l)
 
   pub matched-small : getD (matchedMasks p) c 0 < 2 ^ nA p
-  matched-small = rw matched-row (same-small _ (p .abstraction .observations) (nA p) (well .abstraction .states-high))
+  matched-small = rw matched-row (same-small (p .hidden) _ (p .abstraction .observations) (nA p) (well .abstraction .states-high))

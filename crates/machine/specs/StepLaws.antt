@@ -1,29 +1,16 @@
--- Laws of observations, of the step and of sections.
+-- Laws of the step and of sections.
 use mathlib.Core.Bool.{Bool, true}
 use mathlib.Core.Logic.{by-cases}
-use mathlib.Core.Path.{_≡_, refl, sym, _∙_}
+use mathlib.Core.Path.{_≡_, sym, _∙_}
 use Prim.Native.Nat.{ℕ, suc, _≤_, _<_}
 use native.Mathlib.Decide.{decLt}
 use native.Mathlib.Omega.{arith}
-use borrow.Author.Tests.{eqb-true, eq-eqb, lt-ltb, le-ltb}
+use borrow.Author.Tests.{lt-ltb, le-ltb}
 use Rattle.mask.specs.LogicLaws.{both}
 use Rattle.mask.specs.BoundedLaws.{everyIn-at, everyIn-of, someIn-at, someIn-of}
 use Rattle.machine.specs.declared.Pair.{Pair}
-use Rattle.machine.specs.Machines.{moves, sameObservation, next, nC, nA}
+use Rattle.machine.specs.Machines.{moves, next, nC, nA}
 use Rattle.machine.specs.Step.{steps}
-
--- ---- the same observation
-pub same-refl : (x : ℕ) → sameObservation x x ≡ true
-unfolding sameObservation
-same-refl x = eq-eqb x x refl
-
-pub same-sym : (x y : ℕ) → sameObservation x y ≡ true → sameObservation y x ≡ true
-unfolding sameObservation
-same-sym x y t = eq-eqb y x (sym (eqb-true x y t))
-
-pub same-trans : (x y z : ℕ) → sameObservation x y ≡ true → sameObservation y z ≡ true → sameObservation x z ≡ true
-unfolding sameObservation
-same-trans x y z t u = eq-eqb x z (eqb-true x y t ∙ eqb-true y z u)
 
 -- ---- sections
 pub next-wrap : (n j : ℕ) → n ≤ suc j → next n j ≡ 0

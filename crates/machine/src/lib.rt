@@ -20,10 +20,12 @@ pub struct Machine {
     pub fairness: [u64; 8],
 }
 
-// The concrete machine (document 01: rig) and its abstraction, the abstract one (document 01: score).
+// The concrete machine (document 01: rig) and its abstraction, the abstract one (document 01: score), and the mask of the observation bits
+// that are not compared, any byte (document 02: hidden mask).
 pub struct Pair {
     pub concrete: Machine,
     pub abstraction: Machine,
+    pub hidden: u8,
 }
 
 // Where a call was stopped: a number of document 01's table, and the three numbers of its spot, 0 where unused.
@@ -113,21 +115,21 @@ pub fn put_refusal(spot: &mut [u64; 4], r: Refusal)
 
 // ---- Matched pairs
 
-// Whether two observations are the same.
-pub fn same_observation(x: u8, y: u8) -> bool
-    ensures { λ r. ⌜ r ≡ sameObservation x y ⌝ }
+// Whether two observations are the same in the bits that are not hidden.
+pub fn same_observation(hidden: u8, x: u8, y: u8) -> bool
+    ensures { λ r. ⌜ r ≡ sameObservation hidden x y ⌝ }
 {
-    x == y
+    hidden | x == hidden | y
 }
 
-// The mask of the states below n, and below 64, whose observation is o.
-fn same_mask(o: u8, n: usize, observations: &[u8; 64]) -> u64
-    ensures { λ r. ⌜ r ≡ sameMask o n (now (observations .entry)) ⌝ }
+// The mask of the states below n, and below 64, whose observation is o in the bits that are not hidden.
+fn same_mask(hidden: u8, o: u8, n: usize, observations: &[u8; 64]) -> u64
+    ensures { λ r. ⌜ r ≡ sameMask hidden o n (now (observations .entry)) ⌝ }
 {
     let end = if n < 64 { n } else { 64 };
     let mut m: u64 = 0;
     for a in 0..end {
-        if same_observation(o, observations[a]) {
+        if same_observation(hidden, o, observations[a]) {
             m = mask::with(m, a);
         }
     }
@@ -140,6 +142,7 @@ pub fn matched_masks(p: Pair) -> [u64; 64]
 {
     let c = p.concrete;
     let a = p.abstraction;
+    let hidden = p.hidden;
     let concrete = c.observations;
     let abstraction = a.observations;
     let nc = c.states;
@@ -147,7 +150,7 @@ pub fn matched_masks(p: Pair) -> [u64; 64]
     let mut out = [0u64; 64];
     for s in 0..64 {
         let row = if s < nc {
-            same_mask(concrete[s], na, &abstraction)
+            same_mask(hidden, concrete[s], na, &abstraction)
         } else {
             0
         };

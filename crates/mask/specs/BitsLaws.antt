@@ -9,7 +9,7 @@ use native.Mathlib.Omega.{arith}
 use lib.Dec.{eqb, ltb, eqb·suc-suc, eqb·zero-suc, eqb·suc-zero}
 use lib.Bits.{bitAnd, bitOr, and-step, and-self, and-le-r, or-step}
 use lib.Count.{trailingZeros, under, trailing-le}
-use lib.Pow.{pow-pos, shl-exact}
+use lib.Pow.{pow-mono, pow-pos, shl-exact}
 use borrow.Author.Tests.{lt-ltb, le-ltb}
 use Rattle.mask.specs.Logic.{not, and, or}
 use Rattle.mask.specs.LogicLaws.{clash, and-true-r, not-i}
@@ -71,6 +71,16 @@ mask-ext (suc w) a b ha hb h =
     let up : a / 2 ≡ b / 2 =
     mask-ext w (a / 2) (b / 2) (half-small w a ha) (half-small w b hb) (λ i l. sym (has-suc a i) ∙ h (suc i) (omega arith) ∙ has-suc b i) in
     omega (arith, odd-eq a b (h 0 (omega arith)))
+
+-- and numbers of any width by all their bits
+width-of : (n : ℕ) → n < 2 ^ n
+width-of zero = omega arith
+width-of (suc n) = rw pow-suc (omega (arith, width-of n))
+
+pub bits-ext : (a b : ℕ) → ((i : ℕ) → hasBit a i ≡ hasBit b i) → a ≡ b
+bits-ext a b h =
+    mask-ext (a + b) a b (omega (arith, width-of a, pow-mono {i = a} {j = a + b} (omega arith))) (omega (arith, width-of b, pow-mono {i = b} {j = a + b} (omega arith)))
+    (λ i l. h i)
 
 -- a mask whose states all lie below w is a number of w bits
 pub has-small : (v w m : ℕ) → m < 2 ^ v → ((i : ℕ) → w ≤ i → i < v → hasBit m i ≡ false) → m < 2 ^ w

@@ -20,8 +20,8 @@ pub record RunGiven (p : Pair) (T : List ℕ) (l : Lasso) (buffer : List ℕ) (s
   pub asked : isPlay (p .concrete) l ≡ true
   -- the run is a fair lasso of the abstract machine from a start state
   pub fair : isPlay (p .abstraction) (runIn s q (playerBuffer p T l buffer)) ≡ true
-  -- with the same observation at every moment
-  pub agrees : SameObservations (p .concrete) l (p .abstraction) (runIn s q (playerBuffer p T l buffer))
+  -- with the same observation at every moment, in the bits that are not hidden
+  pub agrees : SameObservations (p .hidden) (p .concrete) l (p .abstraction) (runIn s q (playerBuffer p T l buffer))
   -- it fits, and the bytes past it are unchanged
   pub fits : s + q ≤ runRoom
   pub long : length (playerBuffer p T l buffer) ≡ length buffer

@@ -80,6 +80,7 @@ ringMachine abstraction back entry rings = record {
   fairness = table 8 (λ k. cond (ltb k (rings .sets)) (maskOf 64 (λ s. ringState abstraction back entry rings s .fair)) 0);
 }
 
--- a pair of such machines, of the second family where `back` says so
+-- a pair of such machines, of the second family where `back` says so, with no bit hidden
 unfoldable pub ringPair : Bool → ℕ → Rings → Rings → Pair
-ringPair back entry concrete abstraction = record { concrete = ringMachine false back entry concrete; abstraction = ringMachine true back entry abstraction }
+ringPair back entry concrete abstraction =
+    record { concrete = ringMachine false back entry concrete; abstraction = ringMachine true back entry abstraction; hidden = 0 }

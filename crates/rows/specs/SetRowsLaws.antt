@@ -137,7 +137,7 @@ module _ (p : Pair) where
     M = matchedMasks p
 
     M-past : (c : ℕ) → nC p ≤ c → c < 64 → getD M c 0 ≡ 0
-    M-past c h k = matched-at p c k ∙ row-out _ _ (nC p) (nA p) c h
+    M-past c h k = matched-at p c k ∙ row-out _ _ _ (nC p) (nA p) c h
 
     pub matched-rows : matchedMasks p ≡ rowsOf (allMatched p)
     unfolding allMatched

@@ -72,6 +72,7 @@ fn level(
 {
     let concrete = p.concrete;
     let abstraction = p.abstraction;
+    let hidden = p.hidden;
     let nc = concrete.states;
     let m = concrete.sets;
     let moves = concrete.successors;

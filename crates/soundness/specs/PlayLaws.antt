@@ -15,7 +15,7 @@ use Rattle.machine.specs.declared.Machine.{Machine}
 use Rattle.machine.specs.Machines.{moves, starts, inFairSet}
 use Rattle.machine.specs.Lassos.{Lasso, moment, isLasso, isFair, fromStart, isPlay, SameObservations}
 use Rattle.machine.specs.LassosLaws.{moment-stem, moment-round, moment-loop, Goes, lasso-loop, lasso-goes, lasso-of}
-use Rattle.machine.specs.StepLaws.{same-refl, same-sym, same-trans}
+use Rattle.machine.specs.HiddenLaws.{same-refl, same-sym, same-trans}
 use Rattle.soundness.specs.Plays.{Again, lassoOf, unrolled, SamePlay, Play}
 
 -- ---- sequences that come again
@@ -246,21 +246,22 @@ pub unrolled-loop : (l : Lasso) (d n : ℕ) → length (unrolled l d n .loop) �
 unfolding unrolled
 unrolled-loop l d n = lassoOf-loop (length (l .stem) + d) (n * length (l .loop)) (moment l)
 
--- ---- the same observation at every moment
-pub observations-refl : (m : Machine) (l : Lasso) → SameObservations m l m l
-unfolding SameObservations
-observations-refl m l t = same-refl _
+-- ---- the same observation at every moment, under one hidden mask
+module _ (hidden : ℕ) where
+  pub observations-refl : (m : Machine) (l : Lasso) → SameObservations hidden m l m l
+  unfolding SameObservations
+  observations-refl m l t = same-refl hidden _
 
-pub observations-sym : (m : Machine) (l : Lasso) (m′ : Machine) (k : Lasso) → SameObservations m l m′ k → SameObservations m′ k m l
-unfolding SameObservations
-observations-sym m l m′ k h t = same-sym _ _ (h t)
+  pub observations-sym : (m : Machine) (l : Lasso) (m′ : Machine) (k : Lasso) → SameObservations hidden m l m′ k → SameObservations hidden m′ k m l
+  unfolding SameObservations
+  observations-sym m l m′ k h t = same-sym hidden _ _ (h t)
 
-pub observations-trans : (m : Machine) (l : Lasso) (m′ : Machine) (k : Lasso) (m″ : Machine) (i : Lasso) → SameObservations m l m′ k
-    → SameObservations m′ k m″ i → SameObservations m l m″ i
-unfolding SameObservations
-observations-trans m l m′ k m″ i g h t = same-trans _ _ _ (g t) (h t)
+  pub observations-trans : (m : Machine) (l : Lasso) (m′ : Machine) (k : Lasso) (m″ : Machine) (i : Lasso) → SameObservations hidden m l m′ k
+      → SameObservations hidden m′ k m″ i → SameObservations hidden m l m″ i
+  unfolding SameObservations
+  observations-trans m l m′ k m″ i g h t = same-trans hidden _ _ _ (g t) (h t)
 
--- lassos with the same endless play, in one machine
-pub observations-play : (m : Machine) (l k : Lasso) → SamePlay l k → SameObservations m l m k
-unfolding SameObservations
-observations-play m l k h t = rw (h t) (same-refl _)
+  -- lassos with the same endless play, in one machine
+  pub observations-play : (m : Machine) (l k : Lasso) → SamePlay l k → SameObservations hidden m l m k
+  unfolding SameObservations
+  observations-play m l k h t = rw (h t) (same-refl hidden _)

@@ -126,7 +126,7 @@ module _ (p : Pair) (T : List ℕ) (w : WellPair p) (passing : passesEach p T �
         (λ t. covered-at t .bound) (λ t. answered t .moved) fair-between started
 
     -- and has the same observation at every moment
-    pub agrees : SameObservations (p .concrete) l (p .abstraction) (runBetween p T l x z)
+    pub agrees : SameObservations (p .hidden) (p .concrete) l (p .abstraction) (runBetween p T l x z)
     unfolding SameObservations matched
     agrees t =
         rw (lassoOf-moment (loopStart p T l x) ((z - x) * length (l .loop)) (λ t. placeAt p T l t .state) span-some state-again t)

@@ -14,9 +14,10 @@ use Rattle.machine.specs.Lines.{passesEach}
 use Rattle.machine.specs.Verdict.{HasStarts, carried, linesVerdict, checkVerdict}
 use Rattle.machine.specs.Player.{samePlace, lastRound, earlierRound, stemLength, loopLength, run, runRoom, playValidity, playerAnswer, playerBuffer}
 
--- the concrete lasso l has a fair lasso of the abstract machine, from a start state, with the same observation at every moment
+-- the concrete lasso l has a fair lasso of the abstract machine, from a start state, with the same observation at every moment, in the bits that
+-- are not hidden
 abbrev pub Matched : Pair → Lasso → Type 0
-Matched p l = (k : Lasso) × (isPlay (p .abstraction) k ≡ true) × SameObservations (p .concrete) l (p .abstraction) k
+Matched p l = (k : Lasso) × (isPlay (p .abstraction) k ≡ true) × SameObservations (p .hidden) (p .concrete) l (p .abstraction) k
 
 -- if a table passes each line and has the start pairs, every fair lasso of the concrete machine from a start state, of any length, is matched
 abbrev pub PassingIsSound : Type 0
@@ -39,7 +40,7 @@ pub record IsRun (p : Pair) (T : List ℕ) (l : Lasso) : Type 0 where
   pub whole : length (run p T l) ≡ stemLength p T l + loopLength p T l
   -- and is a fair lasso of the abstract machine from a start state
   pub fair : isPlay (p .abstraction) (record { stem = take (stemLength p T l) (run p T l); loop = drop (stemLength p T l) (run p T l) }) ≡ true
-  pub agrees : SameObservations (p .concrete) l (p .abstraction)
+  pub agrees : SameObservations (p .hidden) (p .concrete) l (p .abstraction)
       (record { stem = take (stemLength p T l) (run p T l); loop = drop (stemLength p T l) (run p T l) })
 
 abbrev pub PlayerIsRight : Type 0

@@ -9,20 +9,21 @@ use borrow.Author.Count.{below-more, below-none}
 use borrow.Author.Needs.{needs}
 use borrow.Author.Tests.{not-true, not-false}
 use Rattle.machine.specs.Machines.{starts}
+use Rattle.machine.specs.HiddenLaws.{pairUnder}
 use Rattle.machine.specs.WellFormedLaws.{WellPair, well-pair}
 use Rattle.machine.specs.Table.{blank}
 use Rattle.machine.specs.Verdict.{startCovered}
 use Rattle.machine.specs.VerdictLaws.{lacks, lacks-not, lacks-covered, lacks-is, lacking-is, lacking-none}
-use Rattle.linecheck.specs.BoundsLaws.{asPair, place-at, row-fits}
+use Rattle.linecheck.specs.BoundsLaws.{place-at, row-fits}
 use Rattle.linecheck.specs.StartsLaws.{start-found}
 use Rattle.linecheck.proofs.lacking_start.Statement.{statement}
 use Rattle.linecheck.proofs.lacking_start.Tie as tie
 
 abbrev Inv-loop : tie.InvT-loop
-Inv-loop table concrete abstraction nc na c₀ c = (c ≤ nc) × ((k : ℕ) → k < c → lacks (asPair concrete abstraction) table k ≡ false)
+Inv-loop table concrete abstraction hidden nc na c₀ c = (c ≤ nc) × ((k : ℕ) → k < c → lacks (pairUnder hidden concrete abstraction) table k ≡ false)
 
 abbrev μ-loop : tie.MeasureT-loop
-μ-loop table concrete abstraction nc na c₀ c = nc - c
+μ-loop table concrete abstraction hidden nc na c₀ c = nc - c
 
 abbrev top : tie.At-loop Inv-loop μ-loop → tie.Start Inv-loop μ-loop
 top c = c .before .before .before .before

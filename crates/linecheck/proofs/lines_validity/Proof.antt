@@ -23,43 +23,44 @@ use Rattle.machine.specs.Refusals.{refused, testedOf}
 use Rattle.machine.specs.Machines.{next, nC, nA, setsA}
 use Rattle.machine.specs.Observed.{matchedMasks}
 use Rattle.machine.specs.WellFormedLaws.{WellPair, well-pair, pairs-small, ranks-small}
+use Rattle.machine.specs.HiddenLaws.{pairUnder}
 use Rattle.machine.specs.StepLaws.{next-lt}
 use Rattle.machine.specs.Table.{blank, entryIndex}
 use Rattle.machine.specs.RowLaws.{row-room, entry-room}
 use Rattle.machine.specs.Lines.{passes, linesValidity}
 use Rattle.machine.specs.LinesLaws.{lines-fail, lines-valid, each-of}
-use Rattle.linecheck.specs.BoundsLaws.{asPair, place-at, serves, line-section, moves-small, passes-if-blank, passes-if, fails-if, taken-lt, step-found}
+use Rattle.linecheck.specs.BoundsLaws.{place-at, serves, line-section, moves-small, passes-if-blank, passes-if, fails-if, taken-lt, step-found}
 use Rattle.linecheck.proofs.lines_validity.Statement.{statement}
 use Rattle.linecheck.proofs.lines_validity.Tie as tie
 
 abbrev Inv-loop3 : tie.InvT-loop3
-Inv-loop3 table matched concrete abstraction nc na m n concrete-sets most answer₀ j next c a at e spot section bound moves rest₀ answer rest =
-    let p = asPair concrete abstraction in
+Inv-loop3 table matched concrete abstraction hidden nc na m n concrete-sets most answer₀ j next c a at e spot section bound moves rest₀ answer rest =
+    let p = pairUnder hidden concrete abstraction in
     (rest < 2 ^ nc) × (passes p table j c a ≡ everyIn 64 rest (serves p table moves section bound)) × (answer ≡ answer₀)
 
 abbrev μ-loop3 : tie.MeasureT-loop3
-μ-loop3 table matched concrete abstraction nc na m n concrete-sets most answer₀ j next c a at e spot section bound moves rest₀ answer rest = rest
+μ-loop3 table matched concrete abstraction hidden nc na m n concrete-sets most answer₀ j next c a at e spot section bound moves rest₀ answer rest = rest
 
 abbrev Inv-loop2 : tie.InvT-loop2
-Inv-loop2 table matched concrete abstraction nc na m n concrete-sets most answer₀ j next c a₀ answer a =
-    (a ≤ na) × ((k : ℕ) → k < a → passes (asPair concrete abstraction) table j c k ≡ true) × (answer ≡ answer₀)
+Inv-loop2 table matched concrete abstraction hidden nc na m n concrete-sets most answer₀ j next c a₀ answer a =
+    (a ≤ na) × ((k : ℕ) → k < a → passes (pairUnder hidden concrete abstraction) table j c k ≡ true) × (answer ≡ answer₀)
 
 abbrev μ-loop2 : tie.MeasureT-loop2
-μ-loop2 table matched concrete abstraction nc na m n concrete-sets most answer₀ j next c a₀ answer a = na - a
+μ-loop2 table matched concrete abstraction hidden nc na m n concrete-sets most answer₀ j next c a₀ answer a = na - a
 
 abbrev Inv-loop : tie.InvT-loop
-Inv-loop table matched concrete abstraction nc na m n concrete-sets most answer₀ j next c₀ answer c =
-    (c ≤ nc) × ((k : ℕ) → k < c → every na (passes (asPair concrete abstraction) table j k) ≡ true) × (answer ≡ answer₀)
+Inv-loop table matched concrete abstraction hidden nc na m n concrete-sets most answer₀ j next c₀ answer c =
+    (c ≤ nc) × ((k : ℕ) → k < c → every na (passes (pairUnder hidden concrete abstraction) table j k) ≡ true) × (answer ≡ answer₀)
 
 abbrev μ-loop : tie.MeasureT-loop
-μ-loop table matched concrete abstraction nc na m n concrete-sets most answer₀ j next c₀ answer c = nc - c
+μ-loop table matched concrete abstraction hidden nc na m n concrete-sets most answer₀ j next c₀ answer c = nc - c
 
 abbrev Inv-lines : tie.InvT-lines
-Inv-lines table matched concrete abstraction nc na m n concrete-sets most answer₀ j₀ answer j =
-    (j ≤ n) × ((k : ℕ) → k < j → every nc (λ c. every na (passes (asPair concrete abstraction) table k c)) ≡ true) × (answer ≡ answer₀)
+Inv-lines table matched concrete abstraction hidden nc na m n concrete-sets most answer₀ j₀ answer j =
+    (j ≤ n) × ((k : ℕ) → k < j → every nc (λ c. every na (passes (pairUnder hidden concrete abstraction) table k c)) ≡ true) × (answer ≡ answer₀)
 
 abbrev μ-lines : tie.MeasureT-lines
-μ-lines table matched concrete abstraction nc na m n concrete-sets most answer₀ j₀ answer j = n - j
+μ-lines table matched concrete abstraction hidden nc na m n concrete-sets most answer₀ j₀ answer j = n - j
 
 -- the places that the facts below are about: where the loops are entered, an entry, its line, a successor of its concrete state
 abbrev Start : Type 0

@@ -12,11 +12,11 @@ use Rattle.machine.proofs.matched_masks.Statement.{statement}
 use Rattle.machine.proofs.matched_masks.Tie as tie
 
 abbrev Inv-loop : tie.InvT-loop
-Inv-loop concrete abstraction nc na out₀ s₀ out s =
-    (s ≤ 64) × (length out ≡ 64) × ((k : ℕ) → k < s → getD out k 0 ≡ matchedRow concrete abstraction nc na k)
+Inv-loop hidden concrete abstraction nc na out₀ s₀ out s =
+    (s ≤ 64) × (length out ≡ 64) × ((k : ℕ) → k < s → getD out k 0 ≡ matchedRow hidden concrete abstraction nc na k)
 
 abbrev μ-loop : tie.MeasureT-loop
-μ-loop concrete abstraction nc na out₀ s₀ out s = 64 - s
+μ-loop hidden concrete abstraction nc na out₀ s₀ out s = 64 - s
 
 loop-holds : tie.Need-loop-holds Inv-loop μ-loop
 loop-holds c = (search needs, length-replicate {A = ℕ} 64 0, below-none _)
@@ -49,8 +49,8 @@ loop-again c =
     let na = x .abstraction .states in (
       search needs,
       length-set (l .out) (l .s) (c .if1 .row) ∙ l .inv .1,
-      fill-step 0 (l .out) (matchedRow C A nc na) (l .s) (c .if1 .row) (omega arith)
-          (⊎-elim (λ w. w .3 ∙ w .2 .ensures ∙ sym (row-in C A nc na (l .s) (w .0 .taken))) (λ w. w .1 ∙ sym (row-out C A nc na (l .s) (w .0 .left))) (c .if1 .came))
+      fill-step 0 (l .out) (matchedRow (x .hidden) C A nc na) (l .s) (c .if1 .row) (omega arith)
+          (⊎-elim (λ w. w .3 ∙ w .2 .ensures ∙ sym (row-in (x .hidden) C A nc na (l .s) (w .0 .taken))) (λ w. w .1 ∙ sym (row-out (x .hidden) C A nc na (l .s) (w .0 .left))) (c .if1 .came))
           (l .inv .2),
     )
 

@@ -11,13 +11,13 @@ use Rattle.machine.proofs.same_mask.Statement.{statement}
 use Rattle.machine.proofs.same_mask.Tie as tie
 
 abbrev Inv-loop : tie.InvT-loop
-Inv-loop o n observations end m₀ a₀ m a = (a ≤ end) × (end ≡ min n 64) × (m ≡ sameMask o a observations)
+Inv-loop hidden o n observations end m₀ a₀ m a = (a ≤ end) × (end ≡ min n 64) × (m ≡ sameMask hidden o a observations)
 
 abbrev μ-loop : tie.MeasureT-loop
-μ-loop o n observations end m₀ a₀ m a = end - a
+μ-loop hidden o n observations end m₀ a₀ m a = end - a
 
 loop-holds : tie.Need-loop-holds Inv-loop μ-loop
-loop-holds c = (search needs, ⊎-elim (λ w. omega arith) (λ w. omega arith) (c .if1 .came), sym (same-none (c .before .args .o) (c .before .args .observations .now)))
+loop-holds c = (search needs, ⊎-elim (λ w. omega arith) (λ w. omega arith) (c .if1 .came), sym (same-none (c .before .args .hidden) (c .before .args .o) (c .before .args .observations .now)))
 
 element-copy-out-same-observation : tie.Need-element-copy-out-same-observation Inv-loop μ-loop
 element-copy-out-same-observation c = search needs
@@ -43,8 +43,8 @@ loop-again c =
       l .inv .1,
       ⊎-elim
           (λ w. w .2 ∙ w .1 .ensures ∙ ap (λ (m : ℕ). withBit m (l .a)) (l .inv .2)
-          ∙ same-hit (x .o) (x .observations .now) (l .a) (omega arith) (o ∙ w .0 .taken))
-          (λ w. w .1 ∙ l .inv .2 ∙ same-miss (x .o) (x .observations .now) (l .a) (omega arith) (o ∙ w .0 .left))
+          ∙ same-hit (x .hidden) (x .o) (x .observations .now) (l .a) (omega arith) (o ∙ w .0 .taken))
+          (λ w. w .1 ∙ l .inv .2 ∙ same-miss (x .hidden) (x .o) (x .observations .now) (l .a) (omega arith) (o ∙ w .0 .left))
           (c .if2 .came),
     )
 
@@ -52,7 +52,7 @@ returns : tie.Need-returns Inv-loop μ-loop
 returns c =
     let l = c .before .loop in
     let x = c .before .before .before .args in
-    l .inv .2 ∙ ap (λ (a : ℕ). sameMask (x .o) a (x .observations .now)) (omega arith) ∙ same-min (x .o) (x .observations .now) (x .n)
+    l .inv .2 ∙ ap (λ (a : ℕ). sameMask (x .hidden) (x .o) a (x .observations .now)) (omega arith) ∙ same-min (x .hidden) (x .o) (x .observations .now) (x .n)
 
 pub same-mask-spec : {M : Type 1} → statement M
 same-mask-spec =

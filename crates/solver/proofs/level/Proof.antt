@@ -5,7 +5,7 @@ use native.Mathlib.Omega.{arith}
 use lib.ListN.{length}
 use borrow.Author.Needs.{needs}
 use Rattle.machine.specs.Machines.{nC, nA}
-use Rattle.machine.specs.declared.Pair.{Pair}
+use Rattle.machine.specs.HiddenLaws.{pairUnder}
 use Rattle.machine.specs.Game.{level, xOver}
 use Rattle.machine.specs.WellFormedLaws.{WellPair, well-pair, pairs-small}
 use Rattle.rows.specs.Rows.{rowsOf, pairsIn}
@@ -17,12 +17,12 @@ use Rattle.solver.proofs.level.Statement.{statement}
 use Rattle.solver.proofs.level.Tie as tie
 
 abbrev Inv-loop : tie.InvT-loop
-Inv-loop matched dependents predecessors goals below l part₀ concrete abstraction nc m moves base bound start reached seen₀ k₀ part seen k =
-    let p : Pair = record { concrete = concrete; abstraction = abstraction } in
+Inv-loop matched dependents predecessors goals below l part₀ concrete abstraction hidden nc m moves base bound start reached seen₀ k₀ part seen k =
+    let p = pairUnder hidden concrete abstraction in
     (k ≤ m) × LevelMade p (pairsIn p goals) part₀ l k seen part
 
 abbrev μ-loop : tie.MeasureT-loop
-μ-loop matched dependents predecessors goals below l part₀ concrete abstraction nc m moves base bound start reached seen₀ k₀ part seen k = m - k
+μ-loop matched dependents predecessors goals below l part₀ concrete abstraction hidden nc m moves base bound start reached seen₀ k₀ part seen k = m - k
 
 well : (c : tie.Start Inv-loop μ-loop) → WellPair (c .args .p)
 well c = well-pair (c .args .p) (c .pre .0 .0 .well)

@@ -14,21 +14,21 @@ use borrow.Author.Tests.{not-true, not-false}
 use Rattle.brute.proofs.lassos.same_until.Statement.{statement}
 use Rattle.brute.proofs.lassos.same_until.Tie as tie
 
-abbrev agree : Machine → List ℕ → List ℕ → Machine → List ℕ → List ℕ → ℕ → Bool
-agree m stem cycle k run round t = sameObservation (observation m (moment (given stem cycle) t)) (observation k (moment (given run round) t))
+abbrev agree : ℕ → Machine → List ℕ → List ℕ → Machine → List ℕ → List ℕ → ℕ → Bool
+agree hidden m stem cycle k run round t = sameObservation hidden (observation m (moment (given stem cycle) t)) (observation k (moment (given run round) t))
 
 abbrev Inv-loop : tie.InvT-loop
-Inv-loop m stem cycle k run round n t₀ t = (t ≤ n) × ((i : ℕ) → i < t → agree m stem cycle k run round i ≡ true)
+Inv-loop hidden m stem cycle k run round n t₀ t = (t ≤ n) × ((i : ℕ) → i < t → agree hidden m stem cycle k run round i ≡ true)
 
 abbrev μ-loop : tie.MeasureT-loop
-μ-loop m stem cycle k run round n t₀ t = n - t
+μ-loop hidden m stem cycle k run round n t₀ t = n - t
 
 agreed : (c : tie.After-same-observation Inv-loop μ-loop)
     → let x = c .before .before .before .before .before .before .before .before .before .before .before .args in
-    c .same-observation .result ≡ agree (x .m) (x .stem .now) (x .cycle .now) (x .k) (x .run .now) (x .round .now) (c .before .before .before .before .before .before .loop .t)
+    c .same-observation .result ≡ agree (x .hidden) (x .m) (x .stem .now) (x .cycle .now) (x .k) (x .run .now) (x .round .now) (c .before .before .before .before .before .before .loop .t)
 agreed c =
     c .same-observation .ensures
-    ∙ ap₂ sameObservation (c .before .before .before .observed .ensures ∙ ap (observation (c .before .before .before .before .before .before .before .before .before .before .before .args .m)) (c .before .before .before .before .moment-at .ensures)) (c .before .observed2 .ensures ∙ ap (observation (c .before .before .before .before .before .before .before .before .before .before .before .args .k)) (c .before .before .moment-at2 .ensures))
+    ∙ ap₂ (sameObservation (c .before .before .before .before .before .before .before .before .before .before .before .args .hidden)) (c .before .before .before .observed .ensures ∙ ap (observation (c .before .before .before .before .before .before .before .before .before .before .before .args .m)) (c .before .before .before .before .moment-at .ensures)) (c .before .observed2 .ensures ∙ ap (observation (c .before .before .before .before .before .before .before .before .before .before .before .args .k)) (c .before .before .moment-at2 .ensures))
 
 loop-holds : tie.Need-loop-holds Inv-loop μ-loop
 loop-holds c = (search needs, below-none _)

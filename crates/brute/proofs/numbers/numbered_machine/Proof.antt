@@ -14,11 +14,11 @@ n-is c = ⊎-elim (λ w. omega arith) (λ w. omega arith) (c .if1 .came)
 digit-requires : tie.Need-digit-requires
 digit-requires c κs = search needs
 
-slice-aggregate-put-bits : tie.Need-slice-aggregate-put-bits
-slice-aggregate-put-bits c = search needs
+slice-aggregate-put-observations : tie.Need-slice-aggregate-put-observations
+slice-aggregate-put-observations c = search needs
 
-put-bits-requires : tie.Need-put-bits-requires
-put-bits-requires c κs = search needs
+put-observations-requires : tie.Need-put-observations-requires
+put-observations-requires c κs = search needs
 
 slice-aggregate-put-masks : tie.Need-slice-aggregate-put-masks
 slice-aggregate-put-masks c = search needs
@@ -46,15 +46,15 @@ returns c =
     let d = bits .before .before in
     let x = d .before .before .before .args in
     machine-is (x .shape) (x .x) (d .before .if1 .n) _ _ _ _ (n-is (d .before)) (c .digit2 .ensures)
-    (bits .put-bits .ensures ∙ rw (d .digit .ensures)) (moves .put-masks .ensures) (sets .put-masks2 .ensures)
+    (bits .put-observations .ensures ∙ rw (d .digit .ensures)) (moves .put-masks .ensures) (sets .put-masks2 .ensures)
 
 pub numbered-machine-spec : {M : Type 1} → statement M
 numbered-machine-spec =
     tie.close
     (tie.spec
     digit-requires
-    slice-aggregate-put-bits
-    put-bits-requires
+    slice-aggregate-put-observations
+    put-observations-requires
     slice-aggregate-put-masks
     put-masks-requires
     add-put-masks

@@ -1,7 +1,7 @@
 -- The parts of the test are made one after the other, and one that fails makes the whole fail.
 use Prim.Native.Nat.{ℕ}
 use mathlib.Core.Path.{sym, _∙_, ap}
-use borrow.Author.Tests.{eq-eqb, ne-eqb, le-leb, lt-leb, not-true, not-false}
+use borrow.Author.Tests.{le-leb, lt-leb, not-true, not-false}
 use lib.Dec.{leb}
 use Rattle.mask.specs.LogicLaws.{and-true-l, and-false-l, and-false-r}
 use Rattle.codec.specs.Reader.{headerHolds}
@@ -22,28 +22,19 @@ header-byte-requires c κs = search needs
 
 returns-2 : tie.Need-returns-2
 unfolding headerHolds
-returns-2 c = sym (and-false-r _ (and-false-l _ (ne-eqb _ 0 (λ e. c .if2 .taken (c .before .header-byte .ensures .0 ∙ e)))))
-
-header-byte-requires-2 : tie.Need-header-byte-requires-2
-header-byte-requires-2 c κs = search needs
-
-returns-3 : tie.Need-returns-3
-unfolding headerHolds
-returns-3 c =
-    sym (and-false-r _ (and-false-r _ (and-false-l _ (ap (λ (x : ℕ). leb x 1) (sym (c .before .header-byte2 .ensures .0)) ∙ lt-leb _ 1 (c .if3 .taken)))))
+returns-2 c =
+    sym (and-false-r _ (and-false-l _ (ap (λ (x : ℕ). leb x 1) (sym (c .before .header-byte .ensures .0)) ∙ lt-leb _ 1 (c .if2 .taken))))
 
 zeros-requires : tie.Need-zeros-requires
 zeros-requires c κs = search needs
 
-returns-4 : tie.Need-returns-4
+returns-3 : tie.Need-returns-3
 unfolding headerHolds
-returns-4 c =
-    let byte8 = c .before .before .before in
-    let letters = byte8 .before .before in
+returns-3 c =
+    let letters = c .before .before .before in
     c .zeros .ensures ∙ zeros-header _
     ∙ sym (and-true-l _ (sym (letters .before .letters-hold .ensures) ∙ not-false _ (letters .if1 .left))
-    ∙ and-true-l _ (eq-eqb _ 0 (sym (byte8 .before .header-byte .ensures .0) ∙ byte8 .if2 .left))
-    ∙ and-true-l _ (ap (λ (x : ℕ). leb x 1) (sym (c .before .before .header-byte2 .ensures .0)) ∙ le-leb _ 1 (c .before .if3 .left)))
+    ∙ and-true-l _ (ap (λ (x : ℕ). leb x 1) (sym (c .before .before .header-byte .ensures .0)) ∙ le-leb _ 1 (c .before .if2 .left)))
 
 pub header-holds-spec : {M : Type 1} → statement M
 header-holds-spec =
@@ -53,7 +44,5 @@ header-holds-spec =
     returns
     header-byte-requires
     returns-2
-    header-byte-requires-2
-    returns-3
     zeros-requires
-    returns-4)
+    returns-3)

@@ -1,8 +1,6 @@
 -- The payload is loaded and as long as the counts demand, so both machines lie in it and are those of the file.
 use mathlib.Core.Path.{ap₂, _∙_}
 use native.Mathlib.Omega.{arith}
-use Rattle.machine.specs.declared.Machine.{Machine}
-use Rattle.machine.specs.declared.Pair.{Pair}
 use Rattle.codec.specs.Reader.{machineAt}
 use Rattle.codec.specs.ReaderLaws.{in-range, machines-fit, pair-is}
 use borrow.Author.Needs.{needs}
@@ -21,11 +19,17 @@ header-byte-requires-3 c κs = search needs
 header-byte-requires-4 : tie.Need-header-byte-requires-4
 header-byte-requires-4 c κs = search needs
 
+header-byte-requires-5 : tie.Need-header-byte-requires-5
+header-byte-requires-5 c κs = search needs
+
+cast-hidden : tie.Need-cast-hidden
+cast-hidden c = search needs
+
 machine-at-requires : tie.Need-machine-at-requires
 machine-at-requires c κs =
-    let w = c .before .before .before .before .before .before .pre in
+    let w = c .before .before .before .before .before .before .before .pre in
     let r = in-range _ (w .counts) in
-    omega (arith, machines-fit (c .before .before .before .before .before .before .args .bytes .now), w .room)
+    omega (arith, machines-fit (c .before .before .before .before .before .before .before .args .bytes .now), w .room)
 
 mul-machine-at : tie.Need-mul-machine-at
 mul-machine-at c = search needs
@@ -41,20 +45,21 @@ add-machine-at-2 c = search needs
 
 machine-at-requires-2 : tie.Need-machine-at-requires-2
 machine-at-requires-2 c κs =
-    let w = c .before .before .before .before .before .before .before .pre in
+    let w = c .before .before .before .before .before .before .before .before .pre in
     let r = in-range _ (w .counts) in
-    omega (arith, machines-fit (c .before .before .before .before .before .before .before .args .bytes .now), w .room)
+    omega (arith, machines-fit (c .before .before .before .before .before .before .before .before .args .bytes .now), w .room)
 
 returns : tie.Need-returns
 returns c =
-    let b = c .before .before in
+    let b = c .before .before .before in
     let s = b .before .before .before .before .before .before in
     let h4 = b .before .before .before .header-byte .ensures .0 in
     let h5 = b .before .before .header-byte2 .ensures .0 in
     let h6 = b .before .header-byte3 .ensures .0 in
     let h7 = b .header-byte4 .ensures .0 in
-    ap₂ {C = Pair} (λ (x y : Machine). record { concrete = x; abstraction = y }) (c .before .machine-at .ensures ∙ ap₂ (machineAt (s .args .q .now) 16) h4 h6) (c .machine-at2 .ensures ∙ rw (h4, h6, h5, h7))
-    ∙ pair-is (s .args .bytes .now) (s .args .q .now) (s .pre)
+    let h8 = c .before .before .header-byte5 .ensures .0 in
+    pair-is (s .args .bytes .now) (s .args .q .now) _ _ _ (s .pre) (c .before .machine-at .ensures ∙ ap₂ (machineAt (s .args .q .now) 16) h4 h6)
+    (c .machine-at2 .ensures ∙ rw (h4, h6, h5, h7)) h8
 
 pub pair-at-spec : {M : Type 1} → statement M
 pair-at-spec =
@@ -64,6 +69,8 @@ pair-at-spec =
     header-byte-requires-2
     header-byte-requires-3
     header-byte-requires-4
+    header-byte-requires-5
+    cast-hidden
     machine-at-requires
     mul-machine-at
     add-machine-at

@@ -13,7 +13,7 @@ use Rattle.comparison.proofs.pairs.compare_row.Statement.{statement}
 use Rattle.comparison.proofs.pairs.compare_row.Tie as tie
 
 abbrev Inv-loop : tie.InvT-loop
-Inv-loop s x numbers sum₀ i₀ i-end sum i = (i ≤ i-end) × (sum ≡ total i (λ y. pairTally (s .trial) (numberedPair (s .concrete) (s .abstraction) x (y * s .abstractions .step))))
+Inv-loop s x numbers sum₀ i₀ i-end sum i = (i ≤ i-end) × (sum ≡ total i (λ y. pairTally (s .trial) (numberedPair (s .concrete) (s .abstraction) (s .hidden) x (y * s .abstractions .step))))
 
 abbrev μ-loop : tie.MeasureT-loop
 μ-loop s x numbers sum₀ i₀ i-end sum i = i-end - i
