@@ -1,6 +1,6 @@
 #!/bin/sh
 # Builds the programs in C from the archives. Holds `console` to the number of each sample and of damaged copies, `restore` to the samples
-# whose table is the solver's and to what `shelf` says of a hard show, and `play` to runs and refusals.
+# whose table is the solver's and to what `shelf` says of a hard show and of shows with other hidden masks, and `play` to runs and refusals.
 set -eu
 cd "$(dirname "$0")/.."
 work=$(mktemp -d)
@@ -93,7 +93,7 @@ same 'console letters 0' 4 "$("$work/console" "$work/letters" 0)"
 # the hidden mask may be any byte; what it hides, and what not
 for mask in 1 128 255; do from mask case-05; byte 10 $mask; seal; expect 100 "$file"; done
 from lamp-compared lamp; byte 10 251; seal; expect 12 "$file"
-from lamp-too lamp; byte 10 255; seal; expect 100 "$file"
+from all-hidden lamp; byte 10 255; seal; expect 100 "$file"
 from four-with-1 case-04; byte 10 1; seal; expect 200 "$file"
 from four-with-2 case-04; byte 10 2; seal; expect 200 "$file"
 from lamp-shown lamp; byte 10 0; seal; expect 12 "$file"

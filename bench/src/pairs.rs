@@ -102,8 +102,8 @@ impl Random {
         p
     }
 
-    // Gives a half of the pairs a hidden mask, of bits that their observations use, which are the lowest two, or of others. Hidden bits of one machine,
-    // of both or of none are then changed at random, so that many states are matched only thanks to the mask.
+    // A hidden mask for half of the pairs: bits that their observations use, which are the lowest two, or others. Hidden bits of one machine, of both
+    // or of none are then changed at random, so that many states are matched only thanks to the mask.
     pub fn may_hide(&mut self, p: &mut Pair) {
         if self.below(2) == 0 {
             return;

@@ -11,16 +11,16 @@ use Prim.Native.Nat.{ℕ, _≤_, _<_}
 use lib.ListN.{length, getD, take, drop}
 use Rattle.machine.specs.declared.Pair.{Pair}
 use Rattle.machine.specs.Refusals.{valid, answer}
-use Rattle.machine.specs.Machines.{nC, nA, setsA}
+use Rattle.machine.specs.Machines.{observation, nC, nA, setsA}
 use Rattle.machine.specs.WellFormed.{wellFormed}
-use Rattle.machine.specs.Lassos.{Lasso, isPlay, SameObservations}
+use Rattle.machine.specs.Lassos.{Lasso, moment, isPlay, SameObservations}
 use Rattle.machine.specs.Table.{tableRoom, entry, covers, entries, IsTable}
 use Rattle.machine.specs.Ranks.{solverTable}
 use Rattle.machine.specs.Lines.{passesEach}
 use Rattle.machine.specs.Verdict.{carried, HasStarts, checkVerdict}
 use Rattle.theory.specs.Figure2.{figure2, FigureGoal}
 use Rattle.theory.specs.Statements.{IsRank}
-use Rattle.codec.specs.Reader.{taken, readAnswer, readTable}
+use Rattle.codec.specs.Reader.{taken, headerByte, readAnswer, readTable}
 use Rattle.codec.specs.Writer.{fileRoom}
 use Rattle.codec.specs.Statements.{AreBytes, WriteRead, ReadWrite, WrittenReads, ReadWrites, FirstBlockTellsSize, TakenFits, TakenHidden, StoredTest, StoredMatched, EntriesUnread}
 use Rattle.soundness.specs.Statements.{CheckUnread, PlayerUnread}
@@ -49,11 +49,6 @@ TakenIsNotCut = TakenFits
 abbrev pub EntriesAreUnread : Type 0
 EntriesAreUnread = CheckUnread × PlayerUnread × EntriesUnread
 
--- Document 02, No. 4: the mask that was read is the header's byte after n, and "Stored files have 0 and keep their meaning": where that byte is 0, test 4
--- is document 01's, and so are the matched pairs, by which alone check, solver and player go
-abbrev pub StoredFilesKeepMeaning : Type 0
-StoredFilesKeepMeaning = TakenHidden × StoredTest × StoredMatched
-
 -- ---- demand 3, first part
 -- "Take any file that is read without refusal and holds a table, whoever made it, and let the check say Carried of the machines and the table so
 -- read. Then every fair lasso of the rig from a start state has a fair lasso of the score, from a start state, with the same observation at
@@ -63,8 +58,19 @@ FilesAreSound = (f T : List ℕ) (p : Pair) (n : ℕ) → readAnswer f T ≡ ans
     → (l : Lasso) → isPlay (p .concrete) l ≡ true
     → (k : Lasso) × (isPlay (p .abstraction) k ≡ true) × SameObservations (p .hidden) (p .concrete) l (p .abstraction) k
 
+-- Document 02, No. 4: "Stored files have 0 and keep their meaning." The mask that was read is the header's byte after n. Where that byte is 0, test 4
+-- is document 01's, and so are the matched pairs; and Carried means what it meant, equal observations at every moment
+abbrev pub StoredFilesAreSound : Type 0
+StoredFilesAreSound = (f T : List ℕ) (p : Pair) (n : ℕ) → headerByte f 8 ≡ 0 → readAnswer f T ≡ answer (taken p true)
+    → checkVerdict p (readTable f T) ≡ answer (carried n)
+    → (l : Lasso) → isPlay (p .concrete) l ≡ true
+    → (k : Lasso) × (isPlay (p .abstraction) k ≡ true) × ((t : ℕ) → observation (p .concrete) (moment l t) ≡ observation (p .abstraction) (moment k t))
+
+abbrev pub StoredFilesKeepMeaning : Type 0
+StoredFilesKeepMeaning = TakenHidden × StoredTest × StoredMatched × StoredFilesAreSound
+
 -- "a lost table must be replaceable": of every file that is read without refusal, whatever its table, the file solver writes a file that is read
--- without refusal, as the same machines with the solver's entries
+-- without refusal, as the same machines under the same hidden mask with the solver's entries
 pub record Replaced (f buffer lent : List ℕ) (p : Pair) : Type 0 where
   pub size : ℕ
   pub answers : restoreAnswer f buffer ≡ answer size

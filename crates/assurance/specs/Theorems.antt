@@ -1,7 +1,7 @@
 -- A proof of each statement of demands 2 and 3, by name.
 use mathlib.Core.Bool.{true}
 use mathlib.Core.List.{List, _++_}
-use mathlib.Core.Path.{_≡_, refl, sym, ap, _∙_}
+use mathlib.Core.Path.{_≡_, refl, sym, ap, subst, _∙_}
 use Prim.Native.Nat.{ℕ, _+_, _-_, _≤_, _<_}
 use native.Mathlib.Omega.{arith}
 use lib.ListN.{length, getD, take, drop}
@@ -21,6 +21,8 @@ use Rattle.machine.specs.VerdictLaws.{check-lines, check-said}
 use Rattle.machine.specs.EntriesLaws.{entry-same, covers-same, each-same, verdict-same}
 use Rattle.theory.specs.RankLaws.{table-entries, table-is}
 use Rattle.theory.specs.RankTheorems.{rank-is-goal, rank-is-figure2, rank-is-least, table-holds-ranks, solver-table-passes, solver-table-covers, carried-exactly}
+use Rattle.machine.specs.Lassos.{SameObservations}
+use Rattle.soundness.specs.PlayLaws.{observations-zero}
 use Rattle.soundness.specs.Theorems.{carried-is-sound, check-unread, player-unread}
 use Rattle.codec.specs.Format.{fileOf}
 use Rattle.codec.specs.FileLaws.{write-read, read-write, written-reads, read-writes, first-block-tells-size, entries-unread, taken-fits, taken-hidden, stored-test, stored-matched, taken-representable, Was, was-taken, was-well}
@@ -28,7 +30,7 @@ use Rattle.solver.specs.Solver.{solveValidity, solvedTable}
 use Rattle.solver.specs.SolvedLaws.{solve-takes, solved-same, solved-room}
 use Rattle.restore.specs.Restoring.{restored, restoreBuffer}
 use Rattle.restore.specs.RestoringLaws.{restore-valid, restore-made}
-use Rattle.assurance.specs.Statements.{FilesReadBack, FilesAreWritten, FirstBlockIsEnough, TakenIsNotCut, EntriesAreUnread, StoredFilesKeepMeaning, FilesAreSound, LostTableIsReplaced}
+use Rattle.assurance.specs.Statements.{FilesReadBack, FilesAreWritten, FirstBlockIsEnough, TakenIsNotCut, EntriesAreUnread, FilesAreSound, StoredFilesAreSound, StoredFilesKeepMeaning, LostTableIsReplaced}
 use Rattle.assurance.specs.Statements.{SolverTakesMachines, SolvedPasses, SolvedCovers, SolvedIsCarried, SolvedIsFigure2, SolvedGoals, SolvedRanks, SolvedRest}
 
 pub files-read-back : FilesReadBack
@@ -46,11 +48,19 @@ taken-is-not-cut = taken-fits
 pub entries-are-unread : EntriesAreUnread
 entries-are-unread = (check-unread, player-unread, entries-unread)
 
-pub stored-files-keep-meaning : StoredFilesKeepMeaning
-stored-files-keep-meaning = (taken-hidden, stored-test, stored-matched)
-
 pub files-are-sound : FilesAreSound
 files-are-sound f T p n taken said = carried-is-sound p _ n (check-said p _ (carried n) said)
+
+-- the mask is 0, and with mask 0 the bytes are equal
+pub stored-files-are-sound : StoredFilesAreSound
+stored-files-are-sound f T p n z e said l h =
+    let m = files-are-sound f T p n e said l h in
+    let none : p .hidden ≡ 0 = taken-hidden f T p true e ∙ z in
+    let same : SameObservations 0 (p .concrete) l (p .abstraction) (m .0) = subst (λ (x : ℕ). SameObservations x (p .concrete) l (p .abstraction) (m .0)) none (m .2) in
+    (m .0, m .1, observations-zero (p .concrete) l (p .abstraction) (m .0) same)
+
+pub stored-files-keep-meaning : StoredFilesKeepMeaning
+stored-files-keep-meaning = (taken-hidden, stored-test, stored-matched, stored-files-are-sound)
 
 -- the new file is that of the same machines with the solver's table, and what is written reads back
 pub lost-table-is-replaced : LostTableIsReplaced

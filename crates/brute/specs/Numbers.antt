@@ -8,6 +8,7 @@ use Rattle.mask.specs.Bits.{hasBit}
 use Rattle.mask.specs.Tables.{table}
 use Rattle.machine.specs.declared.Machine.{Machine}
 use Rattle.machine.specs.declared.Pair.{Pair}
+use Rattle.machine.specs.Machines.{pairUnder}
 use Rattle.machine.specs.Table.{blank}
 use Rattle.brute.specs.declared.numbers.Shape.{Shape}
 
@@ -30,8 +31,7 @@ numberedMachine shape x = record {
 
 -- the pair of concrete machine number x and abstract machine number y, under a hidden mask
 unfoldable pub numberedPair : Shape → Shape → ℕ → ℕ → ℕ → Pair
-numberedPair concrete abstraction hidden x y =
-    record { concrete = numberedMachine concrete x; abstraction = numberedMachine abstraction y; hidden = hidden }
+numberedPair concrete abstraction hidden x y = pairUnder hidden (numberedMachine concrete x) (numberedMachine abstraction y)
 
 -- the entry that a digit stands for: blank for 0, and else one less
 unfoldable pub entryOf : ℕ → ℕ

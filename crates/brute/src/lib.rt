@@ -1,5 +1,5 @@
 // A brute-force version of solver, check and player, for tests: plain loops over all states, no walks of masks, no rows of masks. It shares
-// machines, partners and their numbers, refusals, sizes, equal observations, the order of sections, the meaning of a bit and the full mask
+// machines, partners and their numbers, refusals, sizes, when observations are the same, the order of sections, the meaning of a bit and the full mask
 // with the product, and nothing else.
 mod lassos;
 mod lifting;

@@ -15,11 +15,11 @@ use Rattle.mask.specs.Bounded.{every}
 use Rattle.mask.specs.BoundedLaws.{every-at, every-of, every-cong, first-is, first-none, first-before}
 use Rattle.mask.specs.Tables.{table}
 use Rattle.mask.specs.TablesLaws.{table-length, table-cong}
+use Rattle.machine.specs.Machines.{pairUnder}
 use Rattle.machine.specs.Refusals.{Tested, valid, refused, andThen, bufferAfter, refusal, short-buffer, wrong-length}
 use Rattle.machine.specs.RefusalsLaws.{valid-next, then-of, then-refused, then-then, buffer-valid, buffer-short, buffer-made}
 use Rattle.machine.specs.declared.Machine.{Machine}
 use Rattle.machine.specs.declared.Refusal.{Refusal}
-use Rattle.machine.specs.HiddenLaws.{pairUnder}
 use Rattle.machine.specs.WellFormed.{pairValidity}
 use Rattle.machine.specs.WellFormedLaws.{counts-at, mul-bound}
 use Rattle.machine.specs.Table.{tableRoom}

@@ -40,7 +40,7 @@ abbrev pub AreBytes : List ℕ → Type 0
 AreBytes f = (i : ℕ) → getD f i 0 < 256
 
 -- ---- what the definitions say of a file
--- what is written reads back: the machines, the note, and the table's entries, with the lent table's other entries as they were
+-- what is written reads back: the machines with their hidden mask, the note, and the table's entries, with the lent table's other entries as they were
 abbrev pub WriteRead : Type 0
 WriteRead = (p : Pair) (note : Bool) (T lent : List ℕ) → Representable p → wellFormed p ≡ true → AreEntries T → tableRoom ≤ length lent
     → (readAnswer (fileOf p note T) lent ≡ answer (taken p note))
@@ -103,7 +103,7 @@ WrittenReads = (p : Pair) (note : Bool) (T buffer lent : List ℕ) (n : ℕ) →
     → (readAnswer (take n (writeBuffer p note T buffer)) lent ≡ answer (taken p note))
     × (readTable (take n (writeBuffer p note T buffer)) lent ≡ cond note (table (entries p) (λ e. getD T e 0) ++ drop (entries p) lent) lent)
 
--- a file that was taken is written again, to the byte, from the machines, the note and the table that were read
+-- a file that was taken is written again, to the byte, from the machines, the mask, the note and the table that were read
 abbrev pub ReadWrites : Type 0
 ReadWrites = (f lent buffer : List ℕ) (p : Pair) (note : Bool) → AreBytes f → fileRoom ≤ length buffer → readAnswer f lent ≡ answer (taken p note)
     → (writeAnswer p note (readTable f lent) buffer ≡ answer (length f)) × (writeBuffer p note (readTable f lent) buffer ≡ f ++ drop (length f) buffer)

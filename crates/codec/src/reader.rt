@@ -421,7 +421,7 @@ fn take_show(bytes: &[u8], table: &mut [u16]) -> Show
     }
 }
 
-// Reads a file: its machines, the note whether a table came, and the table into a lent one.
+// Reads a file: its machines with their hidden mask, the note whether a table came, and the table into a lent one.
 pub fn read_file(bytes: &[u8], table: &mut [u16]) -> Show
     ensures answer { λ r. ⌜ readOf r ≡ readAnswer (now (bytes .entry)) (now (table .entry)) ⌝ }
     ensures machines { λ r. ⌜ r .pair ≡ pairGiven (readAnswer (now (bytes .entry)) (now (table .entry))) ⌝ }

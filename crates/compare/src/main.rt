@@ -34,6 +34,7 @@ fn line(s: Series) {
     let c = s.concrete;
     let a = s.abstraction;
     let t = comparison::compare(s);
+    // of series with observations over 1 it tells the mask, 0 too
     if c.twos != 0 {
         show(b"hidden ", s.hidden as u64);
         io::write_all(STDOUT_FILENO, b", ");
@@ -116,8 +117,8 @@ fn small(c: Shape, x: Numbers, a: Shape, y: Numbers, tables: u64) {
     under(0, c, x, a, y, altered_tables(tables));
 }
 
-// Pairs with observations from 0 to 3 under a hidden mask, which are two of the other series but for the observations: with bit 1 hidden their
-// counts are the same.
+// Pairs with observations from 0 to 3 under a hidden mask, which are two of the other series but for the observations: with mask 2 their counts
+// are the same.
 fn masked(hidden: u8) {
     under(
         hidden,

@@ -22,7 +22,8 @@ use Rattle.comparison.specs.Tables.{zeros}
 unfoldable pub sameMoments : Pair → Lasso → Lasso → ℕ → Bool
 sameMoments p l k n = every n (λ t. sameObservation (p .hidden) (observation (p .concrete) (moment l t)) (observation (p .abstraction) (moment k t)))
 
--- the first s + q states of B are the rule's run, and with a stem of s a play of the abstract machine with the lasso's observations
+-- the first s + q states of B are the rule's run, and with a stem of s a play of the abstract machine with the lasso's observations, in the
+-- bits that are not hidden
 unfoldable pub runFits : Pair → List ℕ → Lasso → List ℕ → ℕ → ℕ → Bool
 runFits p T l B s q =
     let k = given (take s B) (take q (drop s B)) in

@@ -1,4 +1,5 @@
-// The player beside the rule, on all short lassos: the answers, the run, and whether it is a fair lasso with the same observations.
+// The player beside the rule, on all short lassos: the answers, the run, and whether it is a fair lasso with the same observations, in
+// the bits that are not hidden.
 ghost use mathlib.Core.Path.{_≡_};
 ghost use Prim.Native.Nat.{_+_, _≤_};
 ghost use Rattle.machine.specs.Lassos.{given};
@@ -14,7 +15,7 @@ use machine::Pair;
 use machine::Refusal;
 
 // Whether the first s + q bytes of a buffer are the rule's run, and with s states of stem a fair lasso of the abstract machine from a start
-// state, with the lasso's observations.
+// state, with the lasso's observations in the bits that are not hidden.
 fn run_fits(
     p: Pair,
     table: &[u16],

@@ -10,7 +10,7 @@ use Rattle.mask.specs.Bounded.{every, some, first, sum, count, everyIn, someIn}
 use Rattle.mask.specs.Tables.{maskOf, table}
 use Rattle.machine.specs.declared.Machine.{Machine}
 use Rattle.machine.specs.declared.Pair.{Pair}
-use Rattle.machine.specs.Machines.{observation, successors, moves, starts, fairSet, inFairSet, sameObservation, matched, next}
+use Rattle.machine.specs.Machines.{observation, successors, moves, starts, fairSet, inFairSet, sameObservation, pairUnder, matched, next}
 use Rattle.machine.specs.Refusals.{Result, answer, refused, refusal, andThen, passOn}
 use Rattle.machine.specs.WellFormed.{countsOk, beyond, stateBeyond, setBeyond, beyondCounts, stuckState, contentValidity, pairValidity}
 use Rattle.machine.specs.Lassos.{Lasso, moment}
@@ -37,11 +37,11 @@ machineOf observations successors sets = record {
 -- "By" has the rig before it and the score after it.
 infix 20 _by_
 _by_ : Machine → Machine → Pair
-C by A = record { concrete = C; abstraction = A; hidden = 0 }
+C by A = pairUnder 0 C A
 
 -- the same machines under a hidden mask
 under : ℕ → Pair → Pair
-under hidden p = record { concrete = p .concrete; abstraction = p .abstraction; hidden = hidden }
+under hidden p = pairUnder hidden (p .concrete) (p .abstraction)
 
 -- K with its observation and its sets
 K : ℕ → List ℕ → Machine

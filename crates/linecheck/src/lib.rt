@@ -108,6 +108,7 @@ fn lines_validity(p: Pair, matched: [u64; 64], table: &[u16]) -> Validity
 {
     let concrete = p.concrete;
     let abstraction = p.abstraction;
+    // for the loop's invariant alone, which speaks of the pair
     let hidden = p.hidden;
     let nc = concrete.states;
     let na = abstraction.states;
@@ -183,6 +184,7 @@ fn lacking_start(p: Pair, table: &[u16]) -> usize
 {
     let concrete = p.concrete;
     let abstraction = p.abstraction;
+    // for the loop's invariant alone, which speaks of the pair
     let hidden = p.hidden;
     let nc = concrete.states;
     let na = abstraction.states;

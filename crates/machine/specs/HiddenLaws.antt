@@ -13,7 +13,7 @@ use Rattle.mask.specs.Bits.{hasBit}
 use Rattle.mask.specs.BitsLaws.{has-or, bits-ext}
 use Rattle.machine.specs.declared.Machine.{Machine}
 use Rattle.machine.specs.declared.Pair.{Pair}
-use Rattle.machine.specs.Machines.{observation, sameObservation, matched}
+use Rattle.machine.specs.Machines.{observation, sameObservation, pairUnder, matched}
 
 -- ---- observations
 -- with nothing hidden they are the same exactly if the bytes are equal
@@ -55,10 +55,6 @@ pub same-more : (hidden more x y : ℕ) → HidesMore more hidden → sameObserv
 same-more hidden more x y h t = same-of-bits more x y (λ b f. same-bit hidden x y t b (refute _ (λ u. clash f (h b u))))
 
 -- ---- matched pairs
--- two machines under a hidden mask
-abbrev pub pairUnder : ℕ → Machine → Machine → Pair
-pairUnder hidden concrete abstraction = record { concrete = concrete; abstraction = abstraction; hidden = hidden }
-
 -- with mask 0 it is document 01's: "A pair (c, a) is matched if the observations of c and a are equal"
 pub matched-zero : (p : Pair) → p .hidden ≡ 0 → (c a : ℕ) → matched p c a ≡ eqb (observation (p .concrete) c) (observation (p .abstraction) a)
 unfolding matched

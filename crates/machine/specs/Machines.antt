@@ -39,6 +39,10 @@ inFairSet m k s = hasBit (fairSet m k) s
 unfoldable pub sameObservation : ℕ → ℕ → ℕ → Bool
 sameObservation hidden x y = eqb (bitOr hidden x) (bitOr hidden y)
 
+-- two machines under a hidden mask
+abbrev pub pairUnder : ℕ → Machine → Machine → Pair
+pairUnder hidden concrete abstraction = record { concrete = concrete; abstraction = abstraction; hidden = hidden }
+
 -- document 01's nC, m, nA, n and P of a pair
 abbrev pub nC : Pair → ℕ
 nC p = p .concrete .states

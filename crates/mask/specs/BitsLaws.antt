@@ -72,11 +72,11 @@ mask-ext (suc w) a b ha hb h =
     mask-ext w (a / 2) (b / 2) (half-small w a ha) (half-small w b hb) (λ i l. sym (has-suc a i) ∙ h (suc i) (omega arith) ∙ has-suc b i) in
     omega (arith, odd-eq a b (h 0 (omega arith)))
 
--- and numbers of any width by all their bits
 width-of : (n : ℕ) → n < 2 ^ n
 width-of zero = omega arith
 width-of (suc n) = rw pow-suc (omega (arith, width-of n))
 
+-- and numbers of any width by all their bits
 pub bits-ext : (a b : ℕ) → ((i : ℕ) → hasBit a i ≡ hasBit b i) → a ≡ b
 bits-ext a b h =
     mask-ext (a + b) a b (omega (arith, width-of a, pow-mono {i = a} {j = a + b} (omega arith))) (omega (arith, width-of b, pow-mono {i = b} {j = a + b} (omega arith)))

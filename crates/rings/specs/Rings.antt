@@ -9,6 +9,7 @@ use Rattle.mask.specs.Bits.{withBit, fullMask}
 use Rattle.mask.specs.Tables.{table, maskOf}
 use Rattle.machine.specs.declared.Machine.{Machine}
 use Rattle.machine.specs.declared.Pair.{Pair}
+use Rattle.machine.specs.Machines.{pairUnder}
 use Rattle.rings.specs.declared.Rings.{Rings}
 use Rattle.rings.specs.declared.State.{State}
 
@@ -82,5 +83,4 @@ ringMachine abstraction back entry rings = record {
 
 -- a pair of such machines, of the second family where `back` says so, with no bit hidden
 unfoldable pub ringPair : Bool → ℕ → Rings → Rings → Pair
-ringPair back entry concrete abstraction =
-    record { concrete = ringMachine false back entry concrete; abstraction = ringMachine true back entry abstraction; hidden = 0 }
+ringPair back entry concrete abstraction = pairUnder 0 (ringMachine false back entry concrete) (ringMachine true back entry abstraction)

@@ -233,8 +233,8 @@ fn ring_machine(abstraction: bool, back: bool, entry: u32, rings: Rings) -> Mach
     }
 }
 
-// A pair of such machines, of the second family where `back` says so, with no bit hidden. In the first the first state of the abstract machine leads into its second
-// ring too, to state number `entry` there.
+// A pair of such machines, of the second family where `back` says so, with no bit hidden. In the first the first state of the abstract machine
+// leads into its second ring too, to state number `entry` there.
 pub fn ring_pair(back: bool, entry: u32, concrete: Rings, abstraction: Rings) -> Pair
     ensures { λ r. ⌜ r ≡ ringPair back entry concrete abstraction ⌝ }
 {

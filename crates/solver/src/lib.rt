@@ -72,6 +72,7 @@ fn level(
 {
     let concrete = p.concrete;
     let abstraction = p.abstraction;
+    // for the loop's invariant alone, which speaks of the pair
     let hidden = p.hidden;
     let nc = concrete.states;
     let m = concrete.sets;

@@ -7,15 +7,16 @@ use native.Mathlib.Decide.{decLt}
 use native.Mathlib.Omega.{arith}
 use lib.ListN.{length, getD, take, drop, length-take, length-drop}
 use lib.Seq.{ext-getD, getD-take, getD-drop}
+use borrow.Author.Tests.{eqb-true}
 use Rattle.mask.specs.LogicLaws.{and-l, and-r, and-i}
 use Rattle.mask.specs.BoundedLaws.{every-at, every-of, some-at, some-of}
 use Rattle.mask.specs.Tables.{table}
 use Rattle.mask.specs.TablesLaws.{table-length, table-at}
 use Rattle.machine.specs.declared.Machine.{Machine}
-use Rattle.machine.specs.Machines.{moves, starts, inFairSet}
+use Rattle.machine.specs.Machines.{observation, moves, starts, inFairSet}
 use Rattle.machine.specs.Lassos.{Lasso, moment, isLasso, isFair, fromStart, isPlay, SameObservations}
 use Rattle.machine.specs.LassosLaws.{moment-stem, moment-round, moment-loop, Goes, lasso-loop, lasso-goes, lasso-of}
-use Rattle.machine.specs.HiddenLaws.{same-refl, same-sym, same-trans}
+use Rattle.machine.specs.HiddenLaws.{HidesMore, same-zero, same-refl, same-sym, same-trans, same-more}
 use Rattle.soundness.specs.Plays.{Again, lassoOf, unrolled, SamePlay, Play}
 
 -- ---- sequences that come again
@@ -261,7 +262,22 @@ module _ (hidden : ℕ) where
   unfolding SameObservations
   observations-trans m l m′ k m″ i g h t = same-trans hidden _ _ _ (g t) (h t)
 
+  -- hiding more bits keeps it
+  pub observations-more : (more : ℕ) → HidesMore more hidden → (m : Machine) (l : Lasso) (m′ : Machine) (k : Lasso) → SameObservations hidden m l m′ k
+      → SameObservations more m l m′ k
+  unfolding SameObservations
+  observations-more more g m l m′ k h t = same-more hidden more _ _ g (h t)
+
   -- lassos with the same endless play, in one machine
   pub observations-play : (m : Machine) (l k : Lasso) → SamePlay l k → SameObservations hidden m l m k
   unfolding SameObservations
   observations-play m l k h t = rw (h t) (same-refl hidden _)
+
+-- with mask 0 the bytes are equal at every moment
+pub observations-zero : (m : Machine) (l : Lasso) (m′ : Machine) (k : Lasso) → SameObservations 0 m l m′ k
+    → (t : ℕ) → observation m (moment l t) ≡ observation m′ (moment k t)
+unfolding SameObservations
+observations-zero m l m′ k h t =
+    let x = observation m (moment l t) in
+    let y = observation m′ (moment k t) in
+    eqb-true x y (sym (same-zero x y) ∙ h t)

@@ -8,8 +8,7 @@ use lib.ListN.{length, getD}
 use borrow.Author.Count.{below-more, below-none}
 use borrow.Author.Needs.{needs}
 use borrow.Author.Tests.{not-true, not-false}
-use Rattle.machine.specs.Machines.{starts}
-use Rattle.machine.specs.HiddenLaws.{pairUnder}
+use Rattle.machine.specs.Machines.{starts, pairUnder}
 use Rattle.machine.specs.WellFormedLaws.{WellPair, well-pair}
 use Rattle.machine.specs.Table.{blank}
 use Rattle.machine.specs.Verdict.{startCovered}

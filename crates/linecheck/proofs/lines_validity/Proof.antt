@@ -20,10 +20,9 @@ use Rattle.mask.specs.BoundedLaws.{every-at, every-of, everyIn-zero}
 use Rattle.mask.specs.WalkLaws.{everyIn-hit, everyIn-miss}
 use Rattle.machine.specs.declared.Pair.{Pair}
 use Rattle.machine.specs.Refusals.{refused, testedOf}
-use Rattle.machine.specs.Machines.{next, nC, nA, setsA}
+use Rattle.machine.specs.Machines.{next, nC, nA, setsA, pairUnder}
 use Rattle.machine.specs.Observed.{matchedMasks}
 use Rattle.machine.specs.WellFormedLaws.{WellPair, well-pair, pairs-small, ranks-small}
-use Rattle.machine.specs.HiddenLaws.{pairUnder}
 use Rattle.machine.specs.StepLaws.{next-lt}
 use Rattle.machine.specs.Table.{blank, entryIndex}
 use Rattle.machine.specs.RowLaws.{row-room, entry-room}

@@ -4,8 +4,7 @@ use Prim.Native.Nat.{_-_, _≤_, _<_}
 use native.Mathlib.Omega.{arith}
 use lib.ListN.{length}
 use borrow.Author.Needs.{needs}
-use Rattle.machine.specs.Machines.{nC, nA}
-use Rattle.machine.specs.HiddenLaws.{pairUnder}
+use Rattle.machine.specs.Machines.{nC, nA, pairUnder}
 use Rattle.machine.specs.Game.{level, xOver}
 use Rattle.machine.specs.WellFormedLaws.{WellPair, well-pair, pairs-small}
 use Rattle.rows.specs.Rows.{rowsOf, pairsIn}

@@ -1,4 +1,4 @@
--- The moments passed have equal observations; the first that has not ends the search.
+-- The moments passed have the same observations; the first that has not ends the search.
 use mathlib.Core.Bool.{Bool, true}
 use mathlib.Core.List.{List}
 use mathlib.Core.Path.{_∙_, _≡_, ap, ap₂, sym}

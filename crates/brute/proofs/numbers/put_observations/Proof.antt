@@ -1,6 +1,6 @@
 -- The invariant: the first s elements are the observations of the states below s.
 use mathlib.Core.Bool.{cond}
-use mathlib.Core.Path.{_∙_, _≡_, ap, ap₂}
+use mathlib.Core.Path.{_∙_, _≡_, ap₂}
 use Prim.Native.Nat.{ℕ, _+_, _-_, _≤_}
 use native.Mathlib.Omega.{arith}
 use lib.ListN.{length}
