@@ -3,35 +3,33 @@ use mathlib.Core.Bool.{Bool, true, false, false≢true, cond}
 use mathlib.Core.Logic.{⊎-elim}
 use mathlib.Core.Path.{_≡_, refl, sym, ap, ap₂, subst, _∙_}
 use mathlib.Core.List.{List, _++_}
-use Prim.Native.Nat.{ℕ, _+_, _*_, _/_, _%_, _≤_, _<_}
+use Prim.Native.Nat.{ℕ, suc, _+_, _*_, _/_, _%_, _≤_, _<_}
 use native.Mathlib.Omega.{arith}
-use lib.Dec.{eqb, ltb}
+use lib.Dec.{eqb}
 use lib.ListN.{length, getD, take, drop, length-append, length-drop, List·getD-append}
 use lib.Seq.{getD-take, take-at, take-all, length-take-le}
 use borrow.Author.Tests.{eq-eqb, ne-eqb, eqb-true, eqb-false}
 use Rattle.mask.specs.Logic.{not, or}
-use Rattle.mask.specs.LogicLaws.{dec, and-true-l, or-false, not-f}
+use Rattle.mask.specs.LogicLaws.{clash, dec, and-true-l, or-false, not-f}
 use Rattle.mask.specs.BoundedLaws.{every-cong}
 use Rattle.mask.specs.TablesLaws.{table-length}
-use Rattle.machine.specs.declared.Machine.{Machine}
 use Rattle.machine.specs.declared.Pair.{Pair}
 use Rattle.machine.specs.declared.Refusal.{Refusal}
-use Rattle.machine.specs.Refusals.{Tested, valid, answer, refused, refusal, andThen, passOn, bufferAfter, bad-block, bad-padding, beyond-counts, no-start, no-successor, bufferValidity}
-use Rattle.machine.specs.RefusalsLaws.{refused-not-answer, refused-is, then-of, then-refused, then-answer, then-cases, given-at, given-refused, buffer-room, buffer-made}
+use Rattle.machine.specs.Refusals.{Tested, valid, answer, refused, refusal, andThen, passOn, bufferAfter, bad-first-block, bad-block, bad-padding, misplaced, bufferValidity}
+use Rattle.machine.specs.RefusalsLaws.{then-of, then-refused, then-answer, then-cases, given-at, given-refused, Refuses, refuses-none, refuses-at, refuses-cond, refuses-then, refuses-each, buffer-room, buffer-made}
 use Rattle.machine.specs.Machines.{nC, nA, setsC, setsA}
 use Rattle.machine.specs.Table.{entries, tableRoom}
-use Rattle.machine.specs.WellFormed.{wellFormed, beyondCounts, stuckState, contentValidity, pairValidity}
-use Rattle.machine.specs.WellFormedLaws.{valid-is-well}
+use Rattle.machine.specs.WellFormed.{wellFormed, pairValidity}
+use Rattle.machine.specs.WellFormedLaws.{valid-is-well, pair-refuses}
 use Rattle.machine.specs.HiddenLaws.{matched-zero}
 use Rattle.codec.specs.Format.{letters, fileLength, fileOf}
-use Rattle.codec.specs.Reader.{inputRoom, taken, checkHolds, numberHolds, blockHolds, headerByte, noteOf, headerHolds, countsHold, firstValidity, demanded, badBlock, paddingHolds, blocksValidity, payloadOf, machineAt, pairOf, entriesOf, readValidity, readAnswer, readTable, sizeOf}
+use Rattle.codec.specs.Reader.{inputRoom, taken, numberFound, blockValidity, headerByte, noteOf, headerHolds, countsHold, headerValidity, firstValidity, demanded, laterBlocks, paddingHolds, blocksValidity, payloadOf, machineAt, pairOf, entriesOf, readValidity, readAnswer, readTable, sizeOf}
 use Rattle.codec.specs.Writer.{fileRoom, writeValidity, writeAnswer, writeBuffer}
-use Rattle.codec.specs.Statements.{Representable, AreBytes, WriteRead, ReadWrite, TableUnread, FirstBlock, FirstBlockTellsSize, TakenRepresentable, TakenHidden, StoredTest, StoredMatched, TakenFits, WriteAnswers, WrittenReads, ReadWrites, EntriesUnread}
-use Rattle.codec.specs.NumberLaws.{number-cong}
-use Rattle.codec.specs.FormatLaws.{check-cong, file-length, file-cong}
+use Rattle.codec.specs.Statements.{Representable, AreBytes, WriteRead, ReadWrite, TableUnread, IsEarly, FirstBlock, FirstBlockTellsSize, TakenRepresentable, TakenHidden, StoredTest, StoredMatched, TakenFits, WriteAnswers, WrittenReads, ReadWrites, EntriesUnread}
+use Rattle.codec.specs.FormatLaws.{file-length, file-cong}
 use Rattle.codec.specs.WriterLaws as writer
 use Rattle.codec.specs.WriterLaws.{with-room, same-tests, answer-valid}
-use Rattle.codec.specs.ReaderLaws.{first-valid, blocks-valid, few-blocks, table-after, wrong-length-is}
+use Rattle.codec.specs.ReaderLaws.{block-refuses, check-same, found-same, first-valid, blocks-valid, blocks-then, few-blocks, table-after, wrong-length-is}
 use Rattle.codec.specs.PayloadLaws.{machine-representable}
 use Rattle.codec.specs.WriteReadLaws as written
 use Rattle.codec.specs.ReadWriteLaws.{whole, joined-bytes, file-same}
@@ -175,28 +173,27 @@ entries-unread p note T U buffer h k same =
 
 -- ---- what the first block tells
 -- the test of refusal 2
-abbrev ragged : List ℕ → Bool
+abbrev pub ragged : List ℕ → Bool
 ragged f = or (eqb (length f) 0) (not (eqb (length f % 512) 0))
 
-module _ (f g : List ℕ) (start : take 512 f ≡ take 512 g) where
-  byte-same : (i : ℕ) → i < 512 → getD f i 0 ≡ getD g i 0
-  byte-same i h = sym (getD-take 512 f i 0 h) ∙ ap (λ (l : List ℕ). getD l i 0) start ∙ getD-take 512 g i 0 h
+same-start : (f g : List ℕ) → take 512 f ≡ take 512 g → (i : ℕ) → i < 512 → getD f i 0 ≡ getD g i 0
+same-start f g start i h = sym (getD-take 512 f i 0 h) ∙ ap (λ (l : List ℕ). getD l i 0) start ∙ getD-take 512 g i 0 h
 
+-- of two files of which the first 512 bytes are the same
+module _ (f g : List ℕ) (same : (i : ℕ) → i < 512 → getD f i 0 ≡ getD g i 0) where
   header-same : (k : ℕ) → k < 16 → headerByte f k ≡ headerByte g k
   unfolding headerByte
-  header-same k h = byte-same (2 + k) (omega arith)
+  header-same k h = same (2 + k) (omega arith)
 
   note-same : noteOf f ≡ noteOf g
   unfolding noteOf
   note-same = rw (header-same 9 (omega arith))
 
-  block-same : blockHolds f 0 ≡ blockHolds g 0
-  unfolding blockHolds checkHolds numberHolds
-  block-same = rw (
-    number-cong 2 f g (512 * 0 + 510) (512 * 0 + 510) (λ i h. byte-same (512 * 0 + 510 + i) (omega arith)),
-    check-cong f g (512 * 0) (512 * 0) (λ i h. byte-same (512 * 0 + i) (omega arith)),
-    number-cong 2 f g (512 * 0) (512 * 0) (λ i h. byte-same (512 * 0 + i) (omega arith)),
-  )
+  block-same : blockValidity bad-first-block f 0 ≡ blockValidity bad-first-block g 0
+  unfolding blockValidity
+  block-same =
+      let bytes : (j : ℕ) → j < 512 → getD f (512 * 0 + j) 0 ≡ getD g (512 * 0 + j) 0 = λ j h. same (512 * 0 + j) (omega arith) in
+      rw (check-same f g 0 0 bytes, found-same f g 0 0 bytes)
 
   holds-same : headerHolds f ≡ headerHolds g
   unfolding headerHolds
@@ -210,11 +207,11 @@ module _ (f g : List ℕ) (start : take 512 f ≡ take 512 g) where
   unfolding countsHold
   counts-same = rw (header-same 4 (omega arith), header-same 5 (omega arith), header-same 6 (omega arith), header-same 7 (omega arith))
 
-  first-same : ragged f ≡ ragged g → firstValidity f ≡ firstValidity g
-  unfolding firstValidity
+  pub first-same : ragged f ≡ ragged g → firstValidity f ≡ firstValidity g
+  unfolding firstValidity headerValidity
   first-same e = rw (e, block-same, holds-same, counts-same)
 
-  demanded-same : demanded f ≡ demanded g
+  pub demanded-same : demanded f ≡ demanded g
   unfolding demanded
   demanded-same = rw (header-same 4 (omega arith), header-same 5 (omega arith), header-same 6 (omega arith), header-same 7 (omega arith), note-same)
 
@@ -223,53 +220,35 @@ module _ (f g : List ℕ) (start : take 512 f ≡ take 512 g) where
   size-same e = ap₂ (λ (v : Tested) (n : ℕ). andThen v (answer n)) (first-same e) demanded-same
 
   -- of two files of one length
-  ragged-same : length f ≡ length g → ragged f ≡ ragged g
+  pub ragged-same : length f ≡ length g → ragged f ≡ ragged g
   ragged-same long = rw long
 
--- a test that refuses with no number below n
-abbrev Late : ℕ → Tested → Type 0
-Late n v = (r : Refusal) → v ≡ refused r → n ≤ r .number
+-- the refusals that come later
+abbrev IsLate : Refusal → Type 0
+IsLate r = IsEarly r → ⊥
 
-late-valid : (n : ℕ) → Late n valid
-late-valid n r e = absurd (refused-not-answer (sym e))
-
-late-at : (n number x y z : ℕ) → n ≤ number → Late n (refused (refusal number x y z))
-late-at n number x y z h r e = omega (arith, ap (λ (x : Refusal). x .number) (refused-is e))
-
-late-cond : (n : ℕ) (b : Bool) (v w : Tested) → Late n v → Late n w → Late n (cond b v w)
-late-cond n true v w p q = p
-late-cond n false v w p q = q
-
-late-then : (n : ℕ) (v w : Tested) → Late n v → Late n w → Late n (andThen v w)
-unfolding andThen passOn
-late-then n (answer t) w p q = q
-late-then n (refused s) w p q = p
-
-content-late : (i : ℕ) (m : Machine) → Late 7 (contentValidity i m)
-unfolding contentValidity
-content-late i m =
-    let s = stuckState (m .states) (m .successors) in
-    late-cond 7 (beyondCounts m) _ _ (late-at 7 beyond-counts i 0 0 (omega arith))
-    (late-cond 7 (eqb (m .start) 0) _ _ (late-at 7 no-start i 0 0 (omega arith))
-    (late-cond 7 (ltb s 64) _ _ (late-at 7 no-successor i s 0 (omega arith)) (late-valid 7)))
+late-at : (number x y z : ℕ) → 7 ≤ number → (number ≡ misplaced → 0 < x) → IsLate (refusal number x y z)
+late-at number x y z h m early = ⊎-elim (λ q. omega arith) (λ q. omega (arith, m (q .0), q .1)) early
 
 -- the counts were tested before
-pair-late : (f : List ℕ) → countsHold f ≡ true → Late 7 (pairValidity (pairOf f))
-unfolding pairValidity pairOf machineAt countsHold
-pair-late f t = rw t (late-then 7 _ _ (content-late 0 _) (content-late 1 _))
+pair-late : (f : List ℕ) → countsHold f ≡ true → Refuses IsLate (pairValidity (pairOf f))
+unfolding pairOf machineAt countsHold
+pair-late f t = pair-refuses IsLate (λ number x y z l h. late-at number x y z (omega arith) (λ e. absurd (omega arith))) (pairOf f) (λ e. absurd (clash e t))
 
 -- and so was the length
-blocks-late : (f : List ℕ) → length f ≡ demanded f → Late 7 (blocksValidity f)
-unfolding blocksValidity
-blocks-late f e =
-    rw (not-f (eq-eqb (length f) (demanded f) e))
-    (late-cond 7 (ltb (badBlock f) (length f / 512)) _ _ (late-at 7 bad-block (badBlock f) 0 0 (omega arith))
-    (late-cond 7 (not (paddingHolds f)) _ _ (late-at 7 bad-padding 0 0 0 (omega arith)) (late-valid 7)))
+blocks-late : (f : List ℕ) → length f ≡ demanded f → Refuses IsLate (blocksValidity f)
+unfolding laterBlocks
+blocks-late f e = subst (Refuses IsLate) (sym (blocks-then f e))
+    (refuses-then IsLate (laterBlocks f) _
+    (refuses-each IsLate _ _ (λ i l v. block-refuses f (suc i) IsLate bad-block
+    (λ t. late-at bad-block (suc i) 0 0 (omega arith) (λ q. omega arith))
+    (λ t n. late-at misplaced (suc i) (numberFound f (suc i)) 0 (omega arith) (λ q. omega arith))))
+    (λ v. refuses-cond IsLate (not (paddingHolds f)) _ _ (λ t. refuses-at IsLate _ (late-at bad-padding 0 0 0 (omega arith) (λ q. absurd (omega arith)))) (λ t. refuses-none IsLate)))
 
-early-same : (f g : List ℕ) (len : ℕ) → length f ≡ length g → take 512 f ≡ take 512 g → (r : Refusal) → r .number ≤ 6
+early-same : (f g : List ℕ) (len : ℕ) → length f ≡ length g → take 512 f ≡ take 512 g → (r : Refusal) → IsEarly r
     → readValidity f len ≡ refused r → readValidity g len ≡ refused r
 unfolding readValidity
-early-same f g len long start r small e = ⊎-elim
+early-same f g len long start r early e = ⊎-elim
     (λ t. then-refused _ _ r t)
     (λ t. then-of _ _ (t .0) ∙ ⊎-elim
     (λ u. then-refused _ _ r (sym first ∙ u))
@@ -277,31 +256,35 @@ early-same f g len long start r small e = ⊎-elim
     (then-cases (firstValidity f) _ r (t .1)))
     (then-cases (bufferValidity tableRoom len) _ r e)
   where
+    same : (i : ℕ) → i < 512 → getD f i 0 ≡ getD g i 0
+    same = same-start f g start
+
     first : firstValidity f ≡ firstValidity g
-    first = first-same f g start (ragged-same f g start long)
+    first = first-same f g same (ragged-same f g same long)
 
     later : firstValidity f ≡ valid → andThen (blocksValidity f) (pairValidity (pairOf f)) ≡ refused r → andThen (blocksValidity g) (pairValidity (pairOf g)) ≡ refused r
     later v e = ⊎-elim
-        (λ t. absurd (omega (arith, late-then 7 (blocksValidity f) (pairValidity (pairOf f)) (blocks-late f (eqb-true _ _ t)) (pair-late f (first-valid f v .counts)) r e)))
+        (λ t. absurd (refuses-then IsLate (blocksValidity f) (pairValidity (pairOf f)) (blocks-late f (eqb-true _ _ t)) (λ _. pair-late f (first-valid f v .counts)) r e early))
         (λ t. let wrong : length f ≡ demanded f → ⊥ = eqb-false _ _ t in
-        then-refused _ _ _ (wrong-length-is g (λ q. wrong (long ∙ q ∙ sym (demanded-same f g start)))) ∙ sym (then-refused _ _ _ (wrong-length-is f wrong)) ∙ e)
+        then-refused _ _ _ (wrong-length-is g (λ q. wrong (long ∙ q ∙ sym (demanded-same f g same)))) ∙ sym (then-refused _ _ _ (wrong-length-is f wrong)) ∙ e)
         (dec (eqb (length f) (demanded f)))
 
 pub first-block : FirstBlock
 unfolding readAnswer
-first-block f g lent long start = (
-  first-same f g start (ragged-same f g start long),
-  demanded-same f g start,
-  size-same f g start (ragged-same f g start long),
-  λ r small e. then-refused _ _ r (early-same f g (length lent) long start r small (given-refused _ _ e)),
-)
+first-block f g lent long start =
+    let same = same-start f g start in (
+      first-same f g same (ragged-same f g same long),
+      demanded-same f g same,
+      size-same f g same (ragged-same f g same long),
+      λ r early e. then-refused _ _ r (early-same f g (length lent) long start r early (given-refused _ _ e)),
+    )
 
 -- whole blocks are not stopped by refusal 2
-not-ragged : (f : List ℕ) → (length f ≡ 0 → ⊥) → length f % 512 ≡ 0 → ragged f ≡ false
+pub not-ragged : (f : List ℕ) → (length f ≡ 0 → ⊥) → length f % 512 ≡ 0 → ragged f ≡ false
 not-ragged f some whole = or-false (ne-eqb (length f) 0 some) (not-f (eq-eqb (length f % 512) 0 whole))
 
 pub first-block-tells-size : FirstBlockTellsSize
 first-block-tells-size f some whole =
     let one : length (take 512 f) ≡ 512 = length-take-le 512 f (omega arith) in
-    size-same (take 512 f) f (take-all 512 (take 512 f) (omega arith))
+    size-same (take 512 f) f (same-start (take 512 f) f (take-all 512 (take 512 f) (omega arith)))
     (not-ragged (take 512 f) (omega arith) (omega arith) ∙ sym (not-ragged f some whole))

@@ -23,3 +23,4 @@ pub mod PayloadLaws
 pub mod WriteReadLaws
 pub mod ReadWriteLaws
 pub mod FileLaws
+pub mod PlacesLaws

@@ -19,7 +19,7 @@ use Rattle.machine.specs.Refusals.{valid}
 use Rattle.machine.specs.Machines.{nC, nA, setsC, setsA}
 use Rattle.machine.specs.Table.{entries}
 use Rattle.codec.specs.Format.{byteOf, numbers, numberAt, letters, header, tableBytes, payload, payloadLength, blocksFor, checkAt, blockFront, block, blocked, fileOf}
-use Rattle.codec.specs.Reader.{checkHolds, numberHolds, blockHolds, payloadByte, payloadOf, headerByte, noteOf, headerHolds, firstValidity, payloadDemanded, paddingHolds, blocksValidity, machineAt, pairOf, entriesOf}
+use Rattle.codec.specs.Reader.{checkHolds, numberFound, BlockHolds, payloadByte, payloadOf, headerByte, noteOf, headerHolds, firstValidity, payloadDemanded, paddingHolds, blocksValidity, machineAt, pairOf, entriesOf}
 use Rattle.codec.specs.Statements.{AreBytes}
 use Rattle.codec.specs.NumberLaws.{number-byte}
 use Rattle.codec.specs.FormatLaws.{payload-length, blocked-length, check-cong, front-at, front-number, front-payload, block-check, blocked-at}
@@ -34,7 +34,7 @@ pub record Whole (f : List ℕ) : Type 0 where
 pub whole : (f : List ℕ) → firstValidity f ≡ valid → blocksValidity f ≡ valid → Whole f
 whole f e v = record { start = first-valid f e; rest = blocks-valid f v }
 
-all-blocks : (f : List ℕ) → Whole f → (i : ℕ) → i < length f / 512 → blockHolds f i ≡ true
+pub all-blocks : (f : List ℕ) → Whole f → (i : ℕ) → i < length f / 512 → BlockHolds f i
 all-blocks f w zero h = w .start .block
 all-blocks f w (suc i) h = w .rest .blocks (suc i) (omega arith) h
 
@@ -145,12 +145,12 @@ module _ (f : List ℕ) (b : AreBytes f) (w : Whole f) where
   -- ---- its blocks
   module _ (i : ℕ) (h : i < length f / 512) where
     number-stands : numberAt 2 f (512 * i) ≡ i
-    unfolding blockHolds numberHolds
-    number-stands = eqb-true _ i (and-r _ _ (all-blocks f w i h))
+    unfolding numberFound
+    number-stands = all-blocks f w i h .1
 
     check-stands : numberAt 2 f (512 * i + 510) ≡ checkAt f (512 * i)
-    unfolding blockHolds checkHolds
-    check-stands = eqb-true _ _ (and-l _ _ (all-blocks f w i h))
+    unfolding checkHolds
+    check-stands = eqb-true _ _ (all-blocks f w i h .0)
 
     front-same : (j : ℕ) → j < 510 → getD (blockFront R i) j 0 ≡ getD f (512 * i + j) 0
     front-same j l = by-cases (decLt j 2)

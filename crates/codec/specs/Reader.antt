@@ -1,15 +1,16 @@
--- Document 01: how a file is read, with refusals 1 to 11 in its order.
-use mathlib.Core.Bool.{Bool, false, cond}
+-- Document 01: how a file is read, with refusals 1 to 11 in its order; and 19 of document 02.
+use mathlib.Core.Bool.{Bool, true, false, cond}
 use mathlib.Core.List.{List, []}
+use mathlib.Core.Path.{_≡_}
 use Prim.Native.Nat.{ℕ, suc, _+_, _-_, _*_, _/_, _%_}
 use lib.ListN.{length, getD, replicate}
 use lib.Dec.{eqb, leb, ltb}
 use Rattle.mask.specs.Logic.{not, and, or}
-use Rattle.mask.specs.Bounded.{every, first}
+use Rattle.mask.specs.Bounded.{every}
 use Rattle.mask.specs.Tables.{table}
 use Rattle.machine.specs.declared.Machine.{Machine}
 use Rattle.machine.specs.declared.Pair.{Pair}
-use Rattle.machine.specs.Refusals.{Result, answer, refused, Tested, valid, andThen, bufferAfter, refusal, bad-length, bad-first-block, bad-header, bad-counts, wrong-length, bad-block, bad-padding, bufferValidity}
+use Rattle.machine.specs.Refusals.{Result, answer, refused, Tested, valid, andThen, each, bufferAfter, refusal, bad-length, bad-first-block, bad-header, bad-counts, wrong-length, bad-block, bad-padding, misplaced, bufferValidity}
 use Rattle.machine.specs.Machines.{nC, nA, setsC, setsA}
 use Rattle.machine.specs.WellFormed.{countsOk, pairValidity}
 use Rattle.machine.specs.Table.{entries, tableRoom}
@@ -28,12 +29,20 @@ pub data Taken : Type 0 where
 unfoldable pub checkHolds : List ℕ → ℕ → Bool
 checkHolds f i = eqb (numberAt 2 f (512 * i + 510)) (checkAt f (512 * i))
 
--- the number of block i is its place
-unfoldable pub numberHolds : List ℕ → ℕ → Bool
-numberHolds f i = eqb (numberAt 2 f (512 * i)) i
+-- the number found in block i
+unfoldable pub numberFound : List ℕ → ℕ → ℕ
+numberFound f i = numberAt 2 f (512 * i)
 
-unfoldable pub blockHolds : List ℕ → ℕ → Bool
-blockHolds f i = and (checkHolds f i) (numberHolds f i)
+-- block i: "a wrong check only", told by the number that is given for it, 3 or 7; and 19, "a block whose check holds and whose number isn't its
+-- place, tested right after that block's check", which "tells its place and the number found in it" (document 02, No. 5)
+unfoldable pub blockValidity : ℕ → List ℕ → ℕ → Tested
+blockValidity wrong f i =
+    cond (not (checkHolds f i)) (refused (refusal wrong i 0 0))
+    (cond (not (eqb (numberFound f i) i)) (refused (refusal misplaced i (numberFound f i) 0)) valid)
+
+-- a block that is neither
+abbrev pub BlockHolds : List ℕ → ℕ → Type 0
+BlockHolds f i = (checkHolds f i ≡ true) × (numberFound f i ≡ i)
 
 -- "bytes 2 to 509 payload": the byte of the file that is byte k of the payloads joined
 abbrev pub payloadByte : List ℕ → ℕ → ℕ
@@ -62,13 +71,15 @@ headerHolds f =
 unfoldable pub countsHold : List ℕ → Bool
 countsHold f = and (countsOk 8 (headerByte f 4) (headerByte f 6)) (countsOk 7 (headerByte f 5) (headerByte f 7))
 
--- 2 to 5: all that rests on the first block
+-- 4 and 5
+unfoldable pub headerValidity : List ℕ → Tested
+headerValidity f = cond (not (headerHolds f)) (refused (refusal bad-header 0 0 0)) (cond (not (countsHold f)) (refused (refusal bad-counts 0 0 0)) valid)
+
+-- 2, block 0's 3 and 19, 4 and 5: all that rests on the first block
 unfoldable pub firstValidity : List ℕ → Tested
 firstValidity f =
     cond (or (eqb (length f) 0) (not (eqb (length f % 512) 0))) (refused (refusal bad-length 0 0 0))
-    (cond (not (blockHolds f 0)) (refused (refusal bad-first-block 0 0 0))
-    (cond (not (headerHolds f)) (refused (refusal bad-header 0 0 0))
-    (cond (not (countsHold f)) (refused (refusal bad-counts 0 0 0)) valid)))
+    (andThen (blockValidity bad-first-block f 0) (headerValidity f))
 
 -- the payload's length, and the file's, that the counts demand
 unfoldable pub payloadDemanded : List ℕ → ℕ
@@ -82,21 +93,19 @@ unfoldable pub sizeOf : List ℕ → Result ℕ
 sizeOf f = andThen (firstValidity f) (answer (demanded f))
 
 -- ---- the whole file
--- the first of the later blocks whose check or number is wrong; the file's blocks where none is
-unfoldable pub badBlock : List ℕ → ℕ
-badBlock f = suc (first (length f / 512 - 1) (λ i. not (blockHolds f (suc i))))
+-- 7 and 19, block by block after block 0, the lowest first
+unfoldable pub laterBlocks : List ℕ → Tested
+laterBlocks f = each (length f / 512 - 1) (λ i. blockValidity bad-block f (suc i))
 
 -- 8: "padding not zero"
 unfoldable pub paddingHolds : List ℕ → Bool
 paddingHolds f = every (508 * (length f / 512)) (λ k. or (ltb k (payloadDemanded f)) (eqb (payloadByte f k) 0))
 
--- 6 to 8
+-- 6, the later blocks' 7 and 19, and 8
 unfoldable pub blocksValidity : List ℕ → Tested
 blocksValidity f =
-    let b = badBlock f in
     cond (not (eqb (length f) (demanded f))) (refused (refusal wrong-length 0 0 0))
-    (cond (ltb b (length f / 512)) (refused (refusal bad-block b 0 0))
-    (cond (not (paddingHolds f)) (refused (refusal bad-padding 0 0 0)) valid))
+    (andThen (laterBlocks f) (cond (not (paddingHolds f)) (refused (refusal bad-padding 0 0 0)) valid))
 
 -- ---- what the payload holds
 -- a machine of N states and some sets, at a place of the payload; entries beyond the counts are zero
@@ -130,7 +139,7 @@ entriesOf f =
     let at = payloadLength (nC p) (nA p) (setsC p) (setsA p) false in
     table (entries p) (λ e. numberAt 2 Q (at + 2 * e))
 
--- all that the reader tests: 1 to 11
+-- all that the reader tests: 1 to 11, and 19
 unfoldable pub readValidity : List ℕ → ℕ → Tested
 readValidity f room =
     andThen (bufferValidity tableRoom room) (andThen (firstValidity f) (andThen (blocksValidity f) (pairValidity (pairOf f))))

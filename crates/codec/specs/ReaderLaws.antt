@@ -2,34 +2,74 @@
 use mathlib.Core.Bool.{Bool, true, false, cond}
 use mathlib.Core.List.{List, [], _++_}
 use mathlib.Core.Logic.{⊎-elim, by-cases}
-use mathlib.Core.Path.{_≡_, refl, sym, ap, _∙_}
+use mathlib.Core.Path.{_≡_, refl, sym, ap, ap₂, _∙_}
 use Prim.Native.Nat.{ℕ, zero, suc, _+_, _-_, _*_, _/_, _%_, _≤_, _<_}
 use native.Mathlib.Decide.{decLt}
 use native.Mathlib.Omega.{arith}
 use lib.ListN.{length, getD, drop, replicate, length-replicate}
 use lib.Dec.{eqb, ltb}
-use borrow.Author.Tests.{eqb-true, eqb-false, ne-eqb, lt-ltb, ltb-true, ltb-false}
-use Rattle.mask.specs.Logic.{not}
-use Rattle.mask.specs.LogicLaws.{both, and-l, and-r, or-none, or-l, or-r, or-e, not-i, not-f, not-false}
+use borrow.Author.Tests.{eqb-true, eqb-false, eq-eqb, ne-eqb, lt-ltb, ltb-true}
+use Rattle.mask.specs.Logic.{not, or}
+use Rattle.mask.specs.LogicLaws.{both, and-l, and-r, or-none, or-l, or-r, or-e, not-i, not-e, not-f, not-false}
 use Rattle.mask.specs.Bounded.{every}
-use Rattle.mask.specs.BoundedLaws.{every-at, every-of, every-cong, first-is, first-none, first-before}
+use Rattle.mask.specs.BoundedLaws.{every-at, every-of, every-cong}
 use Rattle.mask.specs.Tables.{table}
 use Rattle.mask.specs.TablesLaws.{table-length, table-cong}
 use Rattle.machine.specs.Machines.{pairUnder}
-use Rattle.machine.specs.Refusals.{Tested, valid, refused, andThen, bufferAfter, refusal, short-buffer, wrong-length}
-use Rattle.machine.specs.RefusalsLaws.{valid-next, then-of, then-refused, then-then, buffer-valid, buffer-short, buffer-made}
+use Rattle.machine.specs.Refusals.{Tested, valid, refused, andThen, each, bufferAfter, refusal, short-buffer, bad-length, bad-first-block, bad-header, bad-counts, wrong-length, bad-block, bad-padding, misplaced}
+use Rattle.machine.specs.RefusalsLaws.{valid-next, then-of, then-refused, then-answer, then-then, each-valid, each-at, Refuses, refuses-none, refuses-at, refuses-cond, refuses-then, buffer-valid, buffer-short, buffer-made}
 use Rattle.machine.specs.declared.Machine.{Machine}
 use Rattle.machine.specs.declared.Refusal.{Refusal}
 use Rattle.machine.specs.WellFormed.{pairValidity}
 use Rattle.machine.specs.WellFormedLaws.{counts-at, mul-bound}
 use Rattle.machine.specs.Table.{tableRoom}
 use Rattle.codec.specs.Format.{numberAt, payloadMost, payloadLength, fileLength, blocksFor}
-use Rattle.codec.specs.Reader.{blockHolds, headerByte, noteOf, headerHolds, countsHold, firstValidity, payloadDemanded, demanded, badBlock, paddingHolds, blocksValidity, payloadByte, payloadOf, machineAt, pairOf, entriesOf, readValidity, tableOf}
+use Rattle.codec.specs.Reader.{checkHolds, numberFound, blockValidity, BlockHolds, headerByte, noteOf, headerHolds, countsHold, headerValidity, firstValidity, payloadDemanded, demanded, laterBlocks, paddingHolds, blocksValidity, payloadByte, payloadOf, machineAt, pairOf, entriesOf, readValidity, tableOf}
 use Rattle.codec.specs.Loading.{entriesPlace, entriesCount, Loaded}
 use Rattle.mask.specs.Tables.{front}
 use Rattle.codec.specs.NumberLaws.{number-cong}
-use Rattle.codec.specs.FormatLaws.{entries-most, payload-most}
+use Rattle.codec.specs.FormatLaws.{check-cong, entries-most, payload-most}
 use Rattle.mask.specs.FrontLaws.{front-length, front-zeros, front-padded}
+
+-- ---- a block
+module _ (f : List ℕ) (i : ℕ) where
+  pub block-damaged : (wrong : ℕ) → checkHolds f i ≡ false → blockValidity wrong f i ≡ refused (refusal wrong i 0 0)
+  unfolding blockValidity
+  block-damaged wrong e = rw (not-i e)
+
+  pub block-misplaced : (wrong : ℕ) → checkHolds f i ≡ true → (numberFound f i ≡ i → ⊥) → blockValidity wrong f i ≡ refused (refusal misplaced i (numberFound f i) 0)
+  unfolding blockValidity
+  block-misplaced wrong e n = rw (not-f e, not-i (ne-eqb (numberFound f i) i n))
+
+  pub block-valid : (wrong : ℕ) → BlockHolds f i → blockValidity wrong f i ≡ valid
+  unfolding blockValidity
+  block-valid wrong h = rw (not-f (h .0), not-f (eq-eqb (numberFound f i) i (h .1)))
+
+  pub block-holds : (wrong : ℕ) → blockValidity wrong f i ≡ valid → BlockHolds f i
+  unfolding blockValidity
+  block-holds wrong e =
+      let a = valid-next _ _ _ e in
+      let b = valid-next _ _ _ (a .1) in
+      (not-false _ (a .0), eqb-true (numberFound f i) i (not-false _ (b .0)))
+
+  pub block-refuses : (F : Refusal → Type 0) (wrong : ℕ) → (checkHolds f i ≡ false → F (refusal wrong i 0 0))
+      → (checkHolds f i ≡ true → (numberFound f i ≡ i → ⊥) → F (refusal misplaced i (numberFound f i) 0)) → Refuses F (blockValidity wrong f i)
+  unfolding blockValidity
+  block-refuses F wrong d m =
+      refuses-cond F (not (checkHolds f i)) _ _ (λ t. refuses-at F _ (d (not-e _ t)))
+      (λ t. refuses-cond F (not (eqb (numberFound f i) i)) _ _ (λ u. refuses-at F _ (m (not-false _ t) (eqb-false _ _ (not-e _ u)))) (λ u. refuses-none F))
+
+-- equal bytes, at whatever places of whatever files
+module _ (f g : List ℕ) (i k : ℕ) (same : (j : ℕ) → j < 512 → getD f (512 * i + j) 0 ≡ getD g (512 * k + j) 0) where
+  pub check-same : checkHolds f i ≡ checkHolds g k
+  unfolding checkHolds
+  check-same = ap₂ eqb
+      (number-cong 2 f g (512 * i + 510) (512 * k + 510) (λ j h. ap (λ (x : ℕ). getD f x 0) (omega arith) ∙ same (510 + j) (omega arith) ∙ ap (λ (x : ℕ). getD g x 0) (omega arith)))
+      (check-cong f g (512 * i) (512 * k) (λ j h. same j (omega arith)))
+
+  pub found-same : numberFound f i ≡ numberFound g k
+  unfolding numberFound
+  found-same = number-cong 2 f g (512 * i) (512 * k) (λ j h. same j (omega arith))
 
 -- ---- the first block
 -- the six zeros, as they stand in the file
@@ -48,24 +88,41 @@ entries-room n c a k h l = mul-bound n (c * a) 255 65025 (omega arith) (pairs-ro
 pub record FirstValid (f : List ℕ) : Type 0 where
   pub long : 512 ≤ length f
   pub whole : length f % 512 ≡ 0
-  pub block : blockHolds f 0 ≡ true
+  pub block : BlockHolds f 0
   pub header : headerHolds f ≡ true
   pub counts : countsHold f ≡ true
 
 long-enough : (n : ℕ) → (n ≡ 0 → ⊥) → n % 512 ≡ 0 → 512 ≤ n
 long-enough n some whole = omega arith
 
+not-ragged : (f : List ℕ) → or (eqb (length f) 0) (not (eqb (length f % 512) 0)) ≡ false → (512 ≤ length f) × (length f % 512 ≡ 0)
+not-ragged f t =
+    let n = or-none (eqb (length f) 0) (not (eqb (length f % 512) 0)) t in
+    let whole : length f % 512 ≡ 0 = eqb-true _ 0 (not-false _ (n .1)) in
+    (long-enough (length f) (eqb-false (length f) 0 (n .0)) whole, whole)
+
+header-valid : (f : List ℕ) → headerValidity f ≡ valid → (headerHolds f ≡ true) × (countsHold f ≡ true)
+unfolding headerValidity
+header-valid f e = let a = valid-next _ _ _ e in let b = valid-next _ _ _ (a .1) in (not-false _ (a .0), not-false _ (b .0))
+
 pub first-valid : (f : List ℕ) → firstValidity f ≡ valid → FirstValid f
 unfolding firstValidity
 first-valid f e =
     let a = valid-next _ _ _ e in
-    let b = valid-next _ _ _ (a .1) in
-    let c = valid-next _ _ _ (b .1) in
-    let d = valid-next _ _ _ (c .1) in
-    let n = or-none (eqb (length f) 0) (not (eqb (length f % 512) 0)) (a .0) in
-    let some : length f ≡ 0 → ⊥ = eqb-false (length f) 0 (n .0) in
-    let whole : length f % 512 ≡ 0 = eqb-true _ 0 (not-false _ (n .1)) in
-    record { long = long-enough (length f) some whole; whole = whole; block = not-false _ (b .0); header = not-false _ (c .0); counts = not-false _ (d .0) }
+    let b = then-answer (blockValidity bad-first-block f 0) (headerValidity f) (a .1) in
+    let h = header-valid f (b .1) in
+    let n = not-ragged f (a .0) in
+    record { long = n .0; whole = n .1; block = block-holds f 0 bad-first-block (b .0); header = h .0; counts = h .1 }
+
+-- its refusals
+pub first-refuses : (F : Refusal → Type 0) (f : List ℕ) → F (refusal bad-length 0 0 0) → (512 ≤ length f → Refuses F (blockValidity bad-first-block f 0))
+    → F (refusal bad-header 0 0 0) → F (refusal bad-counts 0 0 0) → Refuses F (firstValidity f)
+unfolding firstValidity headerValidity
+first-refuses F f ragged block header counts =
+    refuses-cond F (or (eqb (length f) 0) (not (eqb (length f % 512) 0))) _ _ (λ t. refuses-at F _ ragged)
+    (λ t. refuses-then F (blockValidity bad-first-block f 0) _ (block (not-ragged f t .0))
+    (λ v. refuses-cond F (not (headerHolds f)) _ _ (λ u. refuses-at F _ header)
+    (λ u. refuses-cond F (not (countsHold f)) _ _ (λ x. refuses-at F _ counts) (λ x. refuses-none F))))
 
 -- the length that the counts demand, by the payload's
 pub demanded-is : (f : List ℕ) → demanded f ≡ 512 * ((payloadDemanded f + 507) / 508)
@@ -89,18 +146,6 @@ fitting f e =
     let d = demanded-is f in
     let l = payload-least f in
     record { long = omega arith; some = omega arith; ends = omega arith; last = omega arith }
-
-pub bad-at : (f : List ℕ) (i : ℕ) → 0 < i → i < length f / 512 → blockHolds f i ≡ false
-    → ((k : ℕ) → k < i → 0 < k → blockHolds f k ≡ true) → badBlock f ≡ i
-unfolding badBlock
-bad-at f zero p l e h = absurd (omega arith)
-bad-at f (suc i) p l e h =
-    ap suc (first-is (length f / 512 - 1) (λ i. not (blockHolds f (suc i))) i (omega arith) (not-i e) (λ k q. not-f (h (suc k) (omega arith) (omega arith))))
-
-pub bad-none : (f : List ℕ) → 0 < length f / 512 → ((k : ℕ) → k < length f / 512 → 0 < k → blockHolds f k ≡ true) → badBlock f ≡ length f / 512
-unfolding badBlock
-bad-none f l h =
-    ap suc (first-none (length f / 512 - 1) (λ i. not (blockHolds f (suc i))) (λ k q. not-f (h (suc k) (omega arith) (omega arith)))) ∙ omega arith
 
 -- the place of a padding byte in the last block
 place : (f : List ℕ) (n k : ℕ) → Fitting f n → payloadDemanded f ≤ k → k < 508 * n
@@ -218,22 +263,31 @@ table-is f Q T w =
 -- what the later blocks and the padding give
 pub record BlocksValid (f : List ℕ) : Type 0 where
   pub long : length f ≡ demanded f
-  pub blocks : (i : ℕ) → 0 < i → i < length f / 512 → blockHolds f i ≡ true
+  pub blocks : (i : ℕ) → 0 < i → i < length f / 512 → BlockHolds f i
   pub padding : paddingHolds f ≡ true
 
-good-until : (f : List ℕ) → length f / 512 ≤ badBlock f → (i : ℕ) → 0 < i → i < length f / 512 → blockHolds f i ≡ true
-unfolding badBlock
-good-until f h zero p l = absurd (omega arith)
-good-until f h (suc i) p l =
-    not-false _ (first-before (length f / 512 - 1) (λ i. not (blockHolds f (suc i))) i (omega arith))
+pub later-valid : (f : List ℕ) → ((i : ℕ) → 0 < i → i < length f / 512 → BlockHolds f i) → laterBlocks f ≡ valid
+unfolding laterBlocks
+later-valid f h = each-valid _ _ (λ i l. block-valid f (suc i) bad-block (h (suc i) (omega arith) (omega arith)))
+
+-- where the first n of the later blocks are passed, they hold
+pub later-hold : (f : List ℕ) (n : ℕ) → each n (λ i. blockValidity bad-block f (suc i)) ≡ valid → (i : ℕ) → 0 < i → i < suc n → BlockHolds f i
+later-hold f n e zero p l = absurd (omega arith)
+later-hold f n e (suc i) p l = block-holds f (suc i) bad-block (each-at n _ e i (omega arith))
 
 pub blocks-valid : (f : List ℕ) → blocksValidity f ≡ valid → BlocksValid f
-unfolding blocksValidity
+unfolding blocksValidity laterBlocks
 blocks-valid f e =
     let a = valid-next _ _ _ e in
-    let b = valid-next _ _ _ (a .1) in
+    let b = then-answer (laterBlocks f) _ (a .1) in
     let c = valid-next _ _ _ (b .1) in
-    record { long = eqb-true _ _ (not-false _ (a .0)); blocks = good-until f (ltb-false _ _ (b .0)); padding = not-false _ (c .0) }
+    record { long = eqb-true _ _ (not-false _ (a .0)); blocks = λ i p l. later-hold f (length f / 512 - 1) (b .0) i p (omega arith); padding = not-false _ (c .0) }
+
+-- a file of the length that its counts demand: the later blocks, then the padding
+pub blocks-then : (f : List ℕ) → length f ≡ demanded f
+    → blocksValidity f ≡ andThen (laterBlocks f) (cond (not (paddingHolds f)) (refused (refusal bad-padding 0 0 0)) valid)
+unfolding blocksValidity
+blocks-then f e = rw (not-f (eq-eqb (length f) (demanded f) e))
 
 -- it has no more than 116
 pub payload-fits : (f : List ℕ) → countsHold f ≡ true → payloadDemanded f ≤ payloadMost

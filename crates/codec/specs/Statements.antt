@@ -2,8 +2,9 @@
 -- any numbers and lists; where a law needs what the code's types give of them, it says so.
 use mathlib.Core.Bool.{Bool, true, false, cond}
 use mathlib.Core.List.{List, _++_}
+use mathlib.Core.Logic.{_⊎_}
 use mathlib.Core.Path.{_≡_}
-use Prim.Native.Nat.{ℕ, _+_, _≤_, _<_, _%_, _^_}
+use Prim.Native.Nat.{ℕ, _+_, _*_, _/_, _≤_, _<_, _%_, _^_}
 use lib.ListN.{length, getD, take, drop}
 use lib.Dec.{eqb, leb}
 use Rattle.mask.specs.Logic.{and}
@@ -15,9 +16,9 @@ use Rattle.machine.specs.declared.Refusal.{Refusal}
 use Rattle.machine.specs.Table.{entries, tableRoom, AreEntries, SameEntries}
 use Rattle.machine.specs.WellFormed.{wellFormed}
 use Rattle.machine.specs.Machines.{observation, matched, nC, nA, setsC, setsA}
-use Rattle.machine.specs.Refusals.{answer, refused}
+use Rattle.machine.specs.Refusals.{answer, refused, refusal, bad-first-block, bad-block, misplaced}
 use Rattle.codec.specs.Format.{letters, fileLength, fileOf}
-use Rattle.codec.specs.Reader.{inputRoom, taken, headerByte, headerHolds, firstValidity, demanded, entriesOf, readAnswer, readTable, sizeOf}
+use Rattle.codec.specs.Reader.{inputRoom, taken, checkHolds, numberFound, BlockHolds, headerByte, headerHolds, firstValidity, demanded, entriesOf, readAnswer, readTable, sizeOf}
 use Rattle.codec.specs.Writer.{fileRoom, writeAnswer, writeBuffer}
 
 -- what the types of the code give of a machine, whoever made it
@@ -56,15 +57,67 @@ abbrev pub TableUnread : Type 0
 TableUnread = (p : Pair) (T U : List ℕ) → fileOf p false T ≡ fileOf p false U
 
 -- ---- what the first block tells
--- refusals up to 6 rest on the first block and the length alone
+-- refusals up to 6, and 19 of block 0,
+abbrev pub IsEarly : Refusal → Type 0
+IsEarly r = (r .number ≤ 6) ⊎ ((r .number ≡ misplaced) × (r .first ≡ 0))
+
+-- rest on the first block and the length alone
 abbrev pub FirstBlock : Type 0
 FirstBlock = (f g lent : List ℕ) → length f ≡ length g → take 512 f ≡ take 512 g
     → (firstValidity f ≡ firstValidity g) × (demanded f ≡ demanded g) × (sizeOf f ≡ sizeOf g)
-    × ((r : Refusal) → r .number ≤ 6 → readAnswer f lent ≡ refused r → readAnswer g lent ≡ refused r)
+    × ((r : Refusal) → IsEarly r → readAnswer f lent ≡ refused r → readAnswer g lent ≡ refused r)
 
 -- of a file of whole blocks, the first alone tells the size
 abbrev pub FirstBlockTellsSize : Type 0
 FirstBlockTellsSize = (f : List ℕ) → (length f ≡ 0 → ⊥) → length f % 512 ≡ 0 → sizeOf (take 512 f) ≡ sizeOf f
+
+-- ---- Document 02, No. 5: damaged or misplaced
+-- what the reader's 3, 7 and 19 mean. "3 and 7 mean a wrong check only. A misplaced block tells its place and the number found in it."
+pub record Told (f : List ℕ) (r : Refusal) : Type 0 where
+  pub first-damaged : r .number ≡ bad-first-block → (r ≡ refusal bad-first-block 0 0 0) × (checkHolds f 0 ≡ false)
+  pub later-damaged : r .number ≡ bad-block
+      → (i : ℕ) × (0 < i) × (i < length f / 512) × (r ≡ refusal bad-block i 0 0) × (checkHolds f i ≡ false) × ((k : ℕ) → k < i → BlockHolds f k)
+  pub found-misplaced : r .number ≡ misplaced
+      → (i : ℕ) × (i < length f / 512) × (r ≡ refusal misplaced i (numberFound f i) 0) × (checkHolds f i ≡ true) × (numberFound f i ≡ i → ⊥)
+      × ((k : ℕ) → k < i → BlockHolds f k)
+
+abbrev pub BlocksTold : Type 0
+BlocksTold = (f lent : List ℕ) (r : Refusal) → readAnswer f lent ≡ refused r → Told f r
+
+-- of a file that is as long as one that is taken and the same before place i, and has there a block whose check holds with another number: 19,
+-- whatever follows
+abbrev pub MisplacedTold : Type 0
+MisplacedTold = (f g lent : List ℕ) (p : Pair) (note : Bool) (i : ℕ) → readAnswer f lent ≡ answer (taken p note)
+    → length g ≡ length f → i < length f / 512 → ((k : ℕ) → k < 512 * i → getD g k 0 ≡ getD f k 0)
+    → checkHolds g i ≡ true → (numberFound g i ≡ i → ⊥)
+    → readAnswer g lent ≡ refused (refusal misplaced i (numberFound g i) 0)
+
+-- the blocks of a file joined anew: at place i the block that stood at place `from i`
+unfoldable pub joined : (ℕ → ℕ) → List ℕ → List ℕ
+joined from f = table (length f) (λ k. getD f (512 * from (k / 512) + k % 512) 0)
+
+-- of a file that is taken, joined anew: 19 at the lowest place that has another block, with that block's number
+abbrev pub JoinedTold : Type 0
+JoinedTold = (f lent : List ℕ) (p : Pair) (note : Bool) (from : ℕ → ℕ) (i : ℕ) → readAnswer f lent ≡ answer (taken p note)
+    → i < length f / 512 → from i < length f / 512 → ((k : ℕ) → k < i → from k ≡ k) → (from i ≡ i → ⊥)
+    → readAnswer (joined from f) lent ≡ refused (refusal misplaced i (from i) 0)
+
+-- with blocks i and k exchanged
+abbrev pub exchanged : ℕ → ℕ → ℕ → ℕ
+exchanged i k place = cond (eqb place i) k (cond (eqb place k) i place)
+
+abbrev pub ExchangedTold : Type 0
+ExchangedTold = (f lent : List ℕ) (p : Pair) (note : Bool) (i k : ℕ) → readAnswer f lent ≡ answer (taken p note) → i < k → k < length f / 512
+    → readAnswer (joined (exchanged i k) f) lent ≡ refused (refusal misplaced i k 0)
+
+-- with block k's bytes at place i too
+abbrev pub overwritten : ℕ → ℕ → ℕ → ℕ
+overwritten i k place = cond (eqb place i) k place
+
+abbrev pub OverwrittenTold : Type 0
+OverwrittenTold = (f lent : List ℕ) (p : Pair) (note : Bool) (i k : ℕ) → readAnswer f lent ≡ answer (taken p note)
+    → i < length f / 512 → k < length f / 512 → (k ≡ i → ⊥)
+    → readAnswer (joined (overwritten i k) f) lent ≡ refused (refusal misplaced i k 0)
 
 -- ---- what was taken
 -- the machines are such as the code's types have

@@ -9,24 +9,24 @@ use native.Mathlib.Decide.{decLt}
 use native.Mathlib.Omega.{arith}
 use lib.Dec.{eqb, leb}
 use lib.ListN.{length, getD, drop, List·getD-append, List·getD-eq-default}
-use borrow.Author.Tests.{eq-eqb, ne-eqb, lt-ltb, le-ltb}
+use borrow.Author.Tests.{eq-eqb, ne-eqb, lt-ltb}
 use Rattle.mask.specs.LogicLaws.{and-i, or-l, or-r, or-false, not-f}
-use Rattle.mask.specs.BoundedLaws.{every-of, first-none}
+use Rattle.mask.specs.BoundedLaws.{every-of}
 use Rattle.mask.specs.Tables.{table}
 use Rattle.mask.specs.TablesLaws.{table-length, table-at, table-past, table-cong}
 use Rattle.machine.specs.declared.Pair.{Pair}
-use Rattle.machine.specs.Refusals.{valid, answer, andThen, passOn}
+use Rattle.machine.specs.Refusals.{valid, answer, andThen, passOn, bad-first-block}
 use Rattle.machine.specs.RefusalsLaws.{then-of, buffer-valid}
 use Rattle.machine.specs.Machines.{nC, nA, setsC, setsA}
 use Rattle.machine.specs.Table.{entries, tableRoom, AreEntries}
 use Rattle.machine.specs.WellFormed.{pairValidity}
 use Rattle.machine.specs.WellFormedLaws.{WellPair, well-pair, well-is-valid, counts-of}
 use Rattle.codec.specs.Format.{numbers, numberAt, letters, header, tableBytes, payload, payloadLength, blocksFor, checkAt, blockFront, blocked, fileOf}
-use Rattle.codec.specs.Reader.{checkHolds, numberHolds, blockHolds, payloadOf, headerByte, noteOf, headerHolds, countsHold, firstValidity, payloadDemanded, demanded, badBlock, paddingHolds, blocksValidity, pairOf, entriesOf, readValidity, taken, readAnswer, readTable}
+use Rattle.codec.specs.Reader.{checkHolds, numberFound, BlockHolds, payloadOf, headerByte, noteOf, headerHolds, countsHold, headerValidity, firstValidity, payloadDemanded, demanded, paddingHolds, blocksValidity, pairOf, entriesOf, readValidity, taken, readAnswer, readTable}
 use Rattle.codec.specs.Statements.{Representable, WriteRead}
 use Rattle.codec.specs.NumberLaws.{number-is}
 use Rattle.codec.specs.FormatLaws.{header-length, payload-length, payload-small, blocks-small, blocked-length, file-length, check-cong, check-lt, front-at, front-number, block-check, blocked-at, blocks-hold, blocked-payload}
-use Rattle.codec.specs.ReaderLaws.{table-after}
+use Rattle.codec.specs.ReaderLaws.{block-valid, later-valid, blocks-then, table-after}
 use Rattle.codec.specs.PayloadLaws.{Stands, parts-of, machine-reads, numbers-read}
 
 -- ---- what is written: the blocks of a payload of at most 116 blocks hold
@@ -35,13 +35,14 @@ module _ (Q : List ℕ) (few : blocksFor (length Q) ≤ 116) (i : ℕ) (h : i < 
   check-written = check-cong (blocked Q) (blockFront Q i) (512 * i) 0
       (λ j l. blocked-at Q i j h (omega arith) ∙ front-at Q i j l ∙ ap (λ (k : ℕ). getD (blockFront Q i) k 0) (sym (zero-add j)))
 
-  block-written : blockHolds (blocked Q) i ≡ true
-  unfolding blockHolds checkHolds numberHolds
-  block-written = and-i
-      (eq-eqb _ _ (number-is 2 (checkAt (blockFront Q i) 0) (blocked Q) (512 * i + 510) (omega (arith, check-lt (blockFront Q i) 0))
-      (λ j l. ap (λ (k : ℕ). getD (blocked Q) k 0) (omega arith) ∙ blocked-at Q i (510 + j) h (omega arith) ∙ block-check Q i j l)
-      ∙ sym check-written))
-      (eq-eqb _ _ (number-is 2 i (blocked Q) (512 * i) (omega arith) (λ j l. blocked-at Q i j h (omega arith) ∙ front-at Q i j (omega arith) ∙ front-number Q i j l)))
+  block-written : BlockHolds (blocked Q) i
+  unfolding checkHolds numberFound
+  block-written = (
+    eq-eqb _ _ (number-is 2 (checkAt (blockFront Q i) 0) (blocked Q) (512 * i + 510) (omega (arith, check-lt (blockFront Q i) 0))
+        (λ j l. ap (λ (k : ℕ). getD (blocked Q) k 0) (omega arith) ∙ blocked-at Q i (510 + j) h (omega arith) ∙ block-check Q i j l)
+        ∙ sym check-written),
+    number-is 2 i (blocked Q) (512 * i) (omega arith) (λ j l. blocked-at Q i j h (omega arith) ∙ front-at Q i j (omega arith) ∙ front-number Q i j l),
+  )
 
 -- ---- the header
 header-letters : (p : Pair) (note : Bool) (i : ℕ) → i < 4 → getD (header p note) i 0 ≡ getD letters i 0
@@ -83,7 +84,7 @@ module _ (p : Pair) (note : Bool) (T : List ℕ) (w : WellPair p) where
   unfolding fileOf
   file-blocks = blocked-length (payload p note T)
 
-  file-holds : (i : ℕ) → i < blocksFor (length (payload p note T)) → blockHolds (fileOf p note T) i ≡ true
+  file-holds : (i : ℕ) → i < blocksFor (length (payload p note T)) → BlockHolds (fileOf p note T) i
   unfolding fileOf
   file-holds = block-written (payload p note T) few
 
@@ -142,12 +143,12 @@ module _ (p : Pair) (note : Bool) (T : List ℕ) (w : WellPair p) where
   demanded-is = let e = counts-are in rw (e .0, e .1, e .2, e .3, note-is) (sym (file-length p note T))
 
   first-valid : firstValidity (fileOf p note T) ≡ valid
-  unfolding firstValidity
+  unfolding firstValidity headerValidity
   first-valid =
       let n = blocksFor (length (payload p note T)) in
       let full = or-false (ne-eqb (length (fileOf p note T)) 0 (λ z. omega (arith, file-blocks, some-block)))
       (not-f (eq-eqb (length (fileOf p note T) % 512) 0 (omega (arith, file-blocks)))) in
-      rw (full, not-f (file-holds 0 some-block), not-f header-is, not-f counts-hold)
+      rw full (then-of _ _ (block-valid (fileOf p note T) 0 bad-first-block (file-holds 0 some-block)) ∙ rw (not-f header-is, not-f counts-hold))
 
   padding-is : paddingHolds (fileOf p note T) ≡ true
   unfolding paddingHolds payloadDemanded
@@ -158,14 +159,11 @@ module _ (p : Pair) (note : Bool) (T : List ℕ) (w : WellPair p) where
       (λ l. or-l _ (lt-ltb k _ (omega (arith, payload-length p note T))))
       (λ l. or-r _ (eq-eqb _ 0 (file-payload k (omega (arith, file-blocks)) ∙ List·getD-eq-default (payload p note T) 0 (omega arith))))))
 
-  no-bad-block : badBlock (fileOf p note T) ≡ length (fileOf p note T) / 512
-  unfolding badBlock
-  no-bad-block = ap suc (first-none _ _ (λ k h. not-f (file-holds (suc k) (omega (arith, file-blocks))))) ∙ omega (arith, file-blocks, some-block)
-
   blocks-valid : blocksValidity (fileOf p note T) ≡ valid
-  unfolding blocksValidity
   blocks-valid =
-      rw (not-f (eq-eqb _ _ (sym demanded-is)), no-bad-block, le-ltb (length (fileOf p note T) / 512) (length (fileOf p note T) / 512) (omega arith), not-f padding-is)
+      blocks-then (fileOf p note T) (sym demanded-is)
+      ∙ then-of _ _ (later-valid (fileOf p note T) (λ i _ l. file-holds i (omega (arith, file-blocks))))
+      ∙ rw (not-f padding-is)
 
   -- the machines stand in the joined payloads
   pair-is : Representable p → pairOf (fileOf p note T) ≡ p

@@ -20,7 +20,7 @@ ghost use Rattle.machine.specs.Refusals.{answer, refused, valid, testedOf, andT
 ghost use Rattle.machine.specs.WellFormed.{pairValidity};
 ghost use Rattle.machine.specs.Table.{tableRoom};
 ghost use Rattle.codec.specs.Format.{letters, numberAt, payloadLength};
-ghost use Rattle.codec.specs.Reader.{checkHolds, numberHolds, blockHolds, payloadByte, headerByte, noteOf, headerHolds, countsHold, firstValidity, payloadDemanded, demanded, badBlock, paddingHolds, blocksValidity, machineAt, pairOf, entriesOf, taken, readAnswer, tableOf, readTable, zeroMachine, zeroPair, sizeOf};
+ghost use Rattle.codec.specs.Reader.{checkHolds, numberFound, blockValidity, payloadByte, headerByte, noteOf, headerHolds, countsHold, headerValidity, firstValidity, payloadDemanded, demanded, laterBlocks, paddingHolds, blocksValidity, machineAt, pairOf, entriesOf, taken, readAnswer, tableOf, readTable, zeroMachine, zeroPair, sizeOf};
 ghost use Rattle.codec.specs.Answers.{readOf, pairGiven, sizedOf, refusalOf};
 ghost use Rattle.codec.specs.Loading.{Loaded};
 ghost use Rattle.mask.specs.Tables.{front};
@@ -52,25 +52,27 @@ fn check_holds(bytes: &[u8], i: usize) -> bool
     number_at(2, bytes, at + 510) == check_at(bytes, at) as u64
 }
 
-// Whether the number of block i is its place.
-fn number_holds(bytes: &[u8], i: usize) -> bool
+// The number found in block i.
+fn number_found(bytes: &[u8], i: usize) -> usize
     requires { ⌜ 512 * i + 512 ≤ length (now bytes) ⌝ }
-    ensures { λ r. ⌜ r ≡ numberHolds (now (bytes .entry)) i ⌝ }
+    ensures { λ r. ⌜ r ≡ numberFound (now (bytes .entry)) i ⌝ }
 {
-    let number = number_at(2, bytes, 512 * i);
-    number == i as u64
+    number_at(2, bytes, 512 * i) as usize
 }
 
-// Whether block i holds: its check, then its number.
-fn block_holds(bytes: &[u8], i: usize) -> bool
+// Block i: a wrong check is refused with the number `wrong`, and right after it 19, a number that is not the block's place.
+fn block_validity(wrong: u32, bytes: &[u8], i: usize) -> Validity
     requires { ⌜ 512 * i + 512 ≤ length (now bytes) ⌝ }
-    ensures { λ r. ⌜ r ≡ blockHolds (now (bytes .entry)) i ⌝ }
+    ensures { λ r. ⌜ testedOf r ≡ blockValidity wrong (now (bytes .entry)) i ⌝ }
 {
-    if check_holds(bytes, i) {
-        number_holds(bytes, i)
-    } else {
-        false
+    if !check_holds(bytes, i) {
+        return Validity::Refused(machine::refuse(wrong, i, 0, 0));
     }
+    let number = number_found(bytes, i);
+    if number != i {
+        return Validity::Refused(machine::refuse(machine::MISPLACED, i, number, 0));
+    }
+    Validity::Valid
 }
 
 // ---- The first block
@@ -145,7 +147,7 @@ fn counts_hold(bytes: &[u8]) -> bool
     }
 }
 
-// Refusals 2 to 5, which rest on the length and the first block.
+// Refusals 2, 3, 19 of block 0, 4 and 5, which rest on the length and the first block.
 fn first_validity(bytes: &[u8]) -> Validity
     ensures { λ r. ⌜ testedOf r ≡ firstValidity (now (bytes .entry)) ⌝ }
 {
@@ -155,9 +157,17 @@ fn first_validity(bytes: &[u8]) -> Validity
     if bytes.len() % 512 != 0 {
         return Validity::Refused(machine::refuse(machine::BAD_LENGTH, 0, 0, 0));
     }
-    if !block_holds(bytes, 0) {
-        return Validity::Refused(machine::refuse(machine::BAD_FIRST_BLOCK, 0, 0, 0));
+    match block_validity(machine::BAD_FIRST_BLOCK, bytes, 0) {
+        Validity::Refused(r) => Validity::Refused(r),
+        Validity::Valid => header_validity(bytes),
     }
+}
+
+// Refusals 4 and 5.
+fn header_validity(bytes: &[u8]) -> Validity
+    requires { ⌜ 512 ≤ length (now bytes) ⌝ }
+    ensures { λ r. ⌜ testedOf r ≡ headerValidity (now (bytes .entry)) ⌝ }
+{
     if !header_holds(bytes) {
         return Validity::Refused(machine::refuse(machine::BAD_HEADER, 0, 0, 0));
     }
@@ -194,7 +204,7 @@ fn payload_demanded(bytes: &[u8]) -> usize
     payload_length(c, a, m, n, note_of(bytes))
 }
 
-// A file's length in bytes, by its first block; refusals 2 to 5.
+// A file's length in bytes, by its first block; refusals 2 to 5, and 19 of block 0.
 pub fn file_size(bytes: &[u8]) -> Size
     ensures { λ r. ⌜ sizedOf r ≡ sizeOf (now (bytes .entry)) ⌝ }
 {
@@ -209,18 +219,19 @@ pub fn file_size(bytes: &[u8]) -> Size
 
 // ---- The whole file
 
-// The first of the later blocks that does not hold; the number of blocks where each does.
-fn bad_block(bytes: &[u8]) -> usize
+// Refusals 7 and 19 of the blocks after block 0, the lowest first.
+fn later_blocks(bytes: &[u8]) -> Validity
     requires { ⌜ 512 ≤ length (now bytes) ⌝ }
-    ensures { λ r. ⌜ r ≡ badBlock (now (bytes .entry)) ⌝ }
+    ensures { λ r. ⌜ testedOf r ≡ laterBlocks (now (bytes .entry)) ⌝ }
 {
-    let n = bytes.len() / 512;
-    for i in 1..n {
-        if !block_holds(bytes, i) {
-            return i;
+    let later = bytes.len() / 512 - 1;
+    for i in 0..later {
+        let block = block_validity(machine::BAD_BLOCK, bytes, i + 1);
+        if let Validity::Refused(r) = block {
+            return Validity::Refused(r);
         }
     }
-    n
+    Validity::Valid
 }
 
 // Whether the padding is zero. A file of the length that its counts demand has all of it in its last block.
@@ -234,14 +245,14 @@ fn padding_holds(bytes: &[u8]) -> bool
     zeros(bytes, len + 4 * n - 2, end - len)
 }
 
-// Refusals 7 and 8.
+// Refusals 7 and 19 of the later blocks, and 8.
 fn later_validity(bytes: &[u8]) -> Validity
     requires { ⌜ length (now bytes) ≡ demanded (now bytes) ⌝ }
     ensures { λ r. ⌜ testedOf r ≡ blocksValidity (now (bytes .entry)) ⌝ }
 {
-    let b = bad_block(bytes);
-    if b < bytes.len() / 512 {
-        return Validity::Refused(machine::refuse(machine::BAD_BLOCK, b, 0, 0));
+    let blocks = later_blocks(bytes);
+    if let Validity::Refused(r) = blocks {
+        return Validity::Refused(r);
     }
     if !padding_holds(bytes) {
         return Validity::Refused(machine::refuse(machine::BAD_PADDING, 0, 0, 0));
@@ -249,7 +260,7 @@ fn later_validity(bytes: &[u8]) -> Validity
     Validity::Valid
 }
 
-// Refusals 2 to 8: up to 6 by the length that the first block demands.
+// Refusals 2 to 8, and 19: up to 6 by the first block and the length that it demands.
 fn file_validity(bytes: &[u8]) -> Validity
     ensures { λ r. ⌜ testedOf r ≡ andThen (firstValidity (now (bytes .entry))) (blocksValidity (now (bytes .entry))) ⌝ }
 {

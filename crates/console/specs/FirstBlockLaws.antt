@@ -1,9 +1,9 @@
 -- Laws of what the first block tells: no length is a refusal's number, fewer bytes than a block are refusal 2, and of a file of whole blocks
 -- the number is that of the whole, and a refusal's that of the console's answer.
-use mathlib.Core.Bool.{Bool, true, false, cond}
+use mathlib.Core.Bool.{true}
 use mathlib.Core.List.{List}
-use mathlib.Core.Logic.{⊎-elim}
-use mathlib.Core.Path.{_≡_, sym, ap, _∙_}
+use mathlib.Core.Logic.{_⊎_, inl, inr, ⊎-elim}
+use mathlib.Core.Path.{_≡_, refl, sym, ap, _∙_}
 use Prim.Native.Nat.{ℕ, _+_, _*_, _/_, _%_, _≤_, _<_}
 use native.Mathlib.Omega.{arith}
 use lib.Dec.{eqb}
@@ -13,13 +13,13 @@ use borrow.Author.Tests.{ne-eqb, eqb-false}
 use Rattle.mask.specs.Logic.{not, or}
 use Rattle.mask.specs.LogicLaws.{dec, or-l, or-r, not-i}
 use Rattle.machine.specs.declared.Refusal.{Refusal}
-use Rattle.machine.specs.Refusals.{Tested, answer, refused, valid, refusal, bad-length}
-use Rattle.machine.specs.RefusalsLaws.{refused-not-answer, then-of, then-refused, given-at, given-refused, buffer-valid}
+use Rattle.machine.specs.Refusals.{answer, refused, refusal, bad-length, bad-first-block, bad-header, bad-counts, misplaced}
+use Rattle.machine.specs.RefusalsLaws.{then-of, then-refused, given-at, given-refused, buffer-valid}
 use Rattle.machine.specs.Table.{tableRoom}
 use Rattle.machine.specs.Verdict.{checkVerdict}
 use Rattle.codec.specs.Format.{payloadMost}
-use Rattle.codec.specs.Reader.{blockHolds, headerHolds, countsHold, firstValidity, payloadDemanded, demanded, sizeOf, readValidity, readAnswer}
-use Rattle.codec.specs.ReaderLaws.{first-valid, demanded-is, payload-fits, machines-fit}
+use Rattle.codec.specs.Reader.{firstValidity, payloadDemanded, demanded, sizeOf, readValidity, readAnswer}
+use Rattle.codec.specs.ReaderLaws.{block-refuses, first-valid, first-refuses, demanded-is, payload-fits, machines-fit}
 use Rattle.codec.specs.OutcomesLaws.{outcome-refused}
 use Rattle.codec.specs.FileLaws.{first-block-tells-size}
 use Rattle.codec.specs.Writer.{fileRoom}
@@ -36,23 +36,19 @@ size-told f n e =
     let t = given-at (firstValidity f) (demanded f) e in
     whole-blocks n (payloadDemanded f) (sym (t .1) ∙ demanded-is f) (omega (arith, machines-fit f)) (payload-fits f (first-valid f (t .0) .counts))
 
--- ---- a refusal's number is 2, 3, 4 or 5
--- a refusal of these tests has a number from 2 to 5
-abbrev Early : Tested → Type 0
-Early v = (r : Refusal) → v ≡ refused r → (2 ≤ r .number) × (r .number ≤ 5)
-
-early-next : (b : Bool) (number : ℕ) (v : Tested) → 2 ≤ number → number ≤ 5 → Early v → Early (cond b (refused (refusal number 0 0 0)) v)
-early-next true number v low high h r e = let same : number ≡ r .number = cc in (omega arith, omega arith)
-early-next false number v low high h r e = h r e
-
-pub refusal-told : (f : List ℕ) (r : Refusal) → sizeOf f ≡ refused r → (2 ≤ r .number) × (r .number ≤ 5)
-unfolding sizeOf firstValidity
+-- ---- a refusal's number is 2, 3, 4, 5 or 19, which no length is
+pub refusal-told : (f : List ℕ) (r : Refusal) → sizeOf f ≡ refused r → ((2 ≤ r .number) × (r .number ≤ 5)) ⊎ (r .number ≡ misplaced)
+unfolding sizeOf
 refusal-told f r e =
-    early-next (or (eqb (length f) 0) (not (eqb (length f % 512) 0))) 2 _ (omega arith) (omega arith)
-    (early-next (not (blockHolds f 0)) 3 _ (omega arith) (omega arith)
-    (early-next (not (headerHolds f)) 4 _ (omega arith) (omega arith)
-    (early-next (not (countsHold f)) 5 valid (omega arith) (omega arith) (λ s z. absurd (refused-not-answer (sym z))))))
-    r (given-refused _ _ e)
+    first-refuses Number f (low bad-length (omega arith) (omega arith))
+    (λ _. block-refuses f 0 Number bad-first-block (λ _. low bad-first-block (omega arith) (omega arith)) (λ _ _. inr refl))
+    (low bad-header (omega arith) (omega arith)) (low bad-counts (omega arith) (omega arith)) r (given-refused _ _ e)
+  where
+    Number : Refusal → Type 0
+    Number r = ((2 ≤ r .number) × (r .number ≤ 5)) ⊎ (r .number ≡ misplaced)
+
+    low : (number : ℕ) → 2 ≤ number → number ≤ 5 → Number (refusal number 0 0 0)
+    low number a b = inl (a, b)
 
 -- ---- fewer bytes than a block
 -- all of them are in the first

@@ -2,7 +2,7 @@
 -- have in the code.
 use mathlib.Core.Bool.{cond}
 use mathlib.Core.List.{List, [], _∷_, _++_}
-use Prim.Native.Nat.{ℕ}
+use Prim.Native.Nat.{ℕ, zero, suc}
 use lib.ListN.{length, drop}
 use lib.Seq.{sets}
 use lib.Dec.{ltb}
@@ -35,6 +35,11 @@ passOn (refused r) f = refused r
 -- "Tested in this order": the first refusal of two counts. The second is another test, or the answer that is given unless the first refuses.
 unfoldable pub andThen : {A : Type 0} → Tested → Result A → Result A
 andThen v w = passOn v (λ t. w)
+
+-- the tests of 0, .., n - 1 in this order, the lowest first
+unfoldable pub each : ℕ → (ℕ → Tested) → Tested
+each zero t = valid
+each (suc n) t = andThen (each n t) (t n)
 
 -- a lent buffer's final content: what was made at its front, and the rest as it was. A refusal "changes no lent buffer".
 unfoldable pub bufferAfter : {A : Type 0} → Result A → List ℕ → List ℕ → List ℕ
@@ -89,6 +94,10 @@ unfair-lasso = 15
 
 abbrev pub no-start-partner : ℕ
 no-start-partner = 16
+
+-- Document 02, No. 5: "It refuses with 19 a block whose check holds and whose number isn't its place"
+abbrev pub misplaced : ℕ
+misplaced = 19
 
 -- ---- refusals
 -- a refusal with its spot; "0 where unused"

@@ -1,9 +1,10 @@
 -- Laws of results: which test of a row of tests tells the answer, and what a lent buffer and C's list of four hold then.
 use mathlib.Core.Bool.{Bool, true, false, cond}
 use mathlib.Core.List.{List, _++_}
-use mathlib.Core.Logic.{_⊎_, inl, inr}
-use mathlib.Core.Path.{_≡_, refl, sym, ap, _∙_}
-use Prim.Native.Nat.{ℕ, _≤_, _<_}
+use mathlib.Core.Logic.{_⊎_, inl, inr, by-cases}
+use mathlib.Core.Path.{_≡_, refl, sym, ap, subst, _∙_}
+use Prim.Native.Nat.{ℕ, zero, suc, _≤_, _<_}
+use native.Mathlib.Decide.{decLt}
 use native.Mathlib.Omega.{arith}
 use lib.Dec.{ltb}
 use lib.ListN.{length, drop, length-append, length-drop}
@@ -12,7 +13,7 @@ use borrow.Author.Tests.{lt-ltb, le-ltb, ltb-false}
 use Rattle.machine.specs.declared.Refusal.{Refusal}
 use Rattle.machine.specs.declared.Validity.{Validity}
 use Rattle.machine.specs.declared.Validity.the-variants.{Valid, Refused}
-use Rattle.machine.specs.Refusals.{Result, answer, refused, Tested, valid, testedOf, andThen, passOn, bufferAfter, fourNumbers, spotAfter, bufferValidity, refusal, short-buffer}
+use Rattle.machine.specs.Refusals.{Result, answer, refused, Tested, valid, testedOf, andThen, passOn, each, bufferAfter, fourNumbers, spotAfter, bufferValidity, refusal, short-buffer}
 
 -- ---- answers and refusals
 module _ {A : Type 0} where
@@ -94,6 +95,59 @@ module _ {A B : Type 0} where
   unfolding passOn
   pass-answer (answer a) f e = (a, refl, e)
   pass-answer (refused r) f e = absurd (refused-not-answer e)
+
+-- ---- tests in a row, the lowest first
+pub each-none : (t : ℕ → Tested) → each 0 t ≡ valid
+unfolding each
+each-none t = refl
+
+pub each-next : (n : ℕ) (t : ℕ → Tested) → each n t ≡ valid → t n ≡ valid → each (suc n) t ≡ valid
+unfolding each
+each-next n t e h = then-of _ _ e ∙ h
+
+pub each-valid : (n : ℕ) (t : ℕ → Tested) → ((i : ℕ) → i < n → t i ≡ valid) → each n t ≡ valid
+each-valid zero t h = each-none t
+each-valid (suc n) t h = each-next n t (each-valid n t (λ i l. h i (omega arith))) (h n (omega arith))
+
+pub each-at : (n : ℕ) (t : ℕ → Tested) → each n t ≡ valid → (i : ℕ) → i < n → t i ≡ valid
+unfolding each
+each-at zero t e i l = absurd (omega arith)
+each-at (suc n) t e i l = let b = then-answer (each n t) (t n) e in
+    by-cases (decLt i n) (λ q. each-at n t (b .0) i q) (λ q. let z : n ≡ i = omega arith in subst (λ (k : ℕ). t k ≡ valid) z (b .1))
+
+-- the refusal of the lowest that refuses
+pub each-refused : (n : ℕ) (t : ℕ → Tested) (i : ℕ) {r : Refusal} → i < n → each i t ≡ valid → t i ≡ refused r → each n t ≡ refused r
+unfolding each
+each-refused zero t i l e h = absurd (omega arith)
+each-refused (suc n) t i {r} l e h =
+    by-cases (decLt i n) (λ q. then-refused _ _ r (each-refused n t i q e h))
+    (λ q. let z : i ≡ n = omega arith in subst (λ (k : ℕ). each k t ≡ valid → t k ≡ refused r → andThen (each n t) (t n) ≡ refused r) (sym z) (λ a b. then-of _ _ a ∙ b) e h)
+
+-- ---- a fact of every refusal that a test may give
+abbrev pub Refuses : (Refusal → Type 0) → Tested → Type 0
+Refuses F v = (r : Refusal) → v ≡ refused r → F r
+
+module _ (F : Refusal → Type 0) where
+  pub refuses-none : Refuses F valid
+  refuses-none r e = absurd (refused-not-answer (sym e))
+
+  pub refuses-at : (s : Refusal) → F s → Refuses F (refused s)
+  refuses-at s h r e = subst F (refused-is e) h
+
+  pub refuses-cond : (b : Bool) (v w : Tested) → (b ≡ true → Refuses F v) → (b ≡ false → Refuses F w) → Refuses F (cond b v w)
+  refuses-cond true v w p q = p refl
+  refuses-cond false v w p q = q refl
+
+  pub refuses-then : (v w : Tested) → Refuses F v → (v ≡ valid → Refuses F w) → Refuses F (andThen v w)
+  unfolding andThen passOn
+  refuses-then (answer t) w p q = q refl
+  refuses-then (refused s) w p q = p
+
+  -- of the one that refuses, those before it pass
+  pub refuses-each : (n : ℕ) (t : ℕ → Tested) → ((i : ℕ) → i < n → each i t ≡ valid → Refuses F (t i)) → Refuses F (each n t)
+  unfolding each
+  refuses-each zero t h = refuses-none
+  refuses-each (suc n) t h = refuses-then (each n t) (t n) (refuses-each n t (λ i l. h i (omega arith))) (h n (omega arith))
 
 -- ---- lent buffers
 pub buffer-valid : (least len : ℕ) → least ≤ len → bufferValidity least len ≡ valid

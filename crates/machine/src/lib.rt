@@ -74,6 +74,8 @@ pub const UNFAIR_LASSO: u32 = 15;
 
 pub const NO_START_PARTNER: u32 = 16;
 
+pub const MISPLACED: u32 = 19;
+
 // What is said of a file without a table, where other numbers are refusals'.
 pub const NO_TABLE: u32 = 101;
 

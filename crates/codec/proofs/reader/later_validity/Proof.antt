@@ -1,59 +1,63 @@
--- The length is the one demanded, so 7 and 8 are left, in this order.
-use mathlib.Core.Bool.{false}
+-- The length is the one demanded, so the later blocks and the padding are left, in this order.
 use mathlib.Core.Path.{_≡_, sym, ap, _∙_}
 use native.Mathlib.Omega.{arith}
-use lib.ListN.{length}
-use lib.Dec.{eqb}
-use borrow.Author.Tests.{eq-eqb, lt-ltb, le-ltb, not-true, not-false}
-use Rattle.mask.specs.Logic.{not}
+use borrow.Author.Tests.{not-true, not-false}
 use Rattle.mask.specs.LogicLaws.{not-i, not-f}
-use Rattle.machine.specs.Refusals.{refused, testedOf}
-use Rattle.codec.specs.Reader.{demanded, blocksValidity}
-use Rattle.codec.specs.ReaderLaws.{fitting}
+use Rattle.machine.specs.Refusals.{valid, refused, testedOf}
+use Rattle.machine.specs.RefusalsLaws.{tested-valid, tested-refused, then-of, then-refused}
+use Rattle.codec.specs.Reader.{blocksValidity}
+use Rattle.codec.specs.ReaderLaws.{fitting, blocks-then}
 use borrow.Author.Needs.{needs}
 use Rattle.codec.proofs.reader.later_validity.Statement.{statement}
 use Rattle.codec.proofs.reader.later_validity.Tie as tie
 
-right-length : (c : tie.Start) → not (eqb (length (c .args .bytes .now)) (demanded (c .args .bytes .now))) ≡ false
-right-length c = not-f (eq-eqb _ _ (c .pre))
+later-blocks-requires : tie.Need-later-blocks-requires
+later-blocks-requires c κs = let w = fitting _ (c .before .pre) in omega arith
 
-bad-block-requires : tie.Need-bad-block-requires
-bad-block-requires c κs = let w = fitting _ (c .before .pre) in omega arith
-
-refuse-requires : tie.Need-refuse-requires
-refuse-requires c κs = search needs
+enum-known-blocks : tie.Need-enum-known-blocks
+enum-known-blocks c = search needs
 
 returns : tie.Need-returns
-unfolding blocksValidity testedOf
-returns c = rw (right-length (c .before .before .before .before), ← c .before .before .bad-block .ensures, lt-ltb _ _ (c .before .if1 .taken)) (ap refused (c .refuse .ensures))
+unfolding testedOf
+returns c =
+    let b = c .before .before .before in
+    sym (blocks-then _ (b .before .before .pre) ∙ then-refused _ _ _ (tested-refused (b .later-blocks .ensures) (c .before .blocks2 .given .1)))
+
+enum-told : tie.Need-enum-told
+enum-told c = search needs
 
 padding-holds-requires : tie.Need-padding-holds-requires
 padding-holds-requires c κs = search needs
 
-refuse-requires-2 : tie.Need-refuse-requires-2
-refuse-requires-2 c κs = search needs
+refuse-requires : tie.Need-refuse-requires
+refuse-requires c κs = search needs
 
 returns-2 : tie.Need-returns-2
-unfolding blocksValidity testedOf
+unfolding testedOf
 returns-2 c =
     let e = c .before .before .before in
-    rw (right-length (e .before .before .before), ← e .before .bad-block .ensures, le-ltb _ _ (e .if1 .left), not-i (sym (c .before .before .padding-holds .ensures) ∙ not-true _ (c .before .if2 .taken)))
-    (ap refused (c .refuse2 .ensures))
+    let b = e .before .before in
+    ap refused (c .refuse .ensures)
+    ∙ sym (blocks-then _ (b .before .before .pre) ∙ then-of _ _ (tested-valid (b .later-blocks .ensures) (e .enum-told .given .1))
+    ∙ rw (not-i (sym (c .before .before .padding-holds .ensures) ∙ not-true _ (c .before .if1 .taken))))
 
 returns-3 : tie.Need-returns-3
-unfolding blocksValidity testedOf
+unfolding testedOf
 returns-3 c =
     let e = c .before .before in
-    rw (right-length (e .before .before .before), ← e .before .bad-block .ensures, le-ltb _ _ (e .if1 .left), not-f (sym (c .before .padding-holds .ensures) ∙ not-false _ (c .if2 .left)))
+    let b = e .before .before in
+    sym (blocks-then _ (b .before .before .pre) ∙ then-of _ _ (tested-valid (b .later-blocks .ensures) (e .enum-told .given .1))
+    ∙ rw (not-f (sym (c .before .padding-holds .ensures) ∙ not-false _ (c .if1 .left))))
 
 pub later-validity-spec : {M : Type 1} → statement M
 later-validity-spec =
     tie.close
     (tie.spec
-    bad-block-requires
-    refuse-requires
+    later-blocks-requires
+    enum-known-blocks
     returns
+    enum-told
     padding-holds-requires
-    refuse-requires-2
+    refuse-requires
     returns-2
     returns-3)
