@@ -1,6 +1,6 @@
 #!/bin/sh
-# Builds the programs in C from the archives. Holds `console` to the number of each sample and of damaged copies, `restore` to the samples
-# whose table is the solver's and to what `shelf` says of a hard show and of shows with other hidden masks, and `play` to runs and refusals.
+# Builds the programs in C from the archives. Holds `console` to the number of each sample and of damaged and badly joined copies, `restore` to the
+# samples whose table is the solver's and to what `shelf` says of a hard show and of shows with other hidden masks, and `play` to runs and refusals.
 set -eu
 cd "$(dirname "$0")/.."
 work=$(mktemp -d)
@@ -46,6 +46,10 @@ from() {
 byte() {
     printf "\\$(printf %03o "$2")" | dd of="$file" bs=1 seek="$1" conv=notrunc 2>/dev/null
 }
+# block PLACE SAMPLE NUMBER: puts a block of a sample at a place of the copy
+block() {
+    dd if="samples/$2.dom" of="$file" bs=512 seek="$1" skip="$3" count=1 conv=notrunc 2>/dev/null
+}
 # seal: makes the check of block 0 right again
 seal() {
     sum=$(od -An -v -tu1 -N510 "$file" | awk '{ for (i = 1; i <= NF; i++) { n++; s = (s + n * $i) % 65521 } } END { print s }')
@@ -64,7 +68,7 @@ for name in lost hard; do expect 101 "samples/$name.dom"; done
 : >"$work/empty"; expect 2 "$work/empty"
 head -c 511 samples/case-05.dom >"$work/short"; expect 2 "$work/short"
 from check case-05; byte 100 1; expect 3 "$file"
-from number case-05; byte 0 1; seal; expect 3 "$file"
+from number case-05; byte 0 1; seal; expect 19 "$file"
 from letters case-05; byte 2 100; seal; expect 4 "$file"
 from first-zero case-05; byte 12 1; seal; expect 4 "$file"
 from last-zero case-05; byte 17 1; seal; expect 4 "$file"
@@ -79,6 +83,30 @@ from beyond case-05; byte 19 3; seal; expect 9 "$file"
 from no-start case-05; byte 19 0; seal; expect 10 "$file"
 from stuck case-05; byte 61 0; seal; expect 11 "$file"
 
+# badly joined copies: the console's number, and by the other calls the place and the number found
+# misjoined NUMBER PLACE FOUND
+misjoined() {
+    expect "$1" "$file"
+    line="refused $1 $2 $3 0"
+    same "shelf $file" "$line" "$(target/bin/shelf <"$file")"
+    same "restore $file" "$line" "$("$work/restore" "$file" "$work/none")"
+    plays "$line" "$file" / 0
+}
+from exchanged large; block 2 large 5; block 5 large 2; misjoined 19 2 5
+from first-last large; block 0 large 115; block 115 large 0; misjoined 19 0 115
+from doubled large; for i in $(seq 4 115); do block "$i" large $((i - 1)); done; misjoined 19 4 3
+from foreign large; block 7 case-05 0; misjoined 19 7 0
+from high case-05; byte 0 255; byte 1 255; seal; misjoined 19 0 65535
+# the number is looked at right after the check of the same block, and before the letters and the counts
+from both large; block 1 large 9; byte 1200 77; misjoined 19 1 9
+from both-other large; byte 700 77; block 2 large 9; misjoined 7 1 0
+from one-block large; block 3 large 9; byte 1600 77; misjoined 7 3 0
+from first-block large; byte 0 1; misjoined 3 0 0
+from other-letters case-05; byte 0 1; byte 2 100; byte 6 0; seal; misjoined 19 0 1
+# too long by a block that is there twice; and another show's first block, whose number is right
+from too-long large; tail -c 512 samples/large.dom >>"$file"; misjoined 6 0 0
+from other-show large; block 0 case-05 0; misjoined 6 0 0
+
 # the first block tells the size: a show that is larger than the memory is not read
 same 'console large 4096' 'larger than 4096: 59392' "$("$work/console" samples/large.dom 4096)"
 same 'console large 59391' 'larger than 59391: 59392' "$("$work/console" samples/large.dom 59391)"
@@ -89,6 +117,7 @@ same 'console front 4096' 'larger than 4096: 59392' "$("$work/console" "$work/fr
 same 'console pipe 4096' 58880 "$(cat samples/large.dom | { "$work/console" /dev/stdin 4096 >"$work/log"; wc -c; } | tr -d ' ')"
 from odd case-05; printf x >>"$file"; expect 2 "$file"
 same 'console letters 0' 4 "$("$work/console" "$work/letters" 0)"
+same 'console number 0' 19 "$("$work/console" "$work/number" 0)"
 
 # the hidden mask may be any byte; what it hides, and what not
 for mask in 1 128 255; do from mask case-05; byte 10 $mask; seal; expect 100 "$file"; done

@@ -27,13 +27,14 @@
  *   100       its table passes, and each start state of the rig has a partner;
  *   101       it has no table;
  *   200 + c   its table passes, and the rig's start state c is the lowest that lacks a partner (c is below 64);
- *   2 to 12   it was refused: docs/RULES.md has every number; 12 is an entry of the table that fails.
+ *   2 to 12, and 19
+ *             it was refused: docs/RULES.md has every number; 12 is an entry of the table that fails.
  * It takes at most 125,000 bytes of stack. libconsole.a has it (rt staticlib console).
  */
 uint32_t console_answer(const uint8_t *bytes, size_t length);
 
 /*
- * How many bytes the whole file must have, by its first block: a multiple of 512, from 512 to 59,392. Or a refusal's number, from 2 to 5: 2
+ * How many bytes the whole file must have, by its first block: a multiple of 512, from 512 to 59,392. Or a refusal's number, 2 to 5 or 19: 2
  * for fewer than 512 bytes. It looks at no byte after the first 512, so that more may be handed over. Of a file of whole blocks whose first
  * block is refused, console_answer gives the same number.
  * It takes at most 100 bytes of stack. libconsole.a has it.

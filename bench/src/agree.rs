@@ -144,6 +144,52 @@ pub fn on_files(r: &mut Random, h: &mut Random) {
     println!("agreed on plays: run {}, no table {}, refused {}", plays[0], plays[1], plays[2]);
 }
 
+// block k of one file, put at place i of another
+fn put(f: &mut [u8], i: usize, from: &[u8], k: usize) {
+    f[512 * i..512 * i + 512].copy_from_slice(&from[512 * k..512 * k + 512]);
+}
+
+// Copies of files of several blocks that are badly joined, damaged or both: blocks exchanged, one put over another, one doubled with the last cut
+// off, a block of another show, another number with a right check; of each also a copy with one bit changed.
+pub fn on_blocks(r: &mut Random) {
+    let mut counts = [0usize; 4];
+    let mut misplaced = 0;
+    let mut other = file(&r.shaped_pair(64, 64), None);
+    for _ in 0..1000 {
+        let (nc, na) = (12 + r.below(53), 12 + r.below(53));
+        let p = r.shaped_pair(nc, na);
+        let mut t = vec![0u16; plain::ROOM];
+        sweeps::solve(&p, &mut t);
+        let good = file(&p, Some(&t));
+        let blocks = good.len() / 512;
+        let (i, k, x) = (r.below(blocks), r.below(blocks), r.below(other.len() / 512));
+        for kind in 0..5 {
+            let mut f = good.clone();
+            match kind {
+                0 => {
+                    put(&mut f, i, &good, k);
+                    put(&mut f, k, &good, i);
+                }
+                1 => put(&mut f, i, &good, k),
+                2 => (i + 1..blocks).for_each(|place| put(&mut f, place, &good, place - 1)),
+                3 => put(&mut f, i, &other, x),
+                _ => {
+                    f[512 * i + r.below(2)] ^= 1 << r.below(8);
+                    mend(&mut f, i);
+                }
+            }
+            compare(&f, &mut counts);
+            misplaced += (proved::console(&f) == 19) as usize;
+            let at = r.below(f.len());
+            f[at] ^= 1 << r.below(8);
+            compare(&f, &mut counts);
+            misplaced += (proved::console(&f) == 19) as usize;
+        }
+        other = good;
+    }
+    println!("agreed on bad copies: taken {}, refused {}, with 19 {misplaced}", counts[0] + counts[1] + counts[2], counts[3]);
+}
+
 // the tables of two files with the same show, entry by entry; how many entries there are
 pub fn same_tables(ours: &[u8], theirs: &[u8]) -> usize {
     let (mut x, mut y) = (vec![0u16; plain::ROOM], vec![0u16; plain::ROOM]);

@@ -16,6 +16,7 @@ fn main() {
     let mut r = Random(0x9E3779B97F4A7C15);
     let mut h = Random(0x8CB92BA72F3D8DD7);
     agree::on_files(&mut r, &mut h);
+    agree::on_blocks(&mut Random(0xA0761D6478BD642F));
     let mut q = Random(0xD1B54A32D192ED03);
     let small = |q: &mut Random| {
         let (nc, na) = (1 + q.below(9), 1 + q.below(9));

@@ -111,9 +111,17 @@ fn check_of(block: &[u8]) -> u32 {
     sum % 65521
 }
 
-fn block_holds(bytes: &[u8], i: usize) -> bool {
+// a wrong check is refused with the number that is given for it, and then a number that is not the block's place with 19
+fn block(bytes: &[u8], wrong: u32, i: usize) -> Result<(), Refusal> {
     let b = &bytes[512 * i..512 * i + 512];
-    u32::from(u16::from_le_bytes([b[510], b[511]])) == check_of(b) && u16::from_le_bytes([b[0], b[1]]) as usize == i
+    if u32::from(u16::from_le_bytes([b[510], b[511]])) != check_of(b) {
+        return Err(Refusal(wrong, i, 0, 0));
+    }
+    let number = u16::from_le_bytes([b[0], b[1]]) as usize;
+    if number != i {
+        return Err(Refusal(19, i, number, 0));
+    }
+    Ok(())
 }
 
 fn payload_len(nc: usize, na: usize, m: usize, n: usize, table: bool) -> usize {
@@ -147,9 +155,7 @@ pub fn read(bytes: &[u8], table: &mut [u16]) -> Result<(Pair, bool), Refusal> {
     if bytes.is_empty() || bytes.len() % 512 != 0 {
         return refuse(2);
     }
-    if !block_holds(bytes, 0) {
-        return refuse(3);
-    }
+    block(bytes, 3, 0)?;
     let h = &bytes[2..18];
     if &h[0..4] != b"DOM1" || h[9] > 1 || h[10..16].iter().any(|&x| x != 0) {
         return refuse(4);
@@ -165,9 +171,7 @@ pub fn read(bytes: &[u8], table: &mut [u16]) -> Result<(Pair, bool), Refusal> {
         return refuse(6);
     }
     for i in 1..blocks {
-        if !block_holds(bytes, i) {
-            return Err(Refusal(7, i, 0, 0));
-        }
+        block(bytes, 7, i)?;
     }
     let mut q = [0u8; 116 * 508];
     for i in 0..blocks {

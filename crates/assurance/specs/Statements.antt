@@ -22,7 +22,7 @@ use Rattle.theory.specs.Figure2.{figure2, FigureGoal}
 use Rattle.theory.specs.Statements.{IsRank}
 use Rattle.codec.specs.Reader.{taken, headerByte, readAnswer, readTable}
 use Rattle.codec.specs.Writer.{fileRoom}
-use Rattle.codec.specs.Statements.{AreBytes, WriteRead, ReadWrite, WrittenReads, ReadWrites, FirstBlockTellsSize, TakenFits, TakenHidden, StoredTest, StoredMatched, EntriesUnread}
+use Rattle.codec.specs.Statements.{AreBytes, WriteRead, ReadWrite, WrittenReads, ReadWrites, FirstBlockTellsSize, TakenFits, TakenHidden, StoredTest, StoredMatched, EntriesUnread, BlocksTold, FirstBlock, DamagedTold, MisplacedTold, JoinedTold, ExchangedTold, OverwrittenTold}
 use Rattle.soundness.specs.Statements.{CheckUnread, PlayerUnread}
 use Rattle.restore.specs.Restoring.{restoreAnswer, restoreBuffer}
 use Rattle.solver.specs.Solver.{solveValidity, solvedTable}
@@ -68,6 +68,15 @@ StoredFilesAreSound = (f T : List ℕ) (p : Pair) (n : ℕ) → headerByte f 8 �
 
 abbrev pub StoredFilesKeepMeaning : Type 0
 StoredFilesKeepMeaning = TakenHidden × StoredTest × StoredMatched × StoredFilesAreSound
+
+-- Document 02, No. 5: "From now on 3 and 7 mean a wrong check only. A misplaced block tells its place and the number found in it." What the reader's
+-- 3, 7 and 19 mean; that refusals up to 6, and 19 of block 0, rest on the first block and the length alone; and which of the three is told of
+-- damaged and of badly joined copies of a file that the reader takes
+abbrev pub BlocksAreTold : Type 0
+BlocksAreTold = BlocksTold × FirstBlock
+
+abbrev pub BadCopiesAreTold : Type 0
+BadCopiesAreTold = DamagedTold × MisplacedTold × JoinedTold × ExchangedTold × OverwrittenTold
 
 -- "a lost table must be replaceable": of every file that is read without refusal, whatever its table, the file solver writes a file that is read
 -- without refusal, as the same machines under the same hidden mask with the solver's entries

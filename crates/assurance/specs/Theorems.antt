@@ -25,12 +25,13 @@ use Rattle.machine.specs.Lassos.{SameObservations}
 use Rattle.soundness.specs.PlayLaws.{observations-zero}
 use Rattle.soundness.specs.Theorems.{carried-is-sound, check-unread, player-unread}
 use Rattle.codec.specs.Format.{fileOf}
-use Rattle.codec.specs.FileLaws.{write-read, read-write, written-reads, read-writes, first-block-tells-size, entries-unread, taken-fits, taken-hidden, stored-test, stored-matched, taken-representable, Was, was-taken, was-well}
+use Rattle.codec.specs.FileLaws.{write-read, read-write, written-reads, read-writes, first-block, first-block-tells-size, entries-unread, taken-fits, taken-hidden, stored-test, stored-matched, taken-representable, Was, was-taken, was-well}
+use Rattle.codec.specs.PlacesLaws.{blocks-told, damaged-told, misplaced-told, joined-told, exchanged-told, overwritten-told}
 use Rattle.solver.specs.Solver.{solveValidity, solvedTable}
 use Rattle.solver.specs.SolvedLaws.{solve-takes, solved-same, solved-room}
 use Rattle.restore.specs.Restoring.{restored, restoreBuffer}
 use Rattle.restore.specs.RestoringLaws.{restore-valid, restore-made}
-use Rattle.assurance.specs.Statements.{FilesReadBack, FilesAreWritten, FirstBlockIsEnough, TakenIsNotCut, EntriesAreUnread, FilesAreSound, StoredFilesAreSound, StoredFilesKeepMeaning, LostTableIsReplaced}
+use Rattle.assurance.specs.Statements.{FilesReadBack, FilesAreWritten, FirstBlockIsEnough, TakenIsNotCut, EntriesAreUnread, FilesAreSound, StoredFilesAreSound, StoredFilesKeepMeaning, BlocksAreTold, BadCopiesAreTold, LostTableIsReplaced}
 use Rattle.assurance.specs.Statements.{SolverTakesMachines, SolvedPasses, SolvedCovers, SolvedIsCarried, SolvedIsFigure2, SolvedGoals, SolvedRanks, SolvedRest}
 
 pub files-read-back : FilesReadBack
@@ -61,6 +62,12 @@ stored-files-are-sound f T p n z e said l h =
 
 pub stored-files-keep-meaning : StoredFilesKeepMeaning
 stored-files-keep-meaning = (taken-hidden, stored-test, stored-matched, stored-files-are-sound)
+
+pub blocks-are-told : BlocksAreTold
+blocks-are-told = (blocks-told, first-block)
+
+pub bad-copies-are-told : BadCopiesAreTold
+bad-copies-are-told = (damaged-told, misplaced-told, joined-told, exchanged-told, overwritten-told)
 
 -- the new file is that of the same machines with the solver's table, and what is written reads back
 pub lost-table-is-replaced : LostTableIsReplaced

@@ -17,8 +17,8 @@ use Rattle.machine.specs.RefusalsLaws.{then-of, then-refused, given-refused, ea
 use Rattle.machine.specs.Table.{tableRoom}
 use Rattle.machine.specs.WellFormedLaws.{pair-refuses}
 use Rattle.codec.specs.Reader.{taken, checkHolds, numberFound, BlockHolds, blockValidity, firstValidity, demanded, laterBlocks, paddingHolds, blocksValidity, pairOf, readValidity, readAnswer}
-use Rattle.codec.specs.Statements.{Told, BlocksTold, MisplacedTold, joined, JoinedTold, exchanged, ExchangedTold, overwritten, OverwrittenTold}
-use Rattle.codec.specs.ReaderLaws.{block-misplaced, block-valid, block-refuses, check-same, found-same, FirstValid, first-valid, first-refuses, blocks-valid, blocks-then, later-hold, tests-refused}
+use Rattle.codec.specs.Statements.{Told, BlocksTold, AlikeBefore, MisplacedTold, damaged, DamagedTold, joined, JoinedTold, exchanged, ExchangedTold, overwritten, OverwrittenTold}
+use Rattle.codec.specs.ReaderLaws.{block-damaged, block-misplaced, block-valid, block-refuses, check-same, found-same, FirstValid, first-valid, first-refuses, blocks-valid, blocks-then, later-hold, tests-refused}
 use Rattle.codec.specs.ReadWriteLaws.{Whole, whole, all-blocks}
 use Rattle.codec.specs.FileLaws.{Was, was-taken, ragged, not-ragged, first-same, demanded-same}
 
@@ -79,47 +79,45 @@ blocks-told f lent r e =
     other : (number : ℕ) → (number ≡ bad-first-block → ⊥) → (number ≡ bad-block → ⊥) → (number ≡ misplaced → ⊥) → Told f (refusal number 0 0 0)
     other number = told-other f number 0 0 0
 
--- ---- a block at another place
--- whole blocks, as many as a file that was taken has
-module _ (f g lent : List ℕ) (p : Pair) (note : Bool) (w : Was f lent p note) (long : length g ≡ length f) where
-  rest : Whole f
-  rest = whole f (w .start) (w .blocks)
+-- ---- a file that is like one that was taken up to a place: the block there is the first that can be refused
+module _ (f g lent : List ℕ) (p : Pair) (note : Bool) (w : Was f lent p note) (i : ℕ) (alike : AlikeBefore i f g) where
+  was : Whole f
+  was = whole f (w .start) (w .blocks)
 
   whole-blocks : ragged g ≡ false
-  whole-blocks = not-ragged g (λ e. omega (arith, rest .start .long)) (ap (λ (n : ℕ). n % 512) long ∙ rest .start .whole)
+  whole-blocks = not-ragged g (λ e. omega (arith, was .start .long, alike .long)) (ap (λ (n : ℕ). n % 512) (alike .long) ∙ was .start .whole)
+
+  before : (k : ℕ) → k < i → BlockHolds g k
+  before k l =
+      let at : (j : ℕ) → j < 512 → getD g (512 * k + j) 0 ≡ getD f (512 * k + j) 0 = λ j q. alike .before (512 * k + j) (omega arith) in
+      let b = all-blocks f was k (omega (arith, alike .inside)) in
+      (check-same g f k k at ∙ b .0, found-same g f k k at ∙ b .1)
 
   reads : {r : Refusal} → andThen (firstValidity g) (blocksValidity g) ≡ refused r → readAnswer g lent ≡ refused r
   unfolding readAnswer
   reads {r} e = then-refused _ _ r (tests-refused g (length lent) (w .room) r e)
 
-  module _ (i : ℕ) (same : (k : ℕ) → k < 512 * i → getD g k 0 ≡ getD f k 0) where
-    -- the blocks before place i are those of f
-    before : i ≤ length f / 512 → (k : ℕ) → k < i → BlockHolds g k
-    before h k l =
-        let at : (j : ℕ) → j < 512 → getD g (512 * k + j) 0 ≡ getD f (512 * k + j) 0 = λ j q. same (512 * k + j) (omega arith) in
-        let b = all-blocks f rest k (omega arith) in
-        (check-same g f k k at ∙ b .0, found-same g f k k at ∙ b .1)
-
-  -- block 0 is tested before all that follows it
-  first-misplaced : checkHolds g 0 ≡ true → (numberFound g 0 ≡ 0 → ⊥) → readAnswer g lent ≡ refused (refusal misplaced 0 (numberFound g 0) 0)
-  unfolding firstValidity
-  first-misplaced t n = reads (then-refused _ _ _ (rw whole-blocks (then-refused _ _ _ (block-misplaced g 0 bad-first-block t n))))
-
-  -- a later one where block 0 is that of f
-  later-misplaced : (i : ℕ) → suc i < length f / 512 → ((k : ℕ) → k < 512 * suc i → getD g k 0 ≡ getD f k 0) → checkHolds g (suc i) ≡ true
-      → (numberFound g (suc i) ≡ suc i → ⊥) → readAnswer g lent ≡ refused (refusal misplaced (suc i) (numberFound g (suc i)) 0)
-  unfolding laterBlocks
-  later-misplaced i h same t n =
-      let start : (k : ℕ) → k < 512 → getD g k 0 ≡ getD f k 0 = λ k l. same k (omega arith) in
-      let first : firstValidity g ≡ valid = first-same g f start (whole-blocks ∙ sym (not-ragged f (λ e. omega (arith, rest .start .long)) (rest .start .whole))) ∙ w .start in
-      let demand : length g ≡ demanded g = long ∙ rest .rest .long ∙ sym (demanded-same g f start) in
-      let passed = each-valid i _ (λ k l. block-valid g (suc k) bad-block (before (suc i) same (omega arith) (suc k) (omega arith))) in
-      reads (then-of _ _ first ∙ blocks-then g demand
-      ∙ then-refused _ _ _ (each-refused (length g / 512 - 1) _ i (omega arith) passed (block-misplaced g (suc i) bad-block t n)))
+refused-at : (f g lent : List ℕ) (p : Pair) (note : Bool) (i : ℕ) → readAnswer f lent ≡ answer (taken p note) → AlikeBefore i f g
+    → {r : Refusal} → blockValidity (damaged i) g i ≡ refused r → readAnswer g lent ≡ refused r
+unfolding damaged firstValidity laterBlocks
+refused-at f g lent p note zero e alike {r} stops =
+    let w = was-taken f lent p note e in
+    reads f g lent p note w zero alike (then-refused _ _ r (rw (whole-blocks f g lent p note w zero alike) (then-refused _ _ r stops)))
+refused-at f g lent p note (suc i) e alike {r} stops =
+    let w = was-taken f lent p note e in
+    let rest = was f g lent p note w (suc i) alike in
+    let start : (k : ℕ) → k < 512 → getD g k 0 ≡ getD f k 0 = λ k l. alike .before k (omega arith) in
+    let full : ragged g ≡ ragged f = whole-blocks f g lent p note w (suc i) alike ∙ sym (not-ragged f (λ e. omega (arith, rest .start .long)) (rest .start .whole)) in
+    let demand : length g ≡ demanded g = alike .long ∙ rest .rest .long ∙ sym (demanded-same g f start) in
+    let passed = each-valid i _ (λ k l. block-valid g (suc k) bad-block (before f g lent p note w (suc i) alike (suc k) (omega arith))) in
+    reads f g lent p note w (suc i) alike (then-of _ _ (first-same g f start full ∙ w .start) ∙ blocks-then g demand
+    ∙ then-refused _ _ r (each-refused (length g / 512 - 1) _ i (omega (arith, alike .long, alike .inside)) passed stops))
 
 pub misplaced-told : MisplacedTold
-misplaced-told f g lent p note zero e long h same t n = first-misplaced f g lent p note (was-taken f lent p note e) long t n
-misplaced-told f g lent p note (suc i) e long h same t n = later-misplaced f g lent p note (was-taken f lent p note e) long i h same t n
+misplaced-told f g lent p note i e alike t n = refused-at f g lent p note i e alike (block-misplaced g i (damaged i) t n)
+
+pub damaged-told : DamagedTold
+damaged-told f g lent p note i e alike t = refused-at f g lent p note i e alike (block-damaged g i (damaged i) t)
 
 -- ---- blocks joined anew
 module _ (f : List ℕ) (from : ℕ → ℕ) where
@@ -142,7 +140,7 @@ joined-told f lent p note from i e h in-file same other =
     let g = joined from f in
     let at : (j : ℕ) → j < 512 → getD g (512 * i + j) 0 ≡ getD f (512 * from i + j) 0 = λ j l. joined-at f from i j h l in
     let found : numberFound g i ≡ from i = found-same g f i (from i) at ∙ b .1 in
-    misplaced-told f g lent p note i e (joined-length f from) h before (check-same g f i (from i) at ∙ b .0) (λ z. other (sym found ∙ z))
+    misplaced-told f g lent p note i e (record { long = joined-length f from; inside = h; before = before }) (check-same g f i (from i) at ∙ b .0) (λ z. other (sym found ∙ z))
     ∙ ap (λ (n : ℕ). refused (refusal misplaced i n 0)) found
   where
     before : (k : ℕ) → k < 512 * i → getD (joined from f) k 0 ≡ getD f k 0

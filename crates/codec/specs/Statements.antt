@@ -4,7 +4,7 @@ use mathlib.Core.Bool.{Bool, true, false, cond}
 use mathlib.Core.List.{List, _++_}
 use mathlib.Core.Logic.{_⊎_}
 use mathlib.Core.Path.{_≡_}
-use Prim.Native.Nat.{ℕ, _+_, _*_, _/_, _≤_, _<_, _%_, _^_}
+use Prim.Native.Nat.{ℕ, zero, suc, _+_, _*_, _/_, _≤_, _<_, _%_, _^_}
 use lib.ListN.{length, getD, take, drop}
 use lib.Dec.{eqb, leb}
 use Rattle.mask.specs.Logic.{and}
@@ -84,13 +84,25 @@ pub record Told (f : List ℕ) (r : Refusal) : Type 0 where
 abbrev pub BlocksTold : Type 0
 BlocksTold = (f lent : List ℕ) (r : Refusal) → readAnswer f lent ≡ refused r → Told f r
 
--- of a file that is as long as one that is taken and the same before place i, and has there a block whose check holds with another number: 19,
--- whatever follows
+-- a file g that is as long as f and the same before place i
+pub record AlikeBefore (i : ℕ) (f g : List ℕ) : Type 0 where
+  pub long : length g ≡ length f
+  pub inside : i < length f / 512
+  pub before : (k : ℕ) → k < 512 * i → getD g k 0 ≡ getD f k 0
+
+-- where f is taken, what g has at place i decides, whatever follows: a block whose check holds with another number is 19
 abbrev pub MisplacedTold : Type 0
-MisplacedTold = (f g lent : List ℕ) (p : Pair) (note : Bool) (i : ℕ) → readAnswer f lent ≡ answer (taken p note)
-    → length g ≡ length f → i < length f / 512 → ((k : ℕ) → k < 512 * i → getD g k 0 ≡ getD f k 0)
-    → checkHolds g i ≡ true → (numberFound g i ≡ i → ⊥)
-    → readAnswer g lent ≡ refused (refusal misplaced i (numberFound g i) 0)
+MisplacedTold = (f g lent : List ℕ) (p : Pair) (note : Bool) (i : ℕ) → readAnswer f lent ≡ answer (taken p note) → AlikeBefore i f g
+    → checkHolds g i ≡ true → (numberFound g i ≡ i → ⊥) → readAnswer g lent ≡ refused (refusal misplaced i (numberFound g i) 0)
+
+-- and a block whose check is wrong is 3 or 7
+unfoldable pub damaged : ℕ → ℕ
+damaged zero = bad-first-block
+damaged (suc i) = bad-block
+
+abbrev pub DamagedTold : Type 0
+DamagedTold = (f g lent : List ℕ) (p : Pair) (note : Bool) (i : ℕ) → readAnswer f lent ≡ answer (taken p note) → AlikeBefore i f g
+    → checkHolds g i ≡ false → readAnswer g lent ≡ refused (refusal (damaged i) i 0 0)
 
 -- the blocks of a file joined anew: at place i the block that stood at place `from i`
 unfoldable pub joined : (ℕ → ℕ) → List ℕ → List ℕ
