@@ -1,5 +1,6 @@
 -- The check is looked at first, and the number only where the check holds.
 use mathlib.Core.Path.{sym, ap, _∙_}
+use native.Mathlib.Omega.{arith}
 use borrow.Author.Needs.{needs}
 use borrow.Author.Tests.{not-true, not-false}
 use Rattle.machine.specs.Refusals.{refused, testedOf}
@@ -28,13 +29,13 @@ unfolding testedOf
 returns-2 c =
     let n = c .before .before in
     let found = n .number-found .ensures in
-    ap refused (c .refuse2 .ensures) ∙ rw found (sym (block-misplaced _ _ _ (sym (n .before .before .check-holds .ensures) ∙ not-false _ (n .before .if1 .left)) (λ e. c .before .if2 .taken (found ∙ e))))
+    ap refused (c .refuse2 .ensures) ∙ rw found (sym (block-misplaced _ _ _ (sym (n .before .before .check-holds .ensures) ∙ not-false _ (n .before .if1 .left)) (λ e. omega (arith, c .before .if2 .taken, found, e))))
 
 returns-3 : tie.Need-returns-3
 unfolding testedOf
 returns-3 c =
     let n = c .before in
-    sym (block-valid _ _ _ (sym (n .before .before .check-holds .ensures) ∙ not-false _ (n .before .if1 .left), sym (n .number-found .ensures) ∙ c .if2 .left))
+    sym (block-valid _ _ _ (sym (n .before .before .check-holds .ensures) ∙ not-false _ (n .before .if1 .left), omega (arith, n .number-found .ensures, c .if2 .left)))
 
 pub block-validity-spec : {M : Type 1} → statement M
 block-validity-spec =
