@@ -6,7 +6,7 @@ cd "$(dirname "$0")/.."
 work=$(mktemp -d)
 trap 'rm -rf "$work"' EXIT
 # all at once first, since crates that do not depend on each other are proved side by side
-rt check console restore playback shelf >"$work/log" 2>&1 || { tail -n 20 "$work/log"; exit 1; }
+rt check console restore playback shelf solve play >"$work/log" 2>&1 || { tail -n 20 "$work/log"; exit 1; }
 for name in console restore playback; do
     rt staticlib "$name" >"$work/log" 2>&1 || { tail -n 20 "$work/log"; exit 1; }
 done
@@ -83,29 +83,32 @@ from beyond case-05; byte 19 3; seal; expect 9 "$file"
 from no-start case-05; byte 19 0; seal; expect 10 "$file"
 from stuck case-05; byte 61 0; seal; expect 11 "$file"
 
-# badly joined copies: the console's number, and by the other calls the place and the number found
-# misjoined NUMBER PLACE FOUND
-misjoined() {
+# badly joined copies, beside damaged ones
+# stopped NUMBER PLACE FOUND: by the console the number, by the other calls and by the programs the place and the number found too
+stopped() {
     expect "$1" "$file"
     line="refused $1 $2 $3 0"
     same "shelf $file" "$line" "$(target/bin/shelf <"$file")"
     same "restore $file" "$line" "$("$work/restore" "$file" "$work/none")"
     plays "$line" "$file" / 0
+    same "solve $file" "$line" "$(target/bin/solve <"$file" 2>&1)"
+    same "program play $file" "$line" "$(target/bin/play / 0 <"$file")"
 }
-from exchanged large; block 2 large 5; block 5 large 2; misjoined 19 2 5
-from first-last large; block 0 large 115; block 115 large 0; misjoined 19 0 115
-from doubled large; for i in $(seq 4 115); do block "$i" large $((i - 1)); done; misjoined 19 4 3
-from foreign large; block 7 case-05 0; misjoined 19 7 0
-from high case-05; byte 0 255; byte 1 255; seal; misjoined 19 0 65535
+from exchanged large; block 2 large 5; block 5 large 2; stopped 19 2 5
+from first-last large; block 0 large 115; block 115 large 0; stopped 19 0 115
+from doubled large; for i in $(seq 4 115); do block "$i" large $((i - 1)); done; stopped 19 4 3
+from foreign large; block 7 case-05 0; stopped 19 7 0
+from zeros large; dd if=/dev/zero of="$file" bs=512 seek=7 count=1 conv=notrunc 2>/dev/null; stopped 19 7 0
+from high case-05; byte 0 255; byte 1 255; seal; stopped 19 0 65535
 # the number is looked at right after the check of the same block, and before the letters and the counts
-from both large; block 1 large 9; byte 1200 77; misjoined 19 1 9
-from both-other large; byte 700 77; block 2 large 9; misjoined 7 1 0
-from one-block large; block 3 large 9; byte 1600 77; misjoined 7 3 0
-from first-block large; byte 0 1; misjoined 3 0 0
-from other-letters case-05; byte 0 1; byte 2 100; byte 6 0; seal; misjoined 19 0 1
+from both large; block 1 large 9; byte 1200 77; stopped 19 1 9
+from both-other large; byte 700 77; block 2 large 9; stopped 7 1 0
+from one-block large; block 3 large 9; byte 1600 77; stopped 7 3 0
+from first-block large; byte 0 1; stopped 3 0 0
+from other-letters case-05; byte 0 1; byte 2 100; byte 6 0; seal; stopped 19 0 1
 # too long by a block that is there twice; and another show's first block, whose number is right
-from too-long large; tail -c 512 samples/large.dom >>"$file"; misjoined 6 0 0
-from other-show large; block 0 case-05 0; misjoined 6 0 0
+from too-long large; tail -c 512 samples/large.dom >>"$file"; stopped 6 0 0
+from other-show large; block 0 case-05 0; stopped 6 0 0
 
 # the first block tells the size: a show that is larger than the memory is not read
 same 'console large 4096' 'larger than 4096: 59392' "$("$work/console" samples/large.dom 4096)"

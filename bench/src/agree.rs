@@ -162,7 +162,9 @@ pub fn on_blocks(r: &mut Random) {
         sweeps::solve(&p, &mut t);
         let good = file(&p, Some(&t));
         let blocks = good.len() / 512;
-        let (i, k, x) = (r.below(blocks), r.below(blocks), r.below(other.len() / 512));
+        // block i is not the last, and block k is another
+        let (i, x) = (r.below(blocks - 1), r.below(other.len() / 512));
+        let k = (i + 1 + r.below(blocks - 1)) % blocks;
         for kind in 0..5 {
             let mut f = good.clone();
             match kind {
@@ -187,7 +189,7 @@ pub fn on_blocks(r: &mut Random) {
         }
         other = good;
     }
-    println!("agreed on bad copies: taken {}, refused {}, with 19 {misplaced}", counts[0] + counts[1] + counts[2], counts[3]);
+    println!("agreed on bad copies: answered {}, refused {}, with 19 {misplaced}", counts[0] + counts[1] + counts[2], counts[3]);
 }
 
 // the tables of two files with the same show, entry by entry; how many entries there are

@@ -1,4 +1,4 @@
--- Demands 2 and 3 of the tender, over the very definitions that the contracts of reader, writer, check and solver cite. Each statement is a type with
+-- Demands 2 and 3 of the tender and what change requests 4 and 5 add to files, over the very definitions that the contracts of reader, writer, check and solver cite. Each statement is a type with
 -- its hypotheses in it, and Theorems.antt gives a proof of each: what is shown of well-formed machines and a lent table with room only has
 -- `wellFormed p ≡ true` and `tableRoom ≤ length T`. `readAnswer` and `readTable` are what the reader says and leaves in the lent table, `fileOf`
 -- is what the writer writes, `checkVerdict` what the check says, `solveValidity` and `solvedTable` what the solver says and leaves in the lent table, `restoreAnswer` and
@@ -22,7 +22,7 @@ use Rattle.theory.specs.Figure2.{figure2, FigureGoal}
 use Rattle.theory.specs.Statements.{IsRank}
 use Rattle.codec.specs.Reader.{taken, headerByte, readAnswer, readTable}
 use Rattle.codec.specs.Writer.{fileRoom}
-use Rattle.codec.specs.Statements.{AreBytes, WriteRead, ReadWrite, WrittenReads, ReadWrites, FirstBlockTellsSize, TakenFits, TakenHidden, StoredTest, StoredMatched, EntriesUnread, BlocksTold, FirstBlock, DamagedTold, MisplacedTold, JoinedTold, ExchangedTold, OverwrittenTold}
+use Rattle.codec.specs.Statements.{AreBytes, WriteRead, ReadWrite, WrittenReads, ReadWrites, FirstBlockTellsSize, TakenFits, TakenHidden, StoredTest, StoredMatched, EntriesUnread, BlocksTold, FirstTold, LowestTold, FirstBlock, DamagedTold, MisplacedTold, JoinedTold, ExchangedTold, OverwrittenTold}
 use Rattle.soundness.specs.Statements.{CheckUnread, PlayerUnread}
 use Rattle.restore.specs.Restoring.{restoreAnswer, restoreBuffer}
 use Rattle.solver.specs.Solver.{solveValidity, solvedTable}
@@ -70,10 +70,10 @@ abbrev pub StoredFilesKeepMeaning : Type 0
 StoredFilesKeepMeaning = TakenHidden × StoredTest × StoredMatched × StoredFilesAreSound
 
 -- Document 02, No. 5: "From now on 3 and 7 mean a wrong check only. A misplaced block tells its place and the number found in it." What the reader's
--- 3, 7 and 19 mean; that refusals up to 6, and 19 of block 0, rest on the first block and the length alone; and which of the three is told of
--- damaged and of badly joined copies of a file that the reader takes
+-- 3, 7 and 19 mean, and when they are said; that refusals up to 6, and 19 of block 0, rest on the first block and the length alone; and which of the
+-- three is told of damaged and of badly joined copies of a file that the reader takes
 abbrev pub BlocksAreTold : Type 0
-BlocksAreTold = BlocksTold × FirstBlock
+BlocksAreTold = BlocksTold × FirstTold × LowestTold × FirstBlock
 
 abbrev pub BadCopiesAreTold : Type 0
 BadCopiesAreTold = DamagedTold × MisplacedTold × JoinedTold × ExchangedTold × OverwrittenTold

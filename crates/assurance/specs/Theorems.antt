@@ -26,7 +26,7 @@ use Rattle.soundness.specs.PlayLaws.{observations-zero}
 use Rattle.soundness.specs.Theorems.{carried-is-sound, check-unread, player-unread}
 use Rattle.codec.specs.Format.{fileOf}
 use Rattle.codec.specs.FileLaws.{write-read, read-write, written-reads, read-writes, first-block, first-block-tells-size, entries-unread, taken-fits, taken-hidden, stored-test, stored-matched, taken-representable, Was, was-taken, was-well}
-use Rattle.codec.specs.PlacesLaws.{blocks-told, damaged-told, misplaced-told, joined-told, exchanged-told, overwritten-told}
+use Rattle.codec.specs.PlacesLaws.{blocks-told, first-told, lowest-told, damaged-told, misplaced-told, joined-told, exchanged-told, overwritten-told}
 use Rattle.solver.specs.Solver.{solveValidity, solvedTable}
 use Rattle.solver.specs.SolvedLaws.{solve-takes, solved-same, solved-room}
 use Rattle.restore.specs.Restoring.{restored, restoreBuffer}
@@ -64,7 +64,7 @@ pub stored-files-keep-meaning : StoredFilesKeepMeaning
 stored-files-keep-meaning = (taken-hidden, stored-test, stored-matched, stored-files-are-sound)
 
 pub blocks-are-told : BlocksAreTold
-blocks-are-told = (blocks-told, first-block)
+blocks-are-told = (blocks-told, first-told, lowest-told, first-block)
 
 pub bad-copies-are-told : BadCopiesAreTold
 bad-copies-are-told = (damaged-told, misplaced-told, joined-told, exchanged-told, overwritten-told)

@@ -1,4 +1,4 @@
--- Laws of blocks: the check as a loop sums it, and the tests of a block and of padding as loops make them.
+-- Laws of blocks: the check as a loop sums it.
 use mathlib.Core.List.{List}
 use mathlib.Core.Path.{_≡_, refl, ap, _∙_}
 use Prim.Native.Nat.{ℕ, suc, _+_, _*_, _/_, _%_, _≤_, _<_}

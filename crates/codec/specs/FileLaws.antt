@@ -15,15 +15,15 @@ use Rattle.mask.specs.BoundedLaws.{every-cong}
 use Rattle.mask.specs.TablesLaws.{table-length}
 use Rattle.machine.specs.declared.Pair.{Pair}
 use Rattle.machine.specs.declared.Refusal.{Refusal}
-use Rattle.machine.specs.Refusals.{Tested, valid, answer, refused, refusal, andThen, passOn, bufferAfter, bad-first-block, bad-block, bad-padding, misplaced, bufferValidity}
-use Rattle.machine.specs.RefusalsLaws.{then-of, then-refused, then-answer, then-cases, given-at, given-refused, Refuses, refuses-none, refuses-at, refuses-cond, refuses-then, refuses-each, buffer-room, buffer-made}
+use Rattle.machine.specs.Refusals.{Tested, valid, answer, refused, refusal, andThen, bufferAfter, bad-block, bad-padding, misplaced, bufferValidity}
+use Rattle.machine.specs.RefusalsLaws.{then-of, then-refused, then-answer, then-cases, given-at, given-refused, RefusesOnly, refuses-none, refuses-at, refuses-cond, refuses-then, refuses-each, buffer-room, buffer-made}
 use Rattle.machine.specs.Machines.{nC, nA, setsC, setsA}
 use Rattle.machine.specs.Table.{entries, tableRoom}
 use Rattle.machine.specs.WellFormed.{wellFormed, pairValidity}
 use Rattle.machine.specs.WellFormedLaws.{valid-is-well, pair-refuses}
 use Rattle.machine.specs.HiddenLaws.{matched-zero}
 use Rattle.codec.specs.Format.{letters, fileLength, fileOf}
-use Rattle.codec.specs.Reader.{inputRoom, taken, numberFound, blockValidity, headerByte, noteOf, headerHolds, countsHold, headerValidity, firstValidity, demanded, laterBlocks, paddingHolds, blocksValidity, payloadOf, machineAt, pairOf, entriesOf, readValidity, readAnswer, readTable, sizeOf}
+use Rattle.codec.specs.Reader.{inputRoom, taken, numberFound, damagedNumber, blockValidity, headerByte, noteOf, headerHolds, countsHold, headerValidity, firstValidity, demanded, laterBlocks, paddingHolds, blocksValidity, payloadOf, machineAt, pairOf, entriesOf, readValidity, readAnswer, readTable, sizeOf}
 use Rattle.codec.specs.Writer.{fileRoom, writeValidity, writeAnswer, writeBuffer}
 use Rattle.codec.specs.Statements.{Representable, AreBytes, WriteRead, ReadWrite, TableUnread, IsEarly, FirstBlock, FirstBlockTellsSize, TakenRepresentable, TakenHidden, StoredTest, StoredMatched, TakenFits, WriteAnswers, WrittenReads, ReadWrites, EntriesUnread}
 use Rattle.codec.specs.FormatLaws.{file-length, file-cong}
@@ -189,7 +189,7 @@ module _ (f g : List ℕ) (same : (i : ℕ) → i < 512 → getD f i 0 ≡ getD 
   unfolding noteOf
   note-same = rw (header-same 9 (omega arith))
 
-  block-same : blockValidity bad-first-block f 0 ≡ blockValidity bad-first-block g 0
+  block-same : blockValidity f 0 ≡ blockValidity g 0
   unfolding blockValidity
   block-same =
       let bytes : (j : ℕ) → j < 512 → getD f (512 * 0 + j) 0 ≡ getD g (512 * 0 + j) 0 = λ j h. same (512 * 0 + j) (omega arith) in
@@ -220,7 +220,7 @@ module _ (f g : List ℕ) (same : (i : ℕ) → i < 512 → getD f i 0 ≡ getD 
   size-same e = ap₂ (λ (v : Tested) (n : ℕ). andThen v (answer n)) (first-same e) demanded-same
 
   -- of two files of one length
-  pub ragged-same : length f ≡ length g → ragged f ≡ ragged g
+  ragged-same : length f ≡ length g → ragged f ≡ ragged g
   ragged-same long = rw long
 
 -- the refusals that come later
@@ -231,16 +231,16 @@ late-at : (number x y z : ℕ) → 7 ≤ number → (number ≡ misplaced → 0 
 late-at number x y z h m early = ⊎-elim (λ q. omega arith) (λ q. omega (arith, m (q .0), q .1)) early
 
 -- the counts were tested before
-pair-late : (f : List ℕ) → countsHold f ≡ true → Refuses IsLate (pairValidity (pairOf f))
+pair-late : (f : List ℕ) → countsHold f ≡ true → RefusesOnly IsLate (pairValidity (pairOf f))
 unfolding pairOf machineAt countsHold
 pair-late f t = pair-refuses IsLate (λ number x y z l h. late-at number x y z (omega arith) (λ e. absurd (omega arith))) (pairOf f) (λ e. absurd (clash e t))
 
 -- and so was the length
-blocks-late : (f : List ℕ) → length f ≡ demanded f → Refuses IsLate (blocksValidity f)
-unfolding laterBlocks
-blocks-late f e = subst (Refuses IsLate) (sym (blocks-then f e))
+blocks-late : (f : List ℕ) → length f ≡ demanded f → RefusesOnly IsLate (blocksValidity f)
+unfolding laterBlocks damagedNumber
+blocks-late f e = subst (RefusesOnly IsLate) (sym (blocks-then f e))
     (refuses-then IsLate (laterBlocks f) _
-    (refuses-each IsLate _ _ (λ i l v. block-refuses f (suc i) IsLate bad-block
+    (refuses-each IsLate _ _ (λ i l v. block-refuses f (suc i) IsLate
     (λ t. late-at bad-block (suc i) 0 0 (omega arith) (λ q. omega arith))
     (λ t n. late-at misplaced (suc i) (numberFound f (suc i)) 0 (omega arith) (λ q. omega arith))))
     (λ v. refuses-cond IsLate (not (paddingHolds f)) _ _ (λ t. refuses-at IsLate _ (late-at bad-padding 0 0 0 (omega arith) (λ q. absurd (omega arith)))) (λ t. refuses-none IsLate)))

@@ -1,6 +1,6 @@
 -- Laws of damaged and misplaced blocks, each as Statements.antt states it. A block's test looks at its 512 bytes alone, so a block that stands at
 -- another place than in the file that was taken has a check that holds there and its old place as its number.
-use mathlib.Core.Bool.{Bool, true, false}
+use mathlib.Core.Bool.{Bool, false}
 use mathlib.Core.List.{List}
 use mathlib.Core.Path.{_≡_, refl, sym, ap, _∙_}
 use Prim.Native.Nat.{ℕ, zero, suc, _+_, _-_, _*_, _/_, _%_, _≤_, _<_}
@@ -13,12 +13,12 @@ use Rattle.mask.specs.TablesLaws.{table-length, table-at}
 use Rattle.machine.specs.declared.Pair.{Pair}
 use Rattle.machine.specs.declared.Refusal.{Refusal}
 use Rattle.machine.specs.Refusals.{valid, answer, refused, andThen, refusal, each, short-buffer, bad-length, bad-first-block, bad-header, bad-counts, wrong-length, bad-block, bad-padding, misplaced, bufferValidity}
-use Rattle.machine.specs.RefusalsLaws.{then-of, then-refused, given-refused, each-valid, each-refused, Refuses, refuses-none, refuses-at, refuses-cond, refuses-then, refuses-each}
+use Rattle.machine.specs.RefusalsLaws.{then-of, then-refused, given-refused, each-valid, each-refused, RefusesOnly, refuses-none, refuses-at, refuses-cond, refuses-then, refuses-each}
 use Rattle.machine.specs.Table.{tableRoom}
 use Rattle.machine.specs.WellFormedLaws.{pair-refuses}
-use Rattle.codec.specs.Reader.{taken, checkHolds, numberFound, BlockHolds, blockValidity, firstValidity, demanded, laterBlocks, paddingHolds, blocksValidity, pairOf, readValidity, readAnswer}
-use Rattle.codec.specs.Statements.{Told, BlocksTold, AlikeBefore, MisplacedTold, damaged, DamagedTold, joined, JoinedTold, exchanged, ExchangedTold, overwritten, OverwrittenTold}
-use Rattle.codec.specs.ReaderLaws.{block-damaged, block-misplaced, block-valid, block-refuses, check-same, found-same, FirstValid, first-valid, first-refuses, blocks-valid, blocks-then, later-hold, tests-refused}
+use Rattle.codec.specs.Reader.{taken, numberFound, damagedNumber, BlockHolds, blockValidity, firstValidity, demanded, laterBlocks, paddingHolds, blocksValidity, pairOf, readValidity, readAnswer}
+use Rattle.codec.specs.Statements.{Told, BlocksTold, FirstTold, LowestTold, AlikeBefore, MisplacedTold, DamagedTold, joined, JoinedTold, exchanged, ExchangedTold, overwritten, OverwrittenTold}
+use Rattle.codec.specs.ReaderLaws.{block-damaged, block-misplaced, block-valid, block-refuses, check-same, found-same, first-valid, first-refuses, blocks-then, later-hold, tests-refused}
 use Rattle.codec.specs.ReadWriteLaws.{Whole, whole, all-blocks}
 use Rattle.codec.specs.FileLaws.{Was, was-taken, ragged, not-ragged, first-same, demanded-same}
 
@@ -27,8 +27,9 @@ use Rattle.codec.specs.FileLaws.{Was, was-taken, ragged, not-ragged, fir
 told-other : (f : List ℕ) (number x y z : ℕ) → (number ≡ bad-first-block → ⊥) → (number ≡ bad-block → ⊥) → (number ≡ misplaced → ⊥) → Told f (refusal number x y z)
 told-other f number x y z a b c = record { first-damaged = λ e. absurd (a e); later-damaged = λ e. absurd (b e); found-misplaced = λ e. absurd (c e) }
 
-first-told : (f : List ℕ) → 512 ≤ length f → Refuses (Told f) (blockValidity bad-first-block f 0)
-first-told f long = block-refuses f 0 (Told f) bad-first-block
+first-block-told : (f : List ℕ) → 512 ≤ length f → RefusesOnly (Told f) (blockValidity f 0)
+unfolding damagedNumber
+first-block-told f long = block-refuses f 0 (Told f)
     (λ t. record { first-damaged = λ e. (refl, t); later-damaged = λ e. absurd (omega arith); found-misplaced = λ e. absurd (omega arith) })
     (λ t n. record {
       first-damaged = λ e. absurd (omega arith);
@@ -37,9 +38,9 @@ first-told f long = block-refuses f 0 (Told f) bad-first-block
     })
 
 -- the blocks before a later one that is looked at hold
-later-told : (f : List ℕ) → BlockHolds f 0 → Refuses (Told f) (laterBlocks f)
-unfolding laterBlocks
-later-told f first = refuses-each (Told f) _ _ (λ i l v. block-refuses f (suc i) (Told f) bad-block
+later-told : (f : List ℕ) → BlockHolds f 0 → RefusesOnly (Told f) (laterBlocks f)
+unfolding laterBlocks damagedNumber
+later-told f first = refuses-each (Told f) _ _ (λ i l v. block-refuses f (suc i) (Told f)
     (λ t. record {
       first-damaged = λ e. absurd (omega arith);
       later-damaged = λ e. (suc i, omega arith, omega arith, refl, t, before i v);
@@ -51,11 +52,11 @@ later-told f first = refuses-each (Told f) _ _ (λ i l v. block-refuses f (suc i
       found-misplaced = λ e. (suc i, omega arith, refl, t, n, before i v);
     }))
   where
-    before : (i : ℕ) → each i (λ k. blockValidity bad-block f (suc k)) ≡ valid → (k : ℕ) → k < suc i → BlockHolds f k
+    before : (i : ℕ) → each i (λ k. blockValidity f (suc k)) ≡ valid → (k : ℕ) → k < suc i → BlockHolds f k
     before i v zero l = first
     before i v (suc k) l = later-hold f i v (suc k) (omega arith) l
 
-later-blocks-told : (f : List ℕ) → BlockHolds f 0 → Refuses (Told f) (blocksValidity f)
+later-blocks-told : (f : List ℕ) → BlockHolds f 0 → RefusesOnly (Told f) (blocksValidity f)
 unfolding blocksValidity
 later-blocks-told f first =
     refuses-cond (Told f) (not (eqb (length f) (demanded f))) _ _ (λ t. refuses-at (Told f) _ (told-other f wrong-length 0 0 0 (λ e. omega arith) (λ e. omega arith) (λ e. omega arith)))
@@ -69,7 +70,7 @@ blocks-told f lent r e =
     refuses-then (Told f) (bufferValidity tableRoom (length lent)) _
     (refuses-cond (Told f) (ltb (length lent) tableRoom) _ _ (λ t. refuses-at (Told f) _ (other short-buffer (λ e. omega arith) (λ e. omega arith) (λ e. omega arith))) (λ t. refuses-none (Told f)))
     (λ t. refuses-then (Told f) (firstValidity f) _
-    (first-refuses (Told f) f (other bad-length (λ e. omega arith) (λ e. omega arith) (λ e. omega arith)) (first-told f)
+    (first-refuses (Told f) f (other bad-length (λ e. omega arith) (λ e. omega arith) (λ e. omega arith)) (first-block-told f)
     (other bad-header (λ e. omega arith) (λ e. omega arith) (λ e. omega arith)) (other bad-counts (λ e. omega arith) (λ e. omega arith) (λ e. omega arith)))
     (λ v. refuses-then (Told f) (blocksValidity f) _ (later-blocks-told f (first-valid f v .block))
     (λ u. pair-refuses (Told f) (λ number x y z low high. told-other f number x y z (λ e. omega arith) (λ e. omega arith) (λ e. omega arith)) (pairOf f)
@@ -79,45 +80,60 @@ blocks-told f lent r e =
     other : (number : ℕ) → (number ≡ bad-first-block → ⊥) → (number ≡ bad-block → ⊥) → (number ≡ misplaced → ⊥) → Told f (refusal number 0 0 0)
     other number = told-other f number 0 0 0
 
--- ---- a file that is like one that was taken up to a place: the block there is the first that can be refused
-module _ (f g lent : List ℕ) (p : Pair) (note : Bool) (w : Was f lent p note) (i : ℕ) (alike : AlikeBefore i f g) where
-  was : Whole f
-  was = whole f (w .start) (w .blocks)
+-- ---- and back
+reads : (f lent : List ℕ) {r : Refusal} → tableRoom ≤ length lent → andThen (firstValidity f) (blocksValidity f) ≡ refused r → readAnswer f lent ≡ refused r
+unfolding readAnswer
+reads f lent {r} room e = then-refused _ _ r (tests-refused f (length lent) room r e)
 
-  whole-blocks : ragged g ≡ false
-  whole-blocks = not-ragged g (λ e. omega (arith, was .start .long, alike .long)) (ap (λ (n : ℕ). n % 512) (alike .long) ∙ was .start .whole)
+pub first-told : FirstTold
+unfolding firstValidity
+first-told f lent r room some whole stops = reads f lent room (then-refused _ _ r (rw (not-ragged f some whole) (then-refused _ _ r stops)))
 
-  before : (k : ℕ) → k < i → BlockHolds g k
-  before k l =
-      let at : (j : ℕ) → j < 512 → getD g (512 * k + j) 0 ≡ getD f (512 * k + j) 0 = λ j q. alike .before (512 * k + j) (omega arith) in
-      let b = all-blocks f was k (omega (arith, alike .inside)) in
-      (check-same g f k k at ∙ b .0, found-same g f k k at ∙ b .1)
+pub lowest-told : LowestTold
+unfolding laterBlocks
+lowest-told f lent zero r room first long some inside hold stops = absurd (omega arith)
+lowest-told f lent (suc i) r room first long some inside hold stops =
+    let passed = each-valid i _ (λ k l. block-valid f (suc k) (hold (suc k) (omega arith))) in
+    reads f lent room (then-of _ _ first ∙ blocks-then f long ∙ then-refused _ _ r (each-refused (length f / 512 - 1) _ i (omega arith) passed stops))
 
-  reads : {r : Refusal} → andThen (firstValidity g) (blocksValidity g) ≡ refused r → readAnswer g lent ≡ refused r
-  unfolding readAnswer
-  reads {r} e = then-refused _ _ r (tests-refused g (length lent) (w .room) r e)
-
+-- ---- a file that is like one that was taken up to a place
 refused-at : (f g lent : List ℕ) (p : Pair) (note : Bool) (i : ℕ) → readAnswer f lent ≡ answer (taken p note) → AlikeBefore i f g
-    → {r : Refusal} → blockValidity (damaged i) g i ≡ refused r → readAnswer g lent ≡ refused r
-unfolding damaged firstValidity laterBlocks
-refused-at f g lent p note zero e alike {r} stops =
-    let w = was-taken f lent p note e in
-    reads f g lent p note w zero alike (then-refused _ _ r (rw (whole-blocks f g lent p note w zero alike) (then-refused _ _ r stops)))
-refused-at f g lent p note (suc i) e alike {r} stops =
-    let w = was-taken f lent p note e in
-    let rest = was f g lent p note w (suc i) alike in
-    let start : (k : ℕ) → k < 512 → getD g k 0 ≡ getD f k 0 = λ k l. alike .before k (omega arith) in
-    let full : ragged g ≡ ragged f = whole-blocks f g lent p note w (suc i) alike ∙ sym (not-ragged f (λ e. omega (arith, rest .start .long)) (rest .start .whole)) in
-    let demand : length g ≡ demanded g = alike .long ∙ rest .rest .long ∙ sym (demanded-same g f start) in
-    let passed = each-valid i _ (λ k l. block-valid g (suc k) bad-block (before f g lent p note w (suc i) alike (suc k) (omega arith))) in
-    reads f g lent p note w (suc i) alike (then-of _ _ (first-same g f start full ∙ w .start) ∙ blocks-then g demand
-    ∙ then-refused _ _ r (each-refused (length g / 512 - 1) _ i (omega (arith, alike .long, alike .inside)) passed stops))
+    → (r : Refusal) → blockValidity g i ≡ refused r → readAnswer g lent ≡ refused r
+refused-at f g lent p note i e alike r stops = cases i alike stops
+  where
+    w : Was f lent p note
+    w = was-taken f lent p note e
+
+    rest : Whole f
+    rest = whole f (w .start) (w .blocks)
+
+    some : length g ≡ length f → length g ≡ 0 → ⊥
+    some long z = omega (arith, rest .start .long)
+
+    full : length g ≡ length f → length g % 512 ≡ 0
+    full long = ap (λ (n : ℕ). n % 512) long ∙ rest .start .whole
+
+    -- the blocks before the place are those of f
+    hold : (i : ℕ) → AlikeBefore i f g → (k : ℕ) → k < i → BlockHolds g k
+    hold i alike k l =
+        let at : (j : ℕ) → j < 512 → getD g (512 * k + j) 0 ≡ getD f (512 * k + j) 0 = λ j q. alike .before (512 * k + j) (omega arith) in
+        let b = all-blocks f rest k (omega (arith, alike .inside)) in
+        (check-same g f k k at ∙ b .0, found-same g f k k at ∙ b .1)
+
+    cases : (i : ℕ) → AlikeBefore i f g → blockValidity g i ≡ refused r → readAnswer g lent ≡ refused r
+    cases zero alike stops = first-told g lent r (w .room) (some (alike .long)) (full (alike .long)) stops
+    cases (suc i) alike stops =
+        let start : (k : ℕ) → k < 512 → getD g k 0 ≡ getD f k 0 = λ k l. alike .before k (omega arith) in
+        let long = alike .long in
+        let same : ragged g ≡ ragged f = not-ragged g (some long) (full long) ∙ sym (not-ragged f (λ z. omega (arith, rest .start .long)) (rest .start .whole)) in
+        let demand : length g ≡ demanded g = long ∙ rest .rest .long ∙ sym (demanded-same g f start) in
+        lowest-told g lent (suc i) r (w .room) (first-same g f start same ∙ w .start) demand (omega arith) (omega (arith, long, alike .inside)) (hold (suc i) alike) stops
 
 pub misplaced-told : MisplacedTold
-misplaced-told f g lent p note i e alike t n = refused-at f g lent p note i e alike (block-misplaced g i (damaged i) t n)
+misplaced-told f g lent p note i e alike t n = refused-at f g lent p note i e alike _ (block-misplaced g i t n)
 
 pub damaged-told : DamagedTold
-damaged-told f g lent p note i e alike t = refused-at f g lent p note i e alike (block-damaged g i (damaged i) t)
+damaged-told f g lent p note i e alike t = refused-at f g lent p note i e alike _ (block-damaged g i t)
 
 -- ---- blocks joined anew
 module _ (f : List ℕ) (from : ℕ → ℕ) where

@@ -2,7 +2,7 @@
 use mathlib.Core.Bool.{Bool, true, false, cond}
 use mathlib.Core.List.{List, []}
 use mathlib.Core.Path.{_≡_}
-use Prim.Native.Nat.{ℕ, suc, _+_, _-_, _*_, _/_, _%_}
+use Prim.Native.Nat.{ℕ, zero, suc, _+_, _-_, _*_, _/_, _%_}
 use lib.ListN.{length, getD, replicate}
 use lib.Dec.{eqb, leb, ltb}
 use Rattle.mask.specs.Logic.{not, and, or}
@@ -33,11 +33,16 @@ checkHolds f i = eqb (numberAt 2 f (512 * i + 510)) (checkAt f (512 * i))
 unfoldable pub numberFound : List ℕ → ℕ → ℕ
 numberFound f i = numberAt 2 f (512 * i)
 
--- block i: "a wrong check only", told by the number that is given for it, 3 or 7; and 19, "a block whose check holds and whose number isn't its
--- place, tested right after that block's check", which "tells its place and the number found in it" (document 02, No. 5)
-unfoldable pub blockValidity : ℕ → List ℕ → ℕ → Tested
-blockValidity wrong f i =
-    cond (not (checkHolds f i)) (refused (refusal wrong i 0 0))
+-- the refusal for a wrong check: 3 for block 0, 7 for a later one
+unfoldable pub damagedNumber : ℕ → ℕ
+damagedNumber zero = bad-first-block
+damagedNumber (suc i) = bad-block
+
+-- block i: 3 or 7 for "a wrong check only", and 19 for "a block whose check holds and whose number isn't its place, tested right after that block's
+-- check", which "tells its place and the number found in it" (document 02, No. 5)
+unfoldable pub blockValidity : List ℕ → ℕ → Tested
+blockValidity f i =
+    cond (not (checkHolds f i)) (refused (refusal (damagedNumber i) i 0 0))
     (cond (not (eqb (numberFound f i) i)) (refused (refusal misplaced i (numberFound f i) 0)) valid)
 
 -- a block that is neither
@@ -79,7 +84,7 @@ headerValidity f = cond (not (headerHolds f)) (refused (refusal bad-header 0 0 0
 unfoldable pub firstValidity : List ℕ → Tested
 firstValidity f =
     cond (or (eqb (length f) 0) (not (eqb (length f % 512) 0))) (refused (refusal bad-length 0 0 0))
-    (andThen (blockValidity bad-first-block f 0) (headerValidity f))
+    (andThen (blockValidity f 0) (headerValidity f))
 
 -- the payload's length, and the file's, that the counts demand
 unfoldable pub payloadDemanded : List ℕ → ℕ
@@ -95,7 +100,7 @@ sizeOf f = andThen (firstValidity f) (answer (demanded f))
 -- ---- the whole file
 -- 7 and 19, block by block after block 0, the lowest first
 unfoldable pub laterBlocks : List ℕ → Tested
-laterBlocks f = each (length f / 512 - 1) (λ i. blockValidity bad-block f (suc i))
+laterBlocks f = each (length f / 512 - 1) (λ i. blockValidity f (suc i))
 
 -- 8: "padding not zero"
 unfoldable pub paddingHolds : List ℕ → Bool

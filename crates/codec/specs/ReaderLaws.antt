@@ -16,15 +16,15 @@ use Rattle.mask.specs.BoundedLaws.{every-at, every-of, every-cong}
 use Rattle.mask.specs.Tables.{table}
 use Rattle.mask.specs.TablesLaws.{table-length, table-cong}
 use Rattle.machine.specs.Machines.{pairUnder}
-use Rattle.machine.specs.Refusals.{Tested, valid, refused, andThen, each, bufferAfter, refusal, short-buffer, bad-length, bad-first-block, bad-header, bad-counts, wrong-length, bad-block, bad-padding, misplaced}
-use Rattle.machine.specs.RefusalsLaws.{valid-next, then-of, then-refused, then-answer, then-then, each-valid, each-at, Refuses, refuses-none, refuses-at, refuses-cond, refuses-then, buffer-valid, buffer-short, buffer-made}
+use Rattle.machine.specs.Refusals.{Tested, valid, refused, andThen, each, bufferAfter, refusal, short-buffer, bad-length, bad-header, bad-counts, wrong-length, bad-padding, misplaced}
+use Rattle.machine.specs.RefusalsLaws.{valid-next, then-of, then-refused, then-answer, then-then, each-valid, each-at, RefusesOnly, refuses-none, refuses-at, refuses-cond, refuses-then, buffer-valid, buffer-short, buffer-made}
 use Rattle.machine.specs.declared.Machine.{Machine}
 use Rattle.machine.specs.declared.Refusal.{Refusal}
 use Rattle.machine.specs.WellFormed.{pairValidity}
 use Rattle.machine.specs.WellFormedLaws.{counts-at, mul-bound}
 use Rattle.machine.specs.Table.{tableRoom}
 use Rattle.codec.specs.Format.{numberAt, payloadMost, payloadLength, fileLength, blocksFor}
-use Rattle.codec.specs.Reader.{checkHolds, numberFound, blockValidity, BlockHolds, headerByte, noteOf, headerHolds, countsHold, headerValidity, firstValidity, payloadDemanded, demanded, laterBlocks, paddingHolds, blocksValidity, payloadByte, payloadOf, machineAt, pairOf, entriesOf, readValidity, tableOf}
+use Rattle.codec.specs.Reader.{checkHolds, numberFound, damagedNumber, blockValidity, BlockHolds, headerByte, noteOf, headerHolds, countsHold, headerValidity, firstValidity, payloadDemanded, demanded, laterBlocks, paddingHolds, blocksValidity, payloadByte, payloadOf, machineAt, pairOf, entriesOf, readValidity, tableOf}
 use Rattle.codec.specs.Loading.{entriesPlace, entriesCount, Loaded}
 use Rattle.mask.specs.Tables.{front}
 use Rattle.codec.specs.NumberLaws.{number-cong}
@@ -33,29 +33,29 @@ use Rattle.mask.specs.FrontLaws.{front-length, front-zeros, front-padded}
 
 -- ---- a block
 module _ (f : List ℕ) (i : ℕ) where
-  pub block-damaged : (wrong : ℕ) → checkHolds f i ≡ false → blockValidity wrong f i ≡ refused (refusal wrong i 0 0)
+  pub block-damaged : checkHolds f i ≡ false → blockValidity f i ≡ refused (refusal (damagedNumber i) i 0 0)
   unfolding blockValidity
-  block-damaged wrong e = rw (not-i e)
+  block-damaged e = rw (not-i e)
 
-  pub block-misplaced : (wrong : ℕ) → checkHolds f i ≡ true → (numberFound f i ≡ i → ⊥) → blockValidity wrong f i ≡ refused (refusal misplaced i (numberFound f i) 0)
+  pub block-misplaced : checkHolds f i ≡ true → (numberFound f i ≡ i → ⊥) → blockValidity f i ≡ refused (refusal misplaced i (numberFound f i) 0)
   unfolding blockValidity
-  block-misplaced wrong e n = rw (not-f e, not-i (ne-eqb (numberFound f i) i n))
+  block-misplaced e n = rw (not-f e, not-i (ne-eqb (numberFound f i) i n))
 
-  pub block-valid : (wrong : ℕ) → BlockHolds f i → blockValidity wrong f i ≡ valid
+  pub block-valid : BlockHolds f i → blockValidity f i ≡ valid
   unfolding blockValidity
-  block-valid wrong h = rw (not-f (h .0), not-f (eq-eqb (numberFound f i) i (h .1)))
+  block-valid h = rw (not-f (h .0), not-f (eq-eqb (numberFound f i) i (h .1)))
 
-  pub block-holds : (wrong : ℕ) → blockValidity wrong f i ≡ valid → BlockHolds f i
+  pub block-holds : blockValidity f i ≡ valid → BlockHolds f i
   unfolding blockValidity
-  block-holds wrong e =
+  block-holds e =
       let a = valid-next _ _ _ e in
       let b = valid-next _ _ _ (a .1) in
       (not-false _ (a .0), eqb-true (numberFound f i) i (not-false _ (b .0)))
 
-  pub block-refuses : (F : Refusal → Type 0) (wrong : ℕ) → (checkHolds f i ≡ false → F (refusal wrong i 0 0))
-      → (checkHolds f i ≡ true → (numberFound f i ≡ i → ⊥) → F (refusal misplaced i (numberFound f i) 0)) → Refuses F (blockValidity wrong f i)
+  pub block-refuses : (F : Refusal → Type 0) → (checkHolds f i ≡ false → F (refusal (damagedNumber i) i 0 0))
+      → (checkHolds f i ≡ true → (numberFound f i ≡ i → ⊥) → F (refusal misplaced i (numberFound f i) 0)) → RefusesOnly F (blockValidity f i)
   unfolding blockValidity
-  block-refuses F wrong d m =
+  block-refuses F d m =
       refuses-cond F (not (checkHolds f i)) _ _ (λ t. refuses-at F _ (d (not-e _ t)))
       (λ t. refuses-cond F (not (eqb (numberFound f i) i)) _ _ (λ u. refuses-at F _ (m (not-false _ t) (eqb-false _ _ (not-e _ u)))) (λ u. refuses-none F))
 
@@ -95,8 +95,8 @@ pub record FirstValid (f : List ℕ) : Type 0 where
 long-enough : (n : ℕ) → (n ≡ 0 → ⊥) → n % 512 ≡ 0 → 512 ≤ n
 long-enough n some whole = omega arith
 
-not-ragged : (f : List ℕ) → or (eqb (length f) 0) (not (eqb (length f % 512) 0)) ≡ false → (512 ≤ length f) × (length f % 512 ≡ 0)
-not-ragged f t =
+whole-length : (f : List ℕ) → or (eqb (length f) 0) (not (eqb (length f % 512) 0)) ≡ false → (512 ≤ length f) × (length f % 512 ≡ 0)
+whole-length f t =
     let n = or-none (eqb (length f) 0) (not (eqb (length f % 512) 0)) t in
     let whole : length f % 512 ≡ 0 = eqb-true _ 0 (not-false _ (n .1)) in
     (long-enough (length f) (eqb-false (length f) 0 (n .0)) whole, whole)
@@ -109,18 +109,18 @@ pub first-valid : (f : List ℕ) → firstValidity f ≡ valid → FirstValid f
 unfolding firstValidity
 first-valid f e =
     let a = valid-next _ _ _ e in
-    let b = then-answer (blockValidity bad-first-block f 0) (headerValidity f) (a .1) in
+    let b = then-answer (blockValidity f 0) (headerValidity f) (a .1) in
     let h = header-valid f (b .1) in
-    let n = not-ragged f (a .0) in
-    record { long = n .0; whole = n .1; block = block-holds f 0 bad-first-block (b .0); header = h .0; counts = h .1 }
+    let n = whole-length f (a .0) in
+    record { long = n .0; whole = n .1; block = block-holds f 0 (b .0); header = h .0; counts = h .1 }
 
 -- its refusals
-pub first-refuses : (F : Refusal → Type 0) (f : List ℕ) → F (refusal bad-length 0 0 0) → (512 ≤ length f → Refuses F (blockValidity bad-first-block f 0))
-    → F (refusal bad-header 0 0 0) → F (refusal bad-counts 0 0 0) → Refuses F (firstValidity f)
+pub first-refuses : (F : Refusal → Type 0) (f : List ℕ) → F (refusal bad-length 0 0 0) → (512 ≤ length f → RefusesOnly F (blockValidity f 0))
+    → F (refusal bad-header 0 0 0) → F (refusal bad-counts 0 0 0) → RefusesOnly F (firstValidity f)
 unfolding firstValidity headerValidity
 first-refuses F f ragged block header counts =
     refuses-cond F (or (eqb (length f) 0) (not (eqb (length f % 512) 0))) _ _ (λ t. refuses-at F _ ragged)
-    (λ t. refuses-then F (blockValidity bad-first-block f 0) _ (block (not-ragged f t .0))
+    (λ t. refuses-then F (blockValidity f 0) _ (block (whole-length f t .0))
     (λ v. refuses-cond F (not (headerHolds f)) _ _ (λ u. refuses-at F _ header)
     (λ u. refuses-cond F (not (countsHold f)) _ _ (λ x. refuses-at F _ counts) (λ x. refuses-none F))))
 
@@ -268,12 +268,12 @@ pub record BlocksValid (f : List ℕ) : Type 0 where
 
 pub later-valid : (f : List ℕ) → ((i : ℕ) → 0 < i → i < length f / 512 → BlockHolds f i) → laterBlocks f ≡ valid
 unfolding laterBlocks
-later-valid f h = each-valid _ _ (λ i l. block-valid f (suc i) bad-block (h (suc i) (omega arith) (omega arith)))
+later-valid f h = each-valid _ _ (λ i l. block-valid f (suc i) (h (suc i) (omega arith) (omega arith)))
 
 -- where the first n of the later blocks are passed, they hold
-pub later-hold : (f : List ℕ) (n : ℕ) → each n (λ i. blockValidity bad-block f (suc i)) ≡ valid → (i : ℕ) → 0 < i → i < suc n → BlockHolds f i
+pub later-hold : (f : List ℕ) (n : ℕ) → each n (λ i. blockValidity f (suc i)) ≡ valid → (i : ℕ) → 0 < i → i < suc n → BlockHolds f i
 later-hold f n e zero p l = absurd (omega arith)
-later-hold f n e (suc i) p l = block-holds f (suc i) bad-block (each-at n _ e i (omega arith))
+later-hold f n e (suc i) p l = block-holds f (suc i) (each-at n _ e i (omega arith))
 
 pub blocks-valid : (f : List ℕ) → blocksValidity f ≡ valid → BlocksValid f
 unfolding blocksValidity laterBlocks

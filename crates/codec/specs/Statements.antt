@@ -1,10 +1,10 @@
--- The file laws, as statements over the definitions that the calls' contracts cite. FileLaws.antt proves each. Machines, tables and files are
+-- The file laws, as statements over the definitions that the calls' contracts cite. FileLaws.antt and PlacesLaws.antt prove each. Machines, tables and files are
 -- any numbers and lists; where a law needs what the code's types give of them, it says so.
 use mathlib.Core.Bool.{Bool, true, false, cond}
 use mathlib.Core.List.{List, _++_}
 use mathlib.Core.Logic.{_⊎_}
 use mathlib.Core.Path.{_≡_}
-use Prim.Native.Nat.{ℕ, zero, suc, _+_, _*_, _/_, _≤_, _<_, _%_, _^_}
+use Prim.Native.Nat.{ℕ, _+_, _*_, _/_, _≤_, _<_, _%_, _^_}
 use lib.ListN.{length, getD, take, drop}
 use lib.Dec.{eqb, leb}
 use Rattle.mask.specs.Logic.{and}
@@ -16,9 +16,9 @@ use Rattle.machine.specs.declared.Refusal.{Refusal}
 use Rattle.machine.specs.Table.{entries, tableRoom, AreEntries, SameEntries}
 use Rattle.machine.specs.WellFormed.{wellFormed}
 use Rattle.machine.specs.Machines.{observation, matched, nC, nA, setsC, setsA}
-use Rattle.machine.specs.Refusals.{answer, refused, refusal, bad-first-block, bad-block, misplaced}
+use Rattle.machine.specs.Refusals.{valid, answer, refused, refusal, bad-first-block, bad-block, misplaced}
 use Rattle.codec.specs.Format.{letters, fileLength, fileOf}
-use Rattle.codec.specs.Reader.{inputRoom, taken, checkHolds, numberFound, BlockHolds, headerByte, headerHolds, firstValidity, demanded, entriesOf, readAnswer, readTable, sizeOf}
+use Rattle.codec.specs.Reader.{inputRoom, taken, checkHolds, numberFound, damagedNumber, BlockHolds, blockValidity, headerByte, headerHolds, firstValidity, demanded, entriesOf, readAnswer, readTable, sizeOf}
 use Rattle.codec.specs.Writer.{fileRoom, writeAnswer, writeBuffer}
 
 -- what the types of the code give of a machine, whoever made it
@@ -57,11 +57,11 @@ abbrev pub TableUnread : Type 0
 TableUnread = (p : Pair) (T U : List ℕ) → fileOf p false T ≡ fileOf p false U
 
 -- ---- what the first block tells
--- refusals up to 6, and 19 of block 0,
+-- up to 6, or 19 of block 0
 abbrev pub IsEarly : Refusal → Type 0
 IsEarly r = (r .number ≤ 6) ⊎ ((r .number ≡ misplaced) × (r .first ≡ 0))
 
--- rest on the first block and the length alone
+-- refusals up to 6, and 19 of block 0, rest on the first block and the length alone
 abbrev pub FirstBlock : Type 0
 FirstBlock = (f g lent : List ℕ) → length f ≡ length g → take 512 f ≡ take 512 g
     → (firstValidity f ≡ firstValidity g) × (demanded f ≡ demanded g) × (sizeOf f ≡ sizeOf g)
@@ -84,6 +84,17 @@ pub record Told (f : List ℕ) (r : Refusal) : Type 0 where
 abbrev pub BlocksTold : Type 0
 BlocksTold = (f lent : List ℕ) (r : Refusal) → readAnswer f lent ≡ refused r → Told f r
 
+-- and back: of whole blocks, block 0 comes before all else;
+abbrev pub FirstTold : Type 0
+FirstTold = (f lent : List ℕ) (r : Refusal) → tableRoom ≤ length lent → (length f ≡ 0 → ⊥) → length f % 512 ≡ 0
+    → blockValidity f 0 ≡ refused r → readAnswer f lent ≡ refused r
+
+-- and of a file that passes 1 to 6, the lowest block that does not hold, whatever follows
+abbrev pub LowestTold : Type 0
+LowestTold = (f lent : List ℕ) (i : ℕ) (r : Refusal) → tableRoom ≤ length lent → firstValidity f ≡ valid → length f ≡ demanded f
+    → 0 < i → i < length f / 512 → ((k : ℕ) → k < i → BlockHolds f k)
+    → blockValidity f i ≡ refused r → readAnswer f lent ≡ refused r
+
 -- a file g that is as long as f and the same before place i
 pub record AlikeBefore (i : ℕ) (f g : List ℕ) : Type 0 where
   pub long : length g ≡ length f
@@ -96,13 +107,9 @@ MisplacedTold = (f g lent : List ℕ) (p : Pair) (note : Bool) (i : ℕ) → rea
     → checkHolds g i ≡ true → (numberFound g i ≡ i → ⊥) → readAnswer g lent ≡ refused (refusal misplaced i (numberFound g i) 0)
 
 -- and a block whose check is wrong is 3 or 7
-unfoldable pub damaged : ℕ → ℕ
-damaged zero = bad-first-block
-damaged (suc i) = bad-block
-
 abbrev pub DamagedTold : Type 0
 DamagedTold = (f g lent : List ℕ) (p : Pair) (note : Bool) (i : ℕ) → readAnswer f lent ≡ answer (taken p note) → AlikeBefore i f g
-    → checkHolds g i ≡ false → readAnswer g lent ≡ refused (refusal (damaged i) i 0 0)
+    → checkHolds g i ≡ false → readAnswer g lent ≡ refused (refusal (damagedNumber i) i 0 0)
 
 -- the blocks of a file joined anew: at place i the block that stood at place `from i`
 unfoldable pub joined : (ℕ → ℕ) → List ℕ → List ℕ

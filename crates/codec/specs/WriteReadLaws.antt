@@ -15,7 +15,7 @@ use Rattle.mask.specs.BoundedLaws.{every-of}
 use Rattle.mask.specs.Tables.{table}
 use Rattle.mask.specs.TablesLaws.{table-length, table-at, table-past, table-cong}
 use Rattle.machine.specs.declared.Pair.{Pair}
-use Rattle.machine.specs.Refusals.{valid, answer, andThen, passOn, bad-first-block}
+use Rattle.machine.specs.Refusals.{valid, answer, andThen, passOn}
 use Rattle.machine.specs.RefusalsLaws.{then-of, buffer-valid}
 use Rattle.machine.specs.Machines.{nC, nA, setsC, setsA}
 use Rattle.machine.specs.Table.{entries, tableRoom, AreEntries}
@@ -148,7 +148,7 @@ module _ (p : Pair) (note : Bool) (T : List ℕ) (w : WellPair p) where
       let n = blocksFor (length (payload p note T)) in
       let full = or-false (ne-eqb (length (fileOf p note T)) 0 (λ z. omega (arith, file-blocks, some-block)))
       (not-f (eq-eqb (length (fileOf p note T) % 512) 0 (omega (arith, file-blocks)))) in
-      rw full (then-of _ _ (block-valid (fileOf p note T) 0 bad-first-block (file-holds 0 some-block)) ∙ rw (not-f header-is, not-f counts-hold))
+      rw full (then-of _ _ (block-valid (fileOf p note T) 0 (file-holds 0 some-block)) ∙ rw (not-f header-is, not-f counts-hold))
 
   padding-is : paddingHolds (fileOf p note T) ≡ true
   unfolding paddingHolds payloadDemanded

@@ -20,7 +20,7 @@ ghost use Rattle.machine.specs.Refusals.{answer, refused, valid, testedOf, andT
 ghost use Rattle.machine.specs.WellFormed.{pairValidity};
 ghost use Rattle.machine.specs.Table.{tableRoom};
 ghost use Rattle.codec.specs.Format.{letters, numberAt, payloadLength};
-ghost use Rattle.codec.specs.Reader.{checkHolds, numberFound, blockValidity, payloadByte, headerByte, noteOf, headerHolds, countsHold, headerValidity, firstValidity, payloadDemanded, demanded, laterBlocks, paddingHolds, blocksValidity, machineAt, pairOf, entriesOf, taken, readAnswer, tableOf, readTable, zeroMachine, zeroPair, sizeOf};
+ghost use Rattle.codec.specs.Reader.{checkHolds, numberFound, damagedNumber, blockValidity, payloadByte, headerByte, noteOf, headerHolds, countsHold, headerValidity, firstValidity, payloadDemanded, demanded, laterBlocks, paddingHolds, blocksValidity, machineAt, pairOf, entriesOf, taken, readAnswer, tableOf, readTable, zeroMachine, zeroPair, sizeOf};
 ghost use Rattle.codec.specs.Answers.{readOf, pairGiven, sizedOf, refusalOf};
 ghost use Rattle.codec.specs.Loading.{Loaded};
 ghost use Rattle.mask.specs.Tables.{front};
@@ -60,13 +60,24 @@ fn number_found(bytes: &[u8], i: usize) -> usize
     number_at(2, bytes, 512 * i) as usize
 }
 
-// Block i: a wrong check is refused with the number `wrong`, and right after it 19, a number that is not the block's place.
-fn block_validity(wrong: u32, bytes: &[u8], i: usize) -> Validity
+// The refusal for a wrong check: 3 for block 0, 7 for a later one.
+fn damaged_number(i: usize) -> u32
+    ensures { λ r. ⌜ r ≡ damagedNumber i ⌝ }
+{
+    if i == 0 {
+        machine::BAD_FIRST_BLOCK
+    } else {
+        machine::BAD_BLOCK
+    }
+}
+
+// Block i: its check, and right after it its number.
+fn block_validity(bytes: &[u8], i: usize) -> Validity
     requires { ⌜ 512 * i + 512 ≤ length (now bytes) ⌝ }
-    ensures { λ r. ⌜ testedOf r ≡ blockValidity wrong (now (bytes .entry)) i ⌝ }
+    ensures { λ r. ⌜ testedOf r ≡ blockValidity (now (bytes .entry)) i ⌝ }
 {
     if !check_holds(bytes, i) {
-        return Validity::Refused(machine::refuse(wrong, i, 0, 0));
+        return Validity::Refused(machine::refuse(damaged_number(i), i, 0, 0));
     }
     let number = number_found(bytes, i);
     if number != i {
@@ -157,7 +168,7 @@ fn first_validity(bytes: &[u8]) -> Validity
     if bytes.len() % 512 != 0 {
         return Validity::Refused(machine::refuse(machine::BAD_LENGTH, 0, 0, 0));
     }
-    match block_validity(machine::BAD_FIRST_BLOCK, bytes, 0) {
+    match block_validity(bytes, 0) {
         Validity::Refused(r) => Validity::Refused(r),
         Validity::Valid => header_validity(bytes),
     }
@@ -226,7 +237,7 @@ fn later_blocks(bytes: &[u8]) -> Validity
 {
     let later = bytes.len() / 512 - 1;
     for i in 0..later {
-        let block = block_validity(machine::BAD_BLOCK, bytes, i + 1);
+        let block = block_validity(bytes, i + 1);
         if let Validity::Refused(r) = block {
             return Validity::Refused(r);
         }
@@ -260,7 +271,7 @@ fn later_validity(bytes: &[u8]) -> Validity
     Validity::Valid
 }
 
-// Refusals 2 to 8, and 19: up to 6 by the first block and the length that it demands.
+// Refusals 2 to 8, and 19: up to 6, with 19 of block 0, by the first block and the length that it demands.
 fn file_validity(bytes: &[u8]) -> Validity
     ensures { λ r. ⌜ testedOf r ≡ andThen (firstValidity (now (bytes .entry))) (blocksValidity (now (bytes .entry))) ⌝ }
 {

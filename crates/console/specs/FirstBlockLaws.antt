@@ -18,7 +18,7 @@ use Rattle.machine.specs.RefusalsLaws.{then-of, then-refused, given-at, given-r
 use Rattle.machine.specs.Table.{tableRoom}
 use Rattle.machine.specs.Verdict.{checkVerdict}
 use Rattle.codec.specs.Format.{payloadMost}
-use Rattle.codec.specs.Reader.{firstValidity, payloadDemanded, demanded, sizeOf, readValidity, readAnswer}
+use Rattle.codec.specs.Reader.{damagedNumber, firstValidity, payloadDemanded, demanded, sizeOf, readValidity, readAnswer}
 use Rattle.codec.specs.ReaderLaws.{block-refuses, first-valid, first-refuses, demanded-is, payload-fits, machines-fit}
 use Rattle.codec.specs.OutcomesLaws.{outcome-refused}
 use Rattle.codec.specs.FileLaws.{first-block-tells-size}
@@ -38,10 +38,10 @@ size-told f n e =
 
 -- ---- a refusal's number is 2, 3, 4, 5 or 19, which no length is
 pub refusal-told : (f : List ℕ) (r : Refusal) → sizeOf f ≡ refused r → ((2 ≤ r .number) × (r .number ≤ 5)) ⊎ (r .number ≡ misplaced)
-unfolding sizeOf
+unfolding sizeOf damagedNumber
 refusal-told f r e =
     first-refuses Number f (low bad-length (omega arith) (omega arith))
-    (λ _. block-refuses f 0 Number bad-first-block (λ _. low bad-first-block (omega arith) (omega arith)) (λ _ _. inr refl))
+    (λ _. block-refuses f 0 Number (λ _. low bad-first-block (omega arith) (omega arith)) (λ _ _. inr refl))
     (low bad-header (omega arith) (omega arith)) (low bad-counts (omega arith) (omega arith)) r (given-refused _ _ e)
   where
     Number : Refusal → Type 0

@@ -12,7 +12,7 @@ pub const CARRIED: u32 = 100;
 // With the lowest start state that lacks a partner added.
 pub const NOT_CARRIED: u32 = 200;
 
-// What is said of the file with these bytes, as document 01's number: a refusal's, or one of those above.
+// What is said of the file with these bytes, as one number: a refusal's, 101 without a table, or one of those above.
 #[no_mangle]
 pub extern "C" fn console_answer(bytes: &[u8]) -> u32
     ensures { λ r. ⌜ r ≡ outcomeNumber (fileOutcome (now (bytes .entry))) ⌝ }

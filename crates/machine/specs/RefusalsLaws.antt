@@ -123,28 +123,28 @@ each-refused (suc n) t i {r} l e h =
     by-cases (decLt i n) (λ q. then-refused _ _ r (each-refused n t i q e h))
     (λ q. let z : i ≡ n = omega arith in subst (λ (k : ℕ). each k t ≡ valid → t k ≡ refused r → andThen (each n t) (t n) ≡ refused r) (sym z) (λ a b. then-of _ _ a ∙ b) e h)
 
--- ---- a fact of every refusal that a test may give
-abbrev pub Refuses : (Refusal → Type 0) → Tested → Type 0
-Refuses F v = (r : Refusal) → v ≡ refused r → F r
+-- ---- whatever a test refuses with, a fact holds of it
+abbrev pub RefusesOnly : (Refusal → Type 0) → Tested → Type 0
+RefusesOnly F v = (r : Refusal) → v ≡ refused r → F r
 
 module _ (F : Refusal → Type 0) where
-  pub refuses-none : Refuses F valid
+  pub refuses-none : RefusesOnly F valid
   refuses-none r e = absurd (refused-not-answer (sym e))
 
-  pub refuses-at : (s : Refusal) → F s → Refuses F (refused s)
+  pub refuses-at : (s : Refusal) → F s → RefusesOnly F (refused s)
   refuses-at s h r e = subst F (refused-is e) h
 
-  pub refuses-cond : (b : Bool) (v w : Tested) → (b ≡ true → Refuses F v) → (b ≡ false → Refuses F w) → Refuses F (cond b v w)
+  pub refuses-cond : (b : Bool) (v w : Tested) → (b ≡ true → RefusesOnly F v) → (b ≡ false → RefusesOnly F w) → RefusesOnly F (cond b v w)
   refuses-cond true v w p q = p refl
   refuses-cond false v w p q = q refl
 
-  pub refuses-then : (v w : Tested) → Refuses F v → (v ≡ valid → Refuses F w) → Refuses F (andThen v w)
+  pub refuses-then : (v w : Tested) → RefusesOnly F v → (v ≡ valid → RefusesOnly F w) → RefusesOnly F (andThen v w)
   unfolding andThen passOn
   refuses-then (answer t) w p q = q refl
   refuses-then (refused s) w p q = p
 
   -- of the one that refuses, those before it pass
-  pub refuses-each : (n : ℕ) (t : ℕ → Tested) → ((i : ℕ) → i < n → each i t ≡ valid → Refuses F (t i)) → Refuses F (each n t)
+  pub refuses-each : (n : ℕ) (t : ℕ → Tested) → ((i : ℕ) → i < n → each i t ≡ valid → RefusesOnly F (t i)) → RefusesOnly F (each n t)
   unfolding each
   refuses-each zero t h = refuses-none
   refuses-each (suc n) t h = refuses-then (each n t) (t n) (refuses-each n t (λ i l. h i (omega arith))) (h n (omega arith))

@@ -19,7 +19,7 @@ use Rattle.machine.specs.declared.Machine.{Machine}
 use Rattle.machine.specs.declared.Pair.{Pair}
 use Rattle.machine.specs.declared.Refusal.{Refusal}
 use Rattle.machine.specs.Refusals.{Tested, valid, answer, refused, refusal, bad-counts, beyond-counts, no-start, no-successor, andThen}
-use Rattle.machine.specs.RefusalsLaws.{valid-next, valid-if, then-answer, then-of, then-refused, Refuses, refuses-none, refuses-at, refuses-cond, refuses-then}
+use Rattle.machine.specs.RefusalsLaws.{valid-next, valid-if, then-answer, then-of, then-refused, RefusesOnly, refuses-none, refuses-at, refuses-cond, refuses-then}
 use Rattle.machine.specs.Machines.{observation, successors, moves, starts, fairSet, inFairSet, nC, nA, setsC, setsA, pairs}
 use Rattle.machine.specs.Table.{tableRoom}
 use Rattle.machine.specs.WellFormed.{countsOk, beyond, stateBeyond, setBeyond, beyondCounts, stuckState, contentValidity, pairValidity, isValid, wellFormed}
@@ -208,7 +208,7 @@ section-fits p w j h = omega (arith, mul-le-mul-right (pairs p) h, entries-small
 
 -- ---- the refusals of a pair: 5 where the counts are wrong, and 9 to 11
 module _ (F : Refusal → Type 0) (late : (number x y z : ℕ) → 9 ≤ number → number ≤ 11 → F (refusal number x y z)) where
-  content-refuses : (i : ℕ) (m : Machine) → Refuses F (contentValidity i m)
+  content-refuses : (i : ℕ) (m : Machine) → RefusesOnly F (contentValidity i m)
   unfolding contentValidity
   content-refuses i m =
       let s = stuckState (m .states) (m .successors) in
@@ -216,7 +216,7 @@ module _ (F : Refusal → Type 0) (late : (number x y z : ℕ) → 9 ≤ number 
       (λ t. refuses-cond F (eqb (m .start) 0) _ _ (λ u. refuses-at F _ (late no-start i 0 0 (omega arith) (omega arith)))
       (λ u. refuses-cond F (ltb s 64) _ _ (λ x. refuses-at F _ (late no-successor i s 0 (omega arith) (omega arith))) (λ x. refuses-none F)))
 
-  pub pair-refuses : (p : Pair) → (and (countsOk 8 (nC p) (setsC p)) (countsOk 7 (nA p) (setsA p)) ≡ false → F (refusal bad-counts 0 0 0)) → Refuses F (pairValidity p)
+  pub pair-refuses : (p : Pair) → (and (countsOk 8 (nC p) (setsC p)) (countsOk 7 (nA p) (setsA p)) ≡ false → F (refusal bad-counts 0 0 0)) → RefusesOnly F (pairValidity p)
   unfolding pairValidity
   pair-refuses p wrong =
       refuses-cond F (and (countsOk 8 (nC p) (setsC p)) (countsOk 7 (nA p) (setsA p))) _ _

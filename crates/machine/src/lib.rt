@@ -28,7 +28,7 @@ pub struct Pair {
     pub hidden: u8,
 }
 
-// Where a call was stopped: a number of document 01's table, and the three numbers of its spot, 0 where unused.
+// Where a call was stopped: a number of document 01's table or one that document 02 adds, and the three numbers of its spot, 0 where unused.
 pub struct Refusal {
     pub number: u32,
     pub first: usize,

@@ -11,12 +11,18 @@ use Rattle.codec.proofs.reader.block_validity.Tie as tie
 check-holds-requires : tie.Need-check-holds-requires
 check-holds-requires c κs = search needs
 
+damaged-number-requires : tie.Need-damaged-number-requires
+damaged-number-requires c κs = search needs
+
 refuse-requires : tie.Need-refuse-requires
 refuse-requires c κs = search needs
 
 returns : tie.Need-returns
 unfolding testedOf
-returns c = ap refused (c .refuse .ensures) ∙ sym (block-damaged _ _ _ (sym (c .before .before .check-holds .ensures) ∙ not-true _ (c .before .if1 .taken)))
+returns c =
+    let d = c .before in
+    ap refused (c .refuse .ensures)
+    ∙ rw (d .damaged-number .ensures) (sym (block-damaged _ _ (sym (d .before .before .check-holds .ensures) ∙ not-true _ (d .before .if1 .taken))))
 
 number-found-requires : tie.Need-number-found-requires
 number-found-requires c κs = search needs
@@ -29,19 +35,20 @@ unfolding testedOf
 returns-2 c =
     let n = c .before .before in
     let found = n .number-found .ensures in
-    ap refused (c .refuse2 .ensures) ∙ rw found (sym (block-misplaced _ _ _ (sym (n .before .before .check-holds .ensures) ∙ not-false _ (n .before .if1 .left)) (λ e. omega (arith, c .before .if2 .taken, found, e))))
+    ap refused (c .refuse2 .ensures) ∙ rw found (sym (block-misplaced _ _ (sym (n .before .before .check-holds .ensures) ∙ not-false _ (n .before .if1 .left)) (λ e. omega (arith, c .before .if2 .taken, found, e))))
 
 returns-3 : tie.Need-returns-3
 unfolding testedOf
 returns-3 c =
     let n = c .before in
-    sym (block-valid _ _ _ (sym (n .before .before .check-holds .ensures) ∙ not-false _ (n .before .if1 .left), omega (arith, n .number-found .ensures, c .if2 .left)))
+    sym (block-valid _ _ (sym (n .before .before .check-holds .ensures) ∙ not-false _ (n .before .if1 .left), omega (arith, n .number-found .ensures, c .if2 .left)))
 
 pub block-validity-spec : {M : Type 1} → statement M
 block-validity-spec =
     tie.close
     (tie.spec
     check-holds-requires
+    damaged-number-requires
     refuse-requires
     returns
     number-found-requires

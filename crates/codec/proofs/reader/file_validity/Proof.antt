@@ -1,4 +1,4 @@
--- The size that the first block tells gives 2 to 5, and beside the length 6.
+-- The size that the first block tells gives 2 to 5 and 19 of block 0, and beside the length 6.
 use mathlib.Core.Path.{_≡_, sym, ap, _∙_}
 use Rattle.machine.specs.Refusals.{valid, refused, testedOf}
 use Rattle.machine.specs.RefusalsLaws.{then-of, then-refused, given-at, given-refused}

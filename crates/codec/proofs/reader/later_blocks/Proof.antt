@@ -5,7 +5,7 @@ use mathlib.Core.Path.{_≡_, sym, ap, subst, _∙_}
 use native.Mathlib.Omega.{arith}
 use borrow.Author.Needs.{needs}
 use lib.ListN.{length}
-use Rattle.machine.specs.Refusals.{valid, testedOf, each, bad-block}
+use Rattle.machine.specs.Refusals.{valid, testedOf, each}
 use Rattle.machine.specs.RefusalsLaws.{tested-valid, tested-refused, each-none, each-next, each-refused}
 use Rattle.codec.specs.Reader.{blockValidity, laterBlocks}
 use Rattle.codec.proofs.reader.later_blocks.Statement.{statement}
@@ -13,12 +13,12 @@ use Rattle.codec.proofs.reader.later_blocks.Tie as tie
 
 -- the first n of the later blocks are valid
 abbrev passed : List ℕ → ℕ → Type 0
-passed f n = each n (λ k. blockValidity bad-block f (suc k)) ≡ valid
+passed f n = each n (λ k. blockValidity f (suc k)) ≡ valid
 
-next : (f : List ℕ) (i : ℕ) → blockValidity bad-block f (suc i) ≡ blockValidity bad-block f (i + 1)
-next f i = ap (blockValidity bad-block f) (omega arith)
+next : (f : List ℕ) (i : ℕ) → blockValidity f (suc i) ≡ blockValidity f (i + 1)
+next f i = ap (blockValidity f) (omega arith)
 
-one-more : (f : List ℕ) (i : ℕ) → passed f i → blockValidity bad-block f (i + 1) ≡ valid → passed f (i + 1)
+one-more : (f : List ℕ) (i : ℕ) → passed f i → blockValidity f (i + 1) ≡ valid → passed f (i + 1)
 one-more f i e h = let step : suc i ≡ i + 1 = omega arith in subst (passed f) step (each-next i _ e (next f i ∙ h))
 
 abbrev Inv-loop : tie.InvT-loop

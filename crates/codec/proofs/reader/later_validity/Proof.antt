@@ -1,11 +1,10 @@
 -- The length is the one demanded, so the later blocks and the padding are left, in this order.
-use mathlib.Core.Path.{_≡_, sym, ap, _∙_}
+use mathlib.Core.Path.{sym, ap, _∙_}
 use native.Mathlib.Omega.{arith}
 use borrow.Author.Tests.{not-true, not-false}
 use Rattle.mask.specs.LogicLaws.{not-i, not-f}
-use Rattle.machine.specs.Refusals.{valid, refused, testedOf}
+use Rattle.machine.specs.Refusals.{refused, testedOf}
 use Rattle.machine.specs.RefusalsLaws.{tested-valid, tested-refused, then-of, then-refused}
-use Rattle.codec.specs.Reader.{blocksValidity}
 use Rattle.codec.specs.ReaderLaws.{fitting, blocks-then}
 use borrow.Author.Needs.{needs}
 use Rattle.codec.proofs.reader.later_validity.Statement.{statement}
