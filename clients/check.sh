@@ -1,6 +1,7 @@
 #!/bin/sh
-# Builds the programs in C from the archives. Holds `console` to the number of each sample and of damaged and badly joined copies, `restore` to the
-# samples whose table is the solver's and to what `shelf` says of a hard show and of shows with other hidden masks, and `play` to runs and refusals.
+# Builds the programs in C from the archives. Holds `console` to the number of each sample and of damaged copies, `restore` to the samples whose
+# table is the solver's and to what `shelf` says of a hard show and of shows with other hidden masks, `play` to runs and refusals, and all of them
+# and the programs for the shell to the refusals of badly joined copies.
 set -eu
 cd "$(dirname "$0")/.."
 work=$(mktemp -d)

@@ -1,6 +1,6 @@
 -- Laws of damaged and misplaced blocks, each as Statements.antt states it. A block's test looks at its 512 bytes alone, so a block that stands at
 -- another place than in the file that was taken has a check that holds there and its old place as its number.
-use mathlib.Core.Bool.{Bool, false}
+use mathlib.Core.Bool.{Bool}
 use mathlib.Core.List.{List}
 use mathlib.Core.Path.{_≡_, refl, sym, ap, _∙_}
 use Prim.Native.Nat.{ℕ, zero, suc, _+_, _-_, _*_, _/_, _%_, _≤_, _<_}

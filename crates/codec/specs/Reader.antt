@@ -45,7 +45,7 @@ blockValidity f i =
     cond (not (checkHolds f i)) (refused (refusal (damagedNumber i) i 0 0))
     (cond (not (eqb (numberFound f i) i)) (refused (refusal misplaced i (numberFound f i) 0)) valid)
 
--- a block that is neither
+-- a block that is neither damaged nor misplaced
 abbrev pub BlockHolds : List ℕ → ℕ → Type 0
 BlockHolds f i = (checkHolds f i ≡ true) × (numberFound f i ≡ i)
 

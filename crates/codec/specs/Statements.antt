@@ -89,7 +89,7 @@ abbrev pub FirstTold : Type 0
 FirstTold = (f lent : List ℕ) (r : Refusal) → tableRoom ≤ length lent → (length f ≡ 0 → ⊥) → length f % 512 ≡ 0
     → blockValidity f 0 ≡ refused r → readAnswer f lent ≡ refused r
 
--- and of a file that passes 1 to 6, the lowest block that does not hold, whatever follows
+-- and of a file that passes the tests of block 0 and up to 6, the lowest block that does not hold, whatever follows
 abbrev pub LowestTold : Type 0
 LowestTold = (f lent : List ℕ) (i : ℕ) (r : Refusal) → tableRoom ≤ length lent → firstValidity f ≡ valid → length f ≡ demanded f
     → 0 < i → i < length f / 512 → ((k : ℕ) → k < i → BlockHolds f k)
