@@ -22,7 +22,7 @@ use Rattle.machine.specs.PartnerLaws.{better-in, better-out, least-miss, least-
 use Rattle.machine.specs.Player.{Place, earlierRound, follow, lastRound, loopLength, loopStart, placeAt, playValidity, played, samePlace, sectionAfter, startPartner, stemLength, stepTo, playAnswer}
 use Rattle.machine.specs.Refusals.{answer, refused, valid}
 use Rattle.machine.specs.RefusalsLaws.{then-of, then-refused}
-use Rattle.machine.specs.Step.{found, least, partner, stateOf}
+use Rattle.machine.specs.Step.{found, least, partner, staying, singleStep, stateOf}
 use Rattle.machine.specs.Table.{blank, covers, entry, entryIndex}
 use Rattle.machine.specs.PlayerLaws.{section-lt}
 use Rattle.machine.specs.declared.Pair.{Pair}
@@ -30,37 +30,42 @@ use Rattle.machine.specs.declared.Partner.{Partner}
 use Rattle.machine.specs.declared.Partner.the-variants.{Nobody, State}
 use Rattle.machine.specs.declared.Refusal.{Refusal}
 
--- the best of the states below n that pass q, and what a later one has to stay below
-pub record Scanned (q : ℕ → Bool) (key : ℕ → ℕ) (n : ℕ) (best : Partner) (limit : ℕ) : Type 0 where
+-- the best of the states below n that pass q, and what a later one has to stay below: before there is one, the keys up to the bound
+pub record Scanned (q : ℕ → Bool) (key : ℕ → ℕ) (bound n : ℕ) (best : Partner) (limit : ℕ) : Type 0 where
   pub best-is : least n q key ≡ best
-  pub limit-is : limit ≡ limitOf key (blank - 1) best
-  pub limit-le : limit ≤ blank
+  pub limit-is : limit ≡ limitOf key bound best
+  pub limit-le : limit ≤ bound + 1
 
-module _ (q : ℕ → Bool) (key : ℕ → ℕ) where
-  pub scan-start : Scanned q key 0 Nobody blank
+module _ (q : ℕ → Bool) (key : ℕ → ℕ) (bound : ℕ) where
+  pub scan-start : Scanned q key bound 0 Nobody (bound + 1)
   unfolding least limitOf
   scan-start = record { best-is = refl; limit-is = refl; limit-le = omega arith }
 
-  module _ (n : ℕ) (best : Partner) (limit : ℕ) (d : Scanned q key n best limit) where
-    pub scan-take : q n ≡ true → key n < limit → Scanned q key (n + 1) (State n) (key n)
+  module _ (n : ℕ) (best : Partner) (limit : ℕ) (d : Scanned q key bound n best limit) where
+    pub scan-take : q n ≡ true → key n < limit → Scanned q key bound (n + 1) (State n) (key n)
     unfolding limitOf
     scan-take t h = record {
-      best-is = rw add-one (least-step q key n best (d .best-is) t ∙ rw (better-in key (blank - 1) best n (rw (d .limit-is) at h)));
+      best-is = rw add-one (least-step q key n best (d .best-is) t ∙ rw (better-in key bound best n (rw (d .limit-is) at h)));
       limit-is = refl;
       limit-le = omega (arith, d .limit-le);
     }
 
-    pub scan-miss : q n ≡ false → Scanned q key (n + 1) best limit
+    pub scan-miss : q n ≡ false → Scanned q key bound (n + 1) best limit
     scan-miss t = record { best-is = rw add-one (least-miss q key n t ∙ d .best-is); limit-is = d .limit-is; limit-le = d .limit-le }
 
-    pub scan-keep : (q n ≡ true → key n < blank) → limit ≤ key n → Scanned q key (n + 1) best limit
+    pub scan-keep : (q n ≡ true → key n ≤ bound) → limit ≤ key n → Scanned q key bound (n + 1) best limit
     scan-keep s h = ⊎-elim
         (λ t. record {
-          best-is = rw add-one (least-step q key n best (d .best-is) t ∙ rw (better-out key (blank - 1) best n (rw (d .limit-is) at h) (omega (arith, s t))));
+          best-is = rw add-one (least-step q key n best (d .best-is) t ∙ rw (better-out key bound best n (rw (d .limit-is) at h) (s t)));
           limit-is = d .limit-is;
           limit-le = d .limit-le;
         })
         (λ t. scan-miss t) (dec (q n))
+
+-- the key of a state from its entry
+pub keyed : (present : ℕ) (entries : ℕ → ℕ) (a e key : ℕ) → e ≡ entries a → key ≡ staying present (λ _. e) a → key ≡ staying present entries a
+unfolding staying
+keyed present entries a e key h k = k ∙ rw h
 
 -- what is not blank is below it
 module _ (p : Pair) (T : List ℕ) (small : (i : ℕ) → getD T i 0 ≤ blank) where
@@ -82,12 +87,12 @@ module _ (p : Pair) (T : List ℕ) where
     pub section-in : at .section < setsA p
 
   pub step-is : (c d moves : ℕ) (at : Place) (found : Partner) (j : ℕ) → j ≡ sectionAfter p T c at → moves ≡ successors (p .abstraction) (at .state)
-      → found ≡ partner moves (nonBlank p T j d) (entry p T j d) → record { state = stateOf found; section = j } ≡ stepTo p T c at d
+      → found ≡ singleStep (at .state) moves (nonBlank p T j d) (entry p T j d) → record { state = stateOf found; section = j } ≡ stepTo p T c at d
   unfolding stepTo follow
   step-is c d moves at found j ej em ef = rw (ef, em, ej)
 
   pub step-placed : (c d : ℕ) (at : Place) → Placed at → Placed (stepTo p T c at d)
-  unfolding stepTo follow
+  unfolding stepTo follow singleStep
   step-placed c d at h = record { state-in = le-of-lt (state-small _ _ _); section-in = section-lt p T c at (h .section-in) }
 
   module _ (l : Lasso) where

@@ -9,7 +9,7 @@ ghost use Rattle.mask.specs.Bounded.{every, first};
 ghost use Rattle.mask.specs.Logic.{and};
 ghost use Rattle.machine.specs.Machines.{setsA};
 ghost use Rattle.machine.specs.WellFormed.{wellFormed};
-ghost use Rattle.machine.specs.Step.{partner};
+ghost use Rattle.machine.specs.Step.{staying, singleStep};
 ghost use Rattle.machine.specs.Table.{entry};
 ghost use Rattle.machine.specs.Lines.{nonBlank};
 ghost use Rattle.machine.specs.Player.{sectionAfter, stepTo, placeAt, samePlace, lastRound, playAnswer};
@@ -38,20 +38,30 @@ struct Spot {
     section: usize,
 }
 
-// Of the states of a mask, the matched one of least entry in section j beside d; the lowest of these, and none that is blank.
-fn least_partner(p: Pair, table: &[u16], moves: u64, j: usize, d: usize) -> Partner
+// Twice the entry e of a state, and one more unless it is the present state.
+fn staying_key(present: usize, a: usize, e: u16) -> u32
+    ensures { λ r. ⌜ r ≡ staying present (λ _. e) a ⌝ }
+{
+    let twice = 2 * e as u32;
+    if a == present { twice } else { twice + 1 }
+}
+
+// Of the states of a mask, the matched one of least entry in section j beside d, and none that is blank; of equal ones the state `present`, then
+// the lowest number.
+fn least_partner(p: Pair, table: &[u16], present: usize, moves: u64, j: usize, d: usize) -> Partner
     requires { ⌜ (wellFormed p ≡ true) × ((j < 7) × (d < 256)) ⌝ }
-    ensures { λ r. ⌜ r ≡ partner moves (nonBlank p (now (table .entry)) j d) (entry p (now (table .entry)) j d) ⌝ }
+    ensures { λ r. ⌜ r ≡ singleStep present moves (nonBlank p (now (table .entry)) j d) (entry p (now (table .entry)) j d) ⌝ }
 {
     let mut best = Partner::Nobody;
-    let mut limit = machine::BLANK;
+    // twice a blank entry: every other has a lower key
+    let mut limit: u32 = 131070;
     for a in 0..64 {
         if mask::has(moves, a) {
             if is_matched(p, d, a) {
-                let e = entry_at(p, table, j, d, a);
-                if e < limit {
+                let key = staying_key(present, a, entry_at(p, table, j, d, a));
+                if key < limit {
                     best = Partner::State(a);
-                    limit = e;
+                    limit = key;
                 }
             }
         }
@@ -78,7 +88,8 @@ fn step_to(p: Pair, table: &[u16], c: usize, at: Spot, d: usize) -> Spot
     ensures { λ r. ⌜ asPlace r ≡ stepTo p (now (table .entry)) c (asPlace at) d ⌝ }
 {
     let j = section_after(p, table, c, at);
-    let found = least_partner(p, table, successors_of(p.abstraction, at.state), j, d);
+    let moves = successors_of(p.abstraction, at.state);
+    let found = least_partner(p, table, at.state, moves, j, d);
     Spot {
         state: machine::state_of(found),
         section: j,
@@ -94,6 +105,7 @@ fn place_at(p: Pair, table: &[u16], stem: &[u8], cycle: &[u8], t: usize) -> Spot
     let found = least_partner(
         p,
         table,
+        machine::NO_STATE,
         abstraction.start,
         0,
         moment_at(stem, cycle, 0) as usize,
@@ -169,6 +181,7 @@ pub fn plain_play(p: Pair, table: &[u16], stem: &[u8], cycle: &[u8]) -> Played
     let found = least_partner(
         p,
         table,
+        machine::NO_STATE,
         abstraction.start,
         0,
         moment_at(stem, cycle, 0) as usize,

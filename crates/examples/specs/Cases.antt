@@ -1,5 +1,6 @@
 -- Document 01, "Shelf examples", cases 1 to 12, as one fact about one list, by computation; and a second list of small cases with two
--- concrete states, with more than one set or with a hidden mask, which tell slips that cases 1 to 12 do not tell.
+-- concrete states, with more than one set, with a hidden mask or with several partners of least entry, which tell slips that cases 1 to 12 do not
+-- tell.
 use mathlib.Core.List.{List, [], _∷_}
 use mathlib.Core.Path.{_≡_, refl}
 use Prim.Native.Nat.{ℕ}
@@ -14,7 +15,7 @@ use Rattle.machine.specs.Machines.{observation, successors, moves, starts, fair
 use Rattle.machine.specs.Refusals.{Result, answer, refused, refusal, andThen, passOn}
 use Rattle.machine.specs.WellFormed.{countsOk, beyond, stateBeyond, setBeyond, beyondCounts, stuckState, contentValidity, pairValidity}
 use Rattle.machine.specs.Lassos.{Lasso, moment}
-use Rattle.machine.specs.Step.{steps, better, least, partner, found, stateOf}
+use Rattle.machine.specs.Step.{steps, better, least, partner, staying, singleStep, found, stateOf}
 use Rattle.machine.specs.Iteration.{iterate, settle}
 use Rattle.machine.specs.Game.{pairSet, mem, sameSet, none, allMatched, goals, inX, roundX, xOver, xsOver, union, levelOver, levels, turn, firstFamily, sameFamily, family}
 use Rattle.machine.specs.Ranks.{levelOf, setOf, towerOver, tower, rankIn, solverTable}
@@ -114,7 +115,7 @@ answered =
     ∷ []
 
 cases : asked ≡ answered
-unfolding machineOf _by_ K S Late Early solve check solveAndCheck play asked answered not and or hasBit every some first sum count everyIn someIn maskOf table observation successors moves starts fairSet inFairSet sameObservation matched next andThen passOn countsOk beyond stateBeyond setBeyond beyondCounts stuckState contentValidity pairValidity moment steps better least partner found stateOf iterate settle pairSet mem sameSet none allMatched goals inX roundX xOver xsOver union levelOver levels turn firstFamily sameFamily family levelOf setOf towerOver tower rankIn solverTable entryIndex entry covers coveredCount nonBlank lower atMost goalLine rankLine passes linesValidity startCovered lackingStart startVerdict linesVerdict badLength badStep missedSet lassoValidity startPartner startValidity sectionAfter follow stepTo placeAt samePlace lastRound earlierRound stemLength loopLength run playValidity playAnswer
+unfolding machineOf _by_ K S Late Early solve check solveAndCheck play asked answered not and or hasBit every some first sum count everyIn someIn maskOf table observation successors moves starts fairSet inFairSet sameObservation matched next andThen passOn countsOk beyond stateBeyond setBeyond beyondCounts stuckState contentValidity pairValidity moment steps better least partner staying singleStep found stateOf iterate settle pairSet mem sameSet none allMatched goals inX roundX xOver xsOver union levelOver levels turn firstFamily sameFamily family levelOf setOf towerOver tower rankIn solverTable entryIndex entry covers coveredCount nonBlank lower atMost goalLine rankLine passes linesValidity startCovered lackingStart startVerdict linesVerdict badLength badStep missedSet lassoValidity startPartner startValidity sectionAfter follow stepTo placeAt samePlace lastRound earlierRound stemLength loopLength run playValidity playAnswer
 cases = refl
 
 -- a concrete machine of two states, 0 to 0 and 1 to 0, one observation
@@ -129,8 +130,17 @@ Lamp = machineOf (0 ∷ 4 ∷ []) (2 ∷ 1 ∷ []) (3 ∷ [])
 Choice : Machine
 Choice = machineOf (0 ∷ 0 ∷ 4 ∷ []) (6 ∷ 1 ∷ 1 ∷ []) (7 ∷ [])
 
+-- an abstract machine that goes from 0 to 1, and from 1 to 0 or 1
+Back : List ℕ → Machine
+Back sets = machineOf (0 ∷ 0 ∷ []) (2 ∷ 3 ∷ []) sets
+
+-- an abstract machine of three states that goes from each to the two others
+Others : Machine
+Others = machineOf (0 ∷ 0 ∷ 0 ∷ []) (6 ∷ 5 ∷ 3 ∷ []) (7 ∷ [])
+
 -- cases with two concrete states, or with more than one set; then case 4 with bit 0 hidden and with bit 1 hidden, a lamp that is compared and one
--- that is hidden, and a play in which the hidden lamp leaves the lowest state to be taken
+-- that is hidden, and a play in which the hidden lamp leaves the lowest state to be taken; then plays that stay in the present state, 1, though the
+-- lower state 0 is as good; that leave it for a lower entry; and that leave it since it has no move to itself
 askedMore : List Reply
 askedMore =
     solve (Two (2 ∷ []) by K 0 (0 ∷ []))
@@ -149,6 +159,12 @@ askedMore =
     ∷ solve (under 4 (Lamp by Choice))
     ∷ play (Lamp by Choice) (0 ∷ blank ∷ blank ∷ blank ∷ blank ∷ 0 ∷ []) (record { stem = []; loop = 0 ∷ 1 ∷ [] })
     ∷ play (under 4 (Lamp by Choice)) (0 ∷ 0 ∷ 0 ∷ 0 ∷ 0 ∷ 0 ∷ []) (record { stem = []; loop = 0 ∷ 1 ∷ [] })
+    ∷ solve (K 0 (1 ∷ []) by Back (3 ∷ []))
+    ∷ play (K 0 (1 ∷ []) by Back (3 ∷ [])) (0 ∷ 0 ∷ []) (record { stem = []; loop = 0 ∷ [] })
+    ∷ solve (K 0 (1 ∷ []) by Back (1 ∷ []))
+    ∷ play (K 0 (1 ∷ []) by Back (1 ∷ [])) (0 ∷ 2 ∷ []) (record { stem = []; loop = 0 ∷ [] })
+    ∷ solve (K 0 (1 ∷ []) by Others)
+    ∷ play (K 0 (1 ∷ []) by Others) (0 ∷ 0 ∷ 0 ∷ []) (record { stem = []; loop = 0 ∷ [] })
     ∷ []
 
 answeredMore : List Reply
@@ -169,8 +185,14 @@ answeredMore =
     ∷ solves (0 ∷ 0 ∷ 0 ∷ 0 ∷ 0 ∷ 0 ∷ [])
     ∷ plays (answer (played 0 2)) (0 ∷ 2 ∷ [])
     ∷ plays (answer (played 0 2)) (0 ∷ 1 ∷ [])
+    ∷ solves (0 ∷ 0 ∷ [])
+    ∷ plays (answer (played 1 1)) (0 ∷ 1 ∷ [])
+    ∷ solves (0 ∷ 2 ∷ [])
+    ∷ plays (answer (played 0 2)) (0 ∷ 1 ∷ [])
+    ∷ solves (0 ∷ 0 ∷ 0 ∷ [])
+    ∷ plays (answer (played 0 2)) (0 ∷ 1 ∷ [])
     ∷ []
 
 casesMore : askedMore ≡ answeredMore
-unfolding machineOf _by_ K S Late Early solve check solveAndCheck play askedMore answeredMore Two under Lamp Choice not and or hasBit every some first sum count everyIn someIn maskOf table observation successors moves starts fairSet inFairSet sameObservation matched next andThen passOn countsOk beyond stateBeyond setBeyond beyondCounts stuckState contentValidity pairValidity moment steps better least partner found stateOf iterate settle pairSet mem sameSet none allMatched goals inX roundX xOver xsOver union levelOver levels turn firstFamily sameFamily family levelOf setOf towerOver tower rankIn solverTable entryIndex entry covers coveredCount nonBlank lower atMost goalLine rankLine passes linesValidity startCovered lackingStart startVerdict linesVerdict badLength badStep missedSet lassoValidity startPartner startValidity sectionAfter follow stepTo placeAt samePlace lastRound earlierRound stemLength loopLength run playValidity playAnswer
+unfolding machineOf _by_ K S Late Early solve check solveAndCheck play askedMore answeredMore Two under Lamp Choice Back Others not and or hasBit every some first sum count everyIn someIn maskOf table observation successors moves starts fairSet inFairSet sameObservation matched next andThen passOn countsOk beyond stateBeyond setBeyond beyondCounts stuckState contentValidity pairValidity moment steps better least partner staying singleStep found stateOf iterate settle pairSet mem sameSet none allMatched goals inX roundX xOver xsOver union levelOver levels turn firstFamily sameFamily family levelOf setOf towerOver tower rankIn solverTable entryIndex entry covers coveredCount nonBlank lower atMost goalLine rankLine passes linesValidity startCovered lackingStart startVerdict linesVerdict badLength badStep missedSet lassoValidity startPartner startValidity sectionAfter follow stepTo placeAt samePlace lastRound earlierRound stemLength loopLength run playValidity playAnswer
 casesMore = refl

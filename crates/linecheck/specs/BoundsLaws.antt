@@ -20,7 +20,7 @@ use Rattle.machine.specs.Observed.{matchedMasks}
 use Rattle.machine.specs.ObservedLaws.{has-matched-at}
 use Rattle.machine.specs.WellFormedLaws.{WellPair, bits-small}
 use Rattle.machine.specs.Ranks.{levelOf, setOf}
-use Rattle.machine.specs.Step.{steps, partner, inRow, found}
+use Rattle.machine.specs.Step.{steps, singleStep, inRow, found}
 use Rattle.machine.specs.Table.{blank, tableRoom, entryIndex, placeOf, entry}
 use Rattle.machine.specs.RowLaws.{row-found, row-room, place-is}
 use Rattle.machine.specs.Lines.{atMost, rankLine, passes}
@@ -159,9 +159,9 @@ taken-lt w m i l p h e = has-lt w m i h (rw e (lowest-set 64 m p (omega (arith, 
 -- ---- what a single step finds in a row
 module _ (p : Pair) (T : List ℕ) (w : WellPair p) (masks : List ℕ) (made : masks ≡ matchedMasks p) (j c from to : ℕ)
     (start : from ≡ entryIndex (nC p) (nA p) j c 0) (end : to ≡ from + nA p) (fits : to ≤ length T) where
-  pub step-found : c < nC p → (moves bound : ℕ) (key : ℕ → ℕ)
-      → found (partner moves (inRow (getD masks c 0) (take (to - from) (drop from T)) bound) key) ≡ serves p T moves j bound c
+  pub step-found : c < nC p → (present moves bound : ℕ) (entries : ℕ → ℕ)
+      → found (singleStep present moves (inRow (getD masks c 0) (take (to - from) (drop from T)) bound) entries) ≡ serves p T moves j bound c
   unfolding atMost serves
-  step-found hc moves bound key =
-      rw made (row-found p T j c from to start end fits (w .abstraction .states-high) moves (getD (matchedMasks p) c 0) bound key)
+  step-found hc present moves bound entries =
+      rw made (row-found p T j c from to start end fits (w .abstraction .states-high) present moves (getD (matchedMasks p) c 0) bound entries)
       ∙ someIn-cong (nA p) moves _ _ (λ a l e. ap (λ (b : Bool). and b (leb (entry p T j c a) bound)) (has-matched-at p w c hc a l))

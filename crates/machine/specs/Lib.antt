@@ -4,6 +4,7 @@ pub mod Refusals
 pub mod WellFormed
 pub mod Lassos
 pub mod Step
+pub mod SingleStep
 pub mod Observed
 pub mod Iteration
 pub mod Game
@@ -19,6 +20,7 @@ pub mod RefusalsLaws
 pub mod WellFormedLaws
 pub mod BeyondLaws
 pub mod PartnerLaws
+pub mod SingleStepLaws
 pub mod ObservedLaws
 pub mod LassosLaws
 pub mod LevelLaws

@@ -1,4 +1,4 @@
--- Document 01, "Player", and its refusals 13 to 16.
+-- Document 01, "Player", with the single step of document 02, No. 10, and refusals 13 to 16.
 use mathlib.Core.Bool.{Bool, cond}
 use mathlib.Core.List.{List}
 use Prim.Native.Nat.{ℕ, zero, suc, _+_, _-_, _*_}
@@ -14,7 +14,7 @@ use Rattle.machine.specs.Refusals.{Result, Tested, answer, valid, refuse
 use Rattle.machine.specs.Machines.{successors, moves, starts, inFairSet, next, setsA}
 use Rattle.machine.specs.WellFormed.{pairValidity}
 use Rattle.machine.specs.Lassos.{Lasso, lassoLength, moment}
-use Rattle.machine.specs.Step.{partner, found, stateOf}
+use Rattle.machine.specs.Step.{partner, singleStep, found, stateOf}
 use Rattle.machine.specs.Table.{tableRoom, entry}
 use Rattle.machine.specs.Lines.{nonBlank, linesValidity}
 
@@ -49,7 +49,7 @@ pub record Place : Type 0 where
   pub section : ℕ
 
 module _ (p : Pair) (T : List ℕ) where
-  -- "the start state of least entry in section 1"
+  -- "the start state of least entry in section 1"; "Ties go to the lowest number." Document 02, No. 10: "the first state is chosen as before"
   unfoldable pub startPartner : ℕ → Partner
   startPartner c = partner (p .abstraction .start) (nonBlank p T 0 c) (entry p T 0 c)
 
@@ -61,9 +61,10 @@ module _ (p : Pair) (T : List ℕ) where
   unfoldable pub sectionAfter : ℕ → Place → ℕ
   sectionAfter c at = cond (eqb (entry p T (at .section) c (at .state)) 0) (next (setsA p) (at .section)) (at .section)
 
-  -- "The next a' is the successor of a with the least entry in section j beside c'."
+  -- "The next a' is the successor of a with the least entry in section j beside c'." Document 02, No. 10: of these a itself if it is among them,
+  -- else the lowest number
   unfoldable pub follow : ℕ → Place → ℕ → Partner
-  follow j at d = partner (successors (p .abstraction) (at .state)) (nonBlank p T j d) (entry p T j d)
+  follow j at d = singleStep (at .state) (successors (p .abstraction) (at .state)) (nonBlank p T j d) (entry p T j d)
 
   unfoldable pub stepTo : ℕ → Place → ℕ → Place
   stepTo c at d = let j = sectionAfter c at in record { state = stateOf (follow j at d); section = j }

@@ -21,10 +21,11 @@ use Rattle.machine.specs.RefusalsLaws.{then-of, then-refused, valid-next
 use Rattle.machine.specs.Machines.{moves, starts, next, setsA}
 use Rattle.machine.specs.WellFormed.{pairValidity}
 use Rattle.machine.specs.Lassos.{Lasso, lassoLength, moment}
-use Rattle.machine.specs.Step.{found}
+use Rattle.machine.specs.Step.{singleStep, found}
 use Rattle.machine.specs.StepLaws.{next-lt}
+use Rattle.machine.specs.SingleStepLaws.{single-none}
 use Rattle.machine.specs.Table.{entry}
-use Rattle.machine.specs.Lines.{linesValidity}
+use Rattle.machine.specs.Lines.{nonBlank, linesValidity}
 use Rattle.machine.specs.Player.{badLength, badStep, missedSet, lassoValidity, Place, startPartner, startValidity, sectionAfter, playValidity}
 
 -- ---- 13
@@ -133,6 +134,11 @@ pub after-lt : (n j e : ℕ) → j < n → cond (eqb e 0) (next n j) j < n
 after-lt n j e h = cond-cases (eqb e 0) (λ (i : ℕ). i < n) (next n j) j (λ t. next-lt n j h) (λ t. h)
 
 module _ (p : Pair) (T : List ℕ) where
+  -- ---- the start is a single step where no state is present
+  pub start-single : (c present : ℕ) → 64 ≤ present → singleStep present (p .abstraction .start) (nonBlank p T 0 c) (entry p T 0 c) ≡ startPartner p T c
+  unfolding startPartner
+  start-single c present h = single-none present (p .abstraction .start) (nonBlank p T 0 c) (entry p T 0 c) h
+
   pub section-lt : (c : ℕ) (at : Place) → at .section < setsA p → sectionAfter p T c at < setsA p
   unfolding sectionAfter
   section-lt c at h = after-lt (setsA p) (at .section) (entry p T (at .section) c (at .state)) h

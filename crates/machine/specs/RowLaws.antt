@@ -17,8 +17,8 @@ use Rattle.mask.specs.BoundedLaws.{someIn-at, someIn-of}
 use Rattle.machine.specs.declared.Pair.{Pair}
 use Rattle.machine.specs.Machines.{nC, nA}
 use Rattle.machine.specs.WellFormedLaws.{mul-bound}
-use Rattle.machine.specs.Step.{partner, inRow, found}
-use Rattle.machine.specs.PartnerLaws.{partner-found}
+use Rattle.machine.specs.Step.{singleStep, inRow, found}
+use Rattle.machine.specs.SingleStepLaws.{single-found}
 use Rattle.machine.specs.Table.{tableRoom, entryIndex, placeOf, entry}
 
 -- ---- where an entry lies
@@ -77,10 +77,10 @@ module _ (p : Pair) (T : List ℕ) (j c from to : ℕ) (start : from ≡ entryIn
       let l : a < to - from = omega arith in
       rw (getD-take, getD-drop, start, index-row)
 
-  pub row-found : nA p ≤ 64 → (moves matched bound : ℕ) (key : ℕ → ℕ)
-      → found (partner moves (inRow matched row bound) key) ≡ someIn (nA p) moves (λ a. and (hasBit matched a) (leb (entry p T j c a) bound))
-  row-found small moves matched bound key =
-      partner-found moves (inRow matched row bound) key ∙ both _ _
+  pub row-found : nA p ≤ 64 → (present moves matched bound : ℕ) (entries : ℕ → ℕ)
+      → found (singleStep present moves (inRow matched row bound) entries) ≡ someIn (nA p) moves (λ a. and (hasBit matched a) (leb (entry p T j c a) bound))
+  row-found small present moves matched bound entries =
+      single-found present entries moves (inRow matched row bound) ∙ both _ _
       (λ t.
       let q = someIn-at 64 moves _ t in
       let r = inRow-at matched row bound (q .0) (q .3) in

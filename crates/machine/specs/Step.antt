@@ -1,9 +1,9 @@
--- Document 01, "The game": the step, and the single step that names a partner.
+-- Document 01, "The game": the step, and the single step that names a partner (document 02, No. 10).
 use mathlib.Core.Bool.{Bool, true, false, cond}
 use mathlib.Core.List.{List}
-use Prim.Native.Nat.{ℕ, zero, suc}
+use Prim.Native.Nat.{ℕ, zero, suc, _+_, _*_}
 use lib.ListN.{length, getD}
-use lib.Dec.{ltb, leb}
+use lib.Dec.{eqb, ltb, leb}
 use Rattle.mask.specs.Logic.{and}
 use Rattle.mask.specs.Bits.{hasBit}
 use Rattle.mask.specs.Bounded.{everyIn, someIn}
@@ -26,11 +26,20 @@ unfoldable pub least : ℕ → (ℕ → Bool) → (ℕ → ℕ) → Partner
 least zero p key = Nobody
 least (suc n) p key = let best = least n p key in cond (and (p n) (better key n best)) (State n) best
 
--- the single step: of the states of the mask `moves`, the partner in a set S (given by its test beside c'), of least key
+-- of the states of the mask `moves`, the partner in a set S (given by its test beside c'), of least key; the lowest of these
 unfoldable pub partner : ℕ → (ℕ → Bool) → (ℕ → ℕ) → Partner
 partner moves S key = least 64 (λ a. and (hasBit moves a) (S a)) key
 
--- a set without entries: all its states count as equal
+-- Document 02, No. 10: "least entry, then the present score state if it is among them, then the lowest number". Of equal entries the present
+-- state has the lower key.
+unfoldable pub staying : ℕ → (ℕ → ℕ) → ℕ → ℕ
+staying present entries a = 2 * entries a + cond (eqb a present) 0 1
+
+-- the single step, in the abstract state `present`
+unfoldable pub singleStep : ℕ → ℕ → (ℕ → Bool) → (ℕ → ℕ) → Partner
+singleStep present moves S entries = partner moves S (staying present entries)
+
+-- "In a set without entries all count as equal."
 abbrev pub alike : ℕ → ℕ
 alike a = 0
 

@@ -1,12 +1,13 @@
 // Machines, pairs of machines, refusals, the single step, and where a table's sections and entries lie. The definitions of well-formedness stand
 // here too; crate `validity` tests it.
 ghost use mathlib.Core.Path.{_≡_};
+ghost use Prim.Native.Nat.{ℕ};
 ghost use lib.ListN.{getD};
 ghost use lib.Seq.{sets};
 ghost use Rattle.mask.specs.Bits.{hasBit};
 ghost use Rattle.machine.specs.Machines.{sameObservation, next};
 ghost use Rattle.machine.specs.Refusals.{refusal, fourNumbers};
-ghost use Rattle.machine.specs.Step.{partner, found, stateOf, alike, inRow};
+ghost use Rattle.machine.specs.Step.{partner, singleStep, found, stateOf, alike, inRow};
 ghost use Rattle.machine.specs.Observed.{sameMask, matchedMasks};
 ghost use Rattle.machine.specs.Table.{placeOf};
 
@@ -41,6 +42,9 @@ pub const TABLE_ROOM: usize = 28672;
 
 // The entry of a pair that is not covered.
 pub const BLANK: u16 = 65535;
+
+// A number that no state has: the present state where there is none, before the first.
+pub const NO_STATE: usize = 64;
 
 pub const SHORT_BUFFER: u32 = 1;
 
@@ -163,11 +167,15 @@ pub fn matched_masks(p: Pair) -> [u64; 64]
 
 // ---- The single step
 
-// The partner in a set that is given by the mask of its states beside c': the lowest of the moves that is in the row.
-pub fn partner_in(moves: u64, row: u64) -> Partner
-    ensures { λ r. ⌜ r ≡ partner moves (hasBit row) alike ⌝ }
+// The single step, in the abstract state `present`, into a set that is given by the mask of its states beside c': of the moves that are in the
+// row the present state if it is among them, else the lowest.
+pub fn partner_in(present: usize, moves: u64, row: u64) -> Partner
+    ensures { λ r. ⌜ r ≡ singleStep present moves (hasBit row) alike ⌝ }
 {
     let m = moves & row;
+    if mask::has(m, present) {
+        return Partner::State(present);
+    }
     if m == 0 {
         Partner::Nobody
     } else {
@@ -175,9 +183,8 @@ pub fn partner_in(moves: u64, row: u64) -> Partner
     }
 }
 
-// The partner in a set that is given by its entries beside c' and a bound: of the moves that are matched with c' and whose entry is at
-// most the bound, the one of least entry, the lowest of these.
-pub fn partner_within(moves: u64, matched: u64, row: &[u16], bound: u16) -> Partner
+// Of the moves that are matched with c' and whose entry is at most the bound, the one of least entry, the lowest of these.
+fn least_within(moves: u64, matched: u64, row: &[u16], bound: u16) -> Partner
     ensures { λ r. ⌜ r ≡ partner moves (inRow matched (now (row .entry)) bound) (λ a. getD (now (row .entry)) a 0) ⌝ }
 {
     let mut m = moves & matched;
@@ -198,9 +205,28 @@ pub fn partner_within(moves: u64, matched: u64, row: &[u16], bound: u16) -> Part
     best
 }
 
-// Whether `partner_within` names a partner; it stops at the first.
+// The single step, in the abstract state `present`, into a set that is given by its entries beside c' and a bound: of the moves that are matched
+// with c' and whose entry is at most the bound, those of least entry; of these the present state if it is among them, else the lowest.
+pub fn partner_within(present: usize, moves: u64, matched: u64, row: &[u16], bound: u16) -> Partner
+    ensures { λ r. ⌜ r ≡ singleStep present moves (inRow matched (now (row .entry)) bound) (λ a. getD (now (row .entry)) a 0) ⌝ }
+{
+    let found = least_within(moves, matched, row, bound);
+    let Partner::State(best) = found else {
+        return Partner::Nobody;
+    };
+    if mask::has(moves & matched, present) {
+        if present < row.len() {
+            if row[present] <= row[best] {
+                return Partner::State(present);
+            }
+        }
+    }
+    Partner::State(best)
+}
+
+// Whether `partner_within` names a partner, whatever the present state; it stops at the first.
 pub fn has_partner(moves: u64, matched: u64, row: &[u16], bound: u16) -> bool
-    ensures { λ r. ⌜ r ≡ found (partner moves (inRow matched (now (row .entry)) bound) (λ a. getD (now (row .entry)) a 0)) ⌝ }
+    ensures { λ r. ⌜ ((present : ℕ) → r ≡ found (singleStep present moves (inRow matched (now (row .entry)) bound) (λ a. getD (now (row .entry)) a 0))) ⌝ }
 {
     let mut m = moves & matched;
     while m != 0 {

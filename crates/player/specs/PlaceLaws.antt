@@ -14,7 +14,7 @@ use Rattle.mask.specs.LogicLaws.{cond-cases}
 use Rattle.machine.specs.declared.Pair.{Pair}
 use Rattle.machine.specs.Machines.{nC, nA, setsA, successors, next}
 use Rattle.machine.specs.Lassos.{Lasso, lassoLength, moment}
-use Rattle.machine.specs.Step.{partner, stateOf}
+use Rattle.machine.specs.Step.{singleStep, stateOf}
 use Rattle.machine.specs.Table.{entry}
 use Rattle.machine.specs.Lines.{nonBlank}
 use Rattle.machine.specs.Player.{startPartner, sectionAfter, follow, stepTo, placeAt}
@@ -109,7 +109,7 @@ module _ (p : Pair) (T : List ℕ) (l : Lasso) (t : ℕ) where
   rule-section c j a e f g = cc
 
   rule-state : (d j a : ℕ) → moment l (suc t) ≡ d → j ≡ placeAt p T l (suc t) .section → a ≡ placeAt p T l t .state
-      → stateOf (partner (successors (p .abstraction) a) (nonBlank p T j d) (entry p T j d)) ≡ placeAt p T l (suc t) .state
+      → stateOf (singleStep a (successors (p .abstraction) a) (nonBlank p T j d) (entry p T j d)) ≡ placeAt p T l (suc t) .state
   unfolding placeAt stepTo follow
   rule-state d j a e f g = cc
 
@@ -128,7 +128,7 @@ module _ {p : Pair} {T : List ℕ} {l : Lasso} (k : Playable p T l) where
     -- a place made by the rule from the states at this position and the next
     pub steps-on : (to : Place) → let o = onward (length (l .stem)) (lassoLength l) at in to .position ≡ o .position → to .round ≡ o .round
         → to .j ≡ cond (eqb (entry p T (at .j) (moment l (at .position)) (at .a)) 0) (next (setsA p) (at .j)) (at .j)
-        → to .a ≡ stateOf (partner (successors (p .abstraction) (at .a)) (nonBlank p T (to .j) (moment l (to .position))) (entry p T (to .j) (moment l (to .position))))
+        → to .a ≡ stateOf (singleStep (at .a) (successors (p .abstraction) (at .a)) (nonBlank p T (to .j) (moment l (to .position))) (entry p T (to .j) (moment l (to .position))))
         → OnPlay p T l to
     steps-on to position round section state =
         let q = length (l .loop) in

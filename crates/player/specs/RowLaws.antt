@@ -14,13 +14,13 @@ use Rattle.machine.specs.declared.Pair.{Pair}
 use Rattle.machine.specs.Machines.{nC, nA, setsA}
 use Rattle.machine.specs.Observed.{matchedMasks}
 use Rattle.machine.specs.ObservedLaws.{has-matched-at}
-use Rattle.machine.specs.Step.{partner, inRow}
+use Rattle.machine.specs.Step.{singleStep, inRow}
 use Rattle.machine.specs.Table.{blank, tableRoom, entryIndex, placeOf, entry}
 use Rattle.machine.specs.RowLaws.{row-room, entry-room, row, row-length, row-at}
 use Rattle.machine.specs.Lines.{nonBlank}
 use Rattle.machine.specs.LinesLaws.{covers-bound}
 use Rattle.machine.specs.WellFormedLaws.{WellPair}
-use Rattle.machine.specs.PartnerLaws.{partner-below}
+use Rattle.machine.specs.SingleStepLaws.{single-below}
 use Rattle.linecheck.specs.BoundsLaws.{place-at, entry-small}
 
 -- ---- where an entry lies, as its place is found
@@ -50,6 +50,6 @@ module _ (p : Pair) (T : List ℕ) (w : WellPair p) (small : (i : ℕ) → getD 
       ∙ ap (λ (e : ℕ). leb e (blank - 1)) (row-at p T j c from to start end fits a h) ∙ sym (covers-bound p T j c a (entry-small p T small j c a)))
 
   -- the partner in the row is the rule's, among moves to states of the machine
-  pub row-partner : (moves : ℕ) → ((i : ℕ) → i < 64 → hasBit moves i ≡ true → i < nA p)
-      → partner moves (inRow (getD (matchedMasks p) c 0) here (blank - 1)) (λ a. getD here a 0) ≡ partner moves (nonBlank p T j c) (entry p T j c)
-  row-partner moves moved = partner-below moves (nA p) _ _ _ _ moved in-row (row-at p T j c from to start end fits)
+  pub row-partner : (present moves : ℕ) → ((i : ℕ) → i < 64 → hasBit moves i ≡ true → i < nA p)
+      → singleStep present moves (inRow (getD (matchedMasks p) c 0) here (blank - 1)) (λ a. getD here a 0) ≡ singleStep present moves (nonBlank p T j c) (entry p T j c)
+  row-partner present moves moved = single-below present moves (nA p) _ _ _ _ moved in-row (row-at p T j c from to start end fits)

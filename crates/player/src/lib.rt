@@ -10,7 +10,7 @@ ghost use Rattle.mask.specs.Bounded.{first};
 ghost use Rattle.machine.specs.Machines.{moves, next, nC, nA, setsA};
 ghost use Rattle.machine.specs.Refusals.{testedOf};
 ghost use Rattle.machine.specs.Lassos.{moment, given};
-ghost use Rattle.machine.specs.Step.{partner, stateOf};
+ghost use Rattle.machine.specs.Step.{singleStep, stateOf};
 ghost use Rattle.machine.specs.Table.{entry};
 ghost use Rattle.machine.specs.Lines.{nonBlank};
 ghost use Rattle.machine.specs.Player.{badLength, badStep, lassoValidity, startPartner, runRoom, playerAnswer, playerBuffer};
@@ -103,7 +103,7 @@ impl Place {
         let next = self.onward(stem.len(), stem.len() + cycle.len());
         let j = self.section_after(abstraction.sets, e);
         let d = state_at(stem, cycle, next.position);
-        let found = best_partner(p, matched, table, successors[a], j, d);
+        let found = best_partner(p, matched, table, a, successors[a], j, d);
         Self {
             position: next.position,
             a: machine::state_of(found),
@@ -113,11 +113,13 @@ impl Place {
     }
 }
 
-// Of the states of the mask `moves`, the one of least entry in section j beside the concrete state d; ties go to the lowest number.
+// Of the states of the mask `moves`, the one of least entry in section j beside the concrete state d; of equal ones the state `present`, then
+// the lowest number.
 fn best_partner(
     p: Pair,
     matched: &[u64; 64],
     table: &[u16],
+    present: usize,
     moves: u64,
     j: usize,
     d: usize,
@@ -125,14 +127,20 @@ fn best_partner(
     requires { ⌜ Tabled p (now matched) (now table) ⌝ }
     requires { ⌜ (j < setsA p) × (d < nC p) ⌝ }
     requires { ⌜ ((i : ℕ) → i < 64 → hasBit moves i ≡ true → i < nA p) ⌝ }
-    ensures { λ r. ⌜ r ≡ partner moves (nonBlank p (now (table .entry)) j d) (entry p (now (table .entry)) j d) ⌝ }
+    ensures { λ r. ⌜ r ≡ singleStep present moves (nonBlank p (now (table .entry)) j d) (entry p (now (table .entry)) j d) ⌝ }
 {
     let concrete = p.concrete;
     let abstraction = p.abstraction;
     let na = abstraction.states;
     let from = machine::entry_index(concrete.states, na, j, d, 0);
     let to = from + na;
-    machine::partner_within(moves, matched[d], &table[from..to], machine::BLANK - 1)
+    machine::partner_within(
+        present,
+        moves,
+        matched[d],
+        &table[from..to],
+        machine::BLANK - 1,
+    )
 }
 
 // The number, below 448, of a state a and a section j. It takes a modulo 64 and j modulo 7, so that any have an answer; states and sections are less.
@@ -331,7 +339,15 @@ pub fn play(p: Pair, table: &[u16], stem: &[u8], cycle: &[u8], run: &mut [u8]) -
     let abstraction = p.abstraction;
     let matched = machine::matched_masks(p);
     let c = state_at(stem, cycle, 0);
-    let first = best_partner(p, &matched, table, abstraction.start, 0, c);
+    let first = best_partner(
+        p,
+        &matched,
+        table,
+        machine::NO_STATE,
+        abstraction.start,
+        0,
+        c,
+    );
     let Partner::State(a) = first else {
         return Played::Refused(machine::refuse(machine::NO_START_PARTNER, 0, 0, 0));
     };

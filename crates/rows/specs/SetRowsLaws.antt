@@ -22,8 +22,8 @@ use Rattle.mask.specs.TablesLaws.{table-at, table-past, table-cong, fill-done, 
 use Rattle.mask.specs.FrontLaws.{zeros-at}
 use Rattle.machine.specs.declared.Pair.{Pair}
 use Rattle.machine.specs.Machines.{successors, moves, fairSet, inFairSet, matched, next, nC, nA, setsA}
-use Rattle.machine.specs.Step.{partner, found, alike, steps}
-use Rattle.machine.specs.PartnerLaws.{partner-found}
+use Rattle.machine.specs.Step.{singleStep, found, alike, steps}
+use Rattle.machine.specs.SingleStepLaws.{single-found}
 use Rattle.machine.specs.Observed.{matchedMasks}
 use Rattle.machine.specs.ObservedLaws.{matched-length, matched-at, row-out, has-matched-at, matched-small}
 use Rattle.machine.specs.WellFormedLaws.{WellPair}
@@ -44,11 +44,11 @@ module _ (v w m : ℕ) (f g : ℕ → Bool) (wide : w ≤ v) (fits : (i : ℕ) �
       (λ t. let r = someIn-at v m f t in let q : r .0 < w = fits (r .0) (r .1) (r .2) in someIn-of w m g (r .0) q (r .2) (sym (alike (r .0) q) ∙ r .3))
       (λ t. let r = someIn-at w m g t in someIn-of v m f (r .0) (omega (arith, r .1)) (r .2) (alike (r .0) (r .1) ∙ r .3))
 
--- ---- the union of the predecessors of a row's states has a state exactly if the single step finds it a partner in the row
-pub partners-found : (n : ℕ) (moves : List ℕ) (row a : ℕ) → a < n → n ≤ 64 → ((b : ℕ) → b < 64 → hasBit (getD moves a 0) b ≡ true → b < n)
-    → hasBit (partnersOf (predecessorsOf n moves) row) a ≡ found (partner (getD moves a 0) (hasBit row) alike)
+-- ---- the union of the predecessors of a row's states has a state exactly if the single step finds it a partner in the row, whatever the present state
+pub partners-found : (n : ℕ) (moves : List ℕ) (row present a : ℕ) → a < n → n ≤ 64 → ((b : ℕ) → b < 64 → hasBit (getD moves a 0) b ≡ true → b < n)
+    → hasBit (partnersOf (predecessorsOf n moves) row) a ≡ found (singleStep present (getD moves a 0) (hasBit row) alike)
 unfolding partnersOf
-partners-found n moves row a ha wide inside =
+partners-found n moves row present a ha wide inside =
     has-maskOf-at 64 _ a (omega arith)
     ∙ both _ _
     (λ t.
@@ -57,7 +57,7 @@ partners-found n moves row a ha wide inside =
     (λ t.
     let r = someIn-at 64 (getD moves a 0) (hasBit row) t in
     someIn-of 64 row _ (r .0) (r .1) (r .3) (listed (r .0) (r .1) (r .2)))
-    ∙ sym (partner-found (getD moves a 0) (hasBit row) alike)
+    ∙ sym (single-found present alike (getD moves a 0) (hasBit row))
   where
     known : (b : ℕ) → b < 64 → hasBit (getD (predecessorsOf n moves) b 0) a ≡ true → hasBit (getD moves a 0) b ≡ true
     known b h t = by-cases (decLt b n)
@@ -164,8 +164,8 @@ module _ (p : Pair) where
     unfolding moves successors
     has-partner rows d a hd ha =
         ap (λ (m : ℕ). hasBit m a) (partner-row rows d hd)
-        ∙ partners-found (nA p) (p .abstraction .successors) (getD rows d 0) a ha (w .abstraction .states-high) (λ b l t. w .abstraction .move-bits a b ha l t)
-        ∙ partner-found (getD (p .abstraction .successors) a 0) (hasBit (getD rows d 0)) alike
+        ∙ partners-found (nA p) (p .abstraction .successors) (getD rows d 0) a a ha (w .abstraction .states-high) (λ b l t. w .abstraction .move-bits a b ha l t)
+        ∙ single-found a alike (getD (p .abstraction .successors) a 0) (hasBit (getD rows d 0))
         ∙ someIn-fit 64 (nA p) (getD (p .abstraction .successors) a 0) (hasBit (getD rows d 0)) (mem p (pairsIn p rows) d)
         (w .abstraction .states-high) (λ i l e. w .abstraction .move-bits a i ha l e) (λ b l. sym (mem-in rows d b hd))
 

@@ -17,6 +17,8 @@ use Rattle.machine.specs.Machines.{nC, nA, setsC, setsA, successors, moves, sta
 use Rattle.machine.specs.Step.{partner, found, stateOf}
 use Rattle.machine.specs.StepLaws.{Steps}
 use Rattle.machine.specs.PartnerLaws.{Best, partner-found, partner-at}
+use Rattle.machine.specs.SingleStep.{Chosen}
+use Rattle.machine.specs.SingleStepLaws.{single-found, chosen-named}
 use Rattle.machine.specs.Table.{entry}
 use Rattle.machine.specs.Ranks.{levelOf, setOf}
 use Rattle.machine.specs.LevelLaws.{level-low, level-below}
@@ -27,7 +29,7 @@ use Rattle.machine.specs.WellFormedLaws.{WellPair, ranks-small}
 use Rattle.machine.specs.Player.{Place, startPartner, sectionAfter, follow, stepTo}
 use Rattle.machine.specs.PlayerLaws.{section-lt}
 
--- the partner that a single step names
+-- the partner that is named
 best-named : (moves : ℕ) (S : ℕ → Bool) (key : ℕ → ℕ) → found (partner moves S key) ≡ true → Best moves S key (stateOf (partner moves S key))
 unfolding found stateOf
 best-named moves S key t = go (partner moves S key) refl t
@@ -158,29 +160,46 @@ module _ (p : Pair) (T : List ℕ) where
           falls = λ z i. omega (arith, k .falls z i, least);
         }
 
-    -- the rule's is one
-    follow-least : (c d : ℕ) (at : Place) → at .state < nA p → Candidate c d at → LeastPartner c d at (stateOf (follow p T (sectionAfter p T c at) at d))
+    -- the rule's is the one that the single step chooses
+    follow-chosen : (c d : ℕ) (at : Place) → Candidate c d at → let j = sectionAfter p T c at in
+        Chosen (at .state) (successors (p .abstraction) (at .state)) (nonBlank p T j d) (entry p T j d) (stateOf (follow p T j at d))
     unfolding follow moves
+    follow-chosen c d at k = chosen-named (at .state) (entry p T (sectionAfter p T c at) d) _ _
+        (single-found (at .state) _ _ _ ∙ someIn-of 64 _ _ (k .who) (small (k .low)) (k .moved) (k .covered))
+
+    -- and so of least entry
+    follow-least : (c d : ℕ) (at : Place) → at .state < nA p → Candidate c d at → LeastPartner c d at (stateOf (follow p T (sectionAfter p T c at) at d))
+    unfolding moves
     follow-least c d at h k =
-        let j = sectionAfter p T c at in
-        let x = best-named (successors (p .abstraction) (at .state)) (nonBlank p T j d) (entry p T j d) (named _ _ _ (k .who) (small (k .low)) (k .moved) (k .covered)) in
+        let x = follow-chosen c d at k in
+        let y = x .candidate in
         record {
-          low = w .abstraction .move-bits (at .state) _ h (x .below) (x .moved);
-          moved = x .moved;
-          covered = x .inside;
-          least = λ i l u v. x .keyed i (small l) u v;
+          low = w .abstraction .move-bits (at .state) _ h (y .below) (y .moved);
+          moved = y .moved;
+          covered = y .inside;
+          least = λ i l u v. x .least i (record { below = small l; moved = u; inside = v });
         }
 
-    pub step-answers : (c d : ℕ) (at : Place) → c < nC p → Covered c at → d < nC p → moves (p .concrete) c d ≡ true → Answer c d at (stepTo p T c at d)
-    unfolding stepTo
-    step-answers c d at hc h hd m = answer-of c d at hc h hd m _ (follow-least c d at (h .bound) (candidate c d at hc h hd m))
+    module _ (c d : ℕ) (at : Place) (hc : c < nC p) (h : Covered c at) (hd : d < nC p) (m : moves (p .concrete) c d ≡ true) where
+      pub step-answers : Answer c d at (stepTo p T c at d)
+      unfolding stepTo
+      step-answers = answer-of c d at hc h hd m _ (follow-least c d at (h .bound) (candidate c d at hc h hd m))
 
-    -- the rule's start, where there is a partner
+      pub step-chosen : let to = stepTo p T c at d in
+          Chosen (at .state) (successors (p .abstraction) (at .state)) (nonBlank p T (to .section) d) (entry p T (to .section) d) (to .state)
+      unfolding stepTo
+      step-chosen = follow-chosen c d at (candidate c d at hc h hd m)
+
+    -- the rule's start, where there is a partner, is the lowest start state of least entry
+    pub start-best : (c : ℕ) → found (startPartner p T c) ≡ true → Best (p .abstraction .start) (nonBlank p T 0 c) (entry p T 0 c) (stateOf (startPartner p T c))
+    unfolding startPartner
+    start-best c t = best-named (p .abstraction .start) (nonBlank p T 0 c) (entry p T 0 c) t
+
     pub start-place : (c : ℕ) → found (startPartner p T c) ≡ true → Covered c (record { state = stateOf (startPartner p T c); section = 0 })
         × (starts (p .abstraction) (stateOf (startPartner p T c)) ≡ true)
-    unfolding startPartner starts
+    unfolding starts
     start-place c t =
-        let x = best-named (p .abstraction .start) (nonBlank p T 0 c) (entry p T 0 c) t in (
+        let x = start-best c t in (
           record {
             bound = w .abstraction .start-bits _ (x .below) (x .moved);
             section-bound = w .abstraction .sets-low;

@@ -11,12 +11,15 @@ use lib.Dec.{eqb}
 use lib.ListN.{length}
 use borrow.Author.Tests.{eqb-true, eq-eqb}
 use Rattle.machine.specs.declared.Pair.{Pair}
-use Rattle.machine.specs.Machines.{nA, setsC, setsA, starts, inFairSet, matched, next}
+use Rattle.machine.specs.Machines.{nA, setsC, setsA, successors, starts, inFairSet, matched, next}
 use Rattle.machine.specs.Lassos.{Lasso, moment, isPlay, SameObservations}
 use Rattle.machine.specs.Step.{found}
+use Rattle.machine.specs.PartnerLaws.{Best}
+use Rattle.machine.specs.SingleStep.{Chosen}
+use Rattle.machine.specs.Table.{entry}
 use Rattle.machine.specs.Ranks.{setOf}
 use Rattle.machine.specs.LevelLaws.{set-lt}
-use Rattle.machine.specs.Lines.{passesEach}
+use Rattle.machine.specs.Lines.{nonBlank, passesEach}
 use Rattle.machine.specs.LinesLaws.{nonBlank-at}
 use Rattle.machine.specs.WellFormedLaws.{WellPair}
 use Rattle.machine.specs.Player.{Place, startPartner, sectionAfter, stepTo, placeAt, loopStart}
@@ -24,7 +27,7 @@ use Rattle.soundness.specs.Pigeonhole.{pigeonhole}
 use Rattle.soundness.specs.Cycle.{zero-met, sections-met}
 use Rattle.soundness.specs.Plays.{runBetween, Again, Play}
 use Rattle.soundness.specs.PlayLaws.{again-times, moment-again, fair-round, lassoOf-moment, lassoOf-play}
-use Rattle.soundness.specs.AnswerLaws.{Covered, entryAt, Answer, passing-at, step-answers, start-place}
+use Rattle.soundness.specs.AnswerLaws.{Covered, entryAt, Answer, passing-at, step-answers, step-chosen, start-best, start-place}
 
 -- from the loop start after x rounds to that after z rounds
 pub rounds-between : (stem loop x z : ℕ) → x ≤ z → stem + x * loop + (z - x) * loop ≡ stem + z * loop
@@ -48,6 +51,16 @@ module _ (p : Pair) (T : List ℕ) (w : WellPair p) (passing : passesEach p T �
 
   pub answered : (t : ℕ) → Answer p T (moment l t) (moment l (suc t)) (placeAt p T l t) (placeAt p T l (suc t))
   answered t = answered-from t (covered-at t)
+
+  -- each state after the first is the one that the single step chooses
+  pub follows : (t : ℕ) → let a = placeAt p T l t .state in let to = placeAt p T l (suc t) in let d = moment l (suc t) in
+      Chosen a (successors (p .abstraction) a) (nonBlank p T (to .section) d) (entry p T (to .section) d) (to .state)
+  unfolding placeAt
+  follows t = step-chosen p T w passing (moment l t) (moment l (suc t)) (placeAt p T l t) (y .bound t) (covered-at t) (y .bound (suc t)) (y .step t)
+
+  pub starts-lowest : let c = moment l 0 in Best (p .abstraction .start) (nonBlank p T 0 c) (entry p T 0 c) (placeAt p T l 0 .state)
+  unfolding placeAt
+  starts-lowest = start-best p T w passing (moment l 0) partnered
 
   started : starts (p .abstraction) (placeAt p T l 0 .state) ≡ true
   unfolding placeAt

@@ -3,16 +3,19 @@
 use mathlib.Core.Bool.{true}
 use mathlib.Core.List.{List}
 use mathlib.Core.Path.{_≡_}
-use Prim.Native.Nat.{ℕ, _+_, _≤_, _<_}
+use Prim.Native.Nat.{ℕ, suc, _+_, _≤_, _<_}
 use lib.ListN.{length, take, drop}
 use Rattle.machine.specs.declared.Pair.{Pair}
 use Rattle.machine.specs.Refusals.{answer, valid}
 use Rattle.machine.specs.WellFormed.{wellFormed}
-use Rattle.machine.specs.Lassos.{Lasso, isPlay, SameObservations}
-use Rattle.machine.specs.Table.{tableRoom, SameEntries}
-use Rattle.machine.specs.Lines.{passesEach}
+use Rattle.machine.specs.Machines.{successors}
+use Rattle.machine.specs.Lassos.{Lasso, moment, isPlay, SameObservations}
+use Rattle.machine.specs.PartnerLaws.{Best}
+use Rattle.machine.specs.SingleStep.{Chosen}
+use Rattle.machine.specs.Table.{tableRoom, entry, SameEntries}
+use Rattle.machine.specs.Lines.{nonBlank, passesEach}
 use Rattle.machine.specs.Verdict.{HasStarts, carried, linesVerdict, checkVerdict}
-use Rattle.machine.specs.Player.{samePlace, lastRound, earlierRound, stemLength, loopLength, run, runRoom, playValidity, playerAnswer, playerBuffer}
+use Rattle.machine.specs.Player.{placeAt, samePlace, lastRound, earlierRound, stemLength, loopLength, run, runRoom, playValidity, playerAnswer, playerBuffer}
 
 -- the concrete lasso l has a fair lasso of the abstract machine, from a start state, with the same observation at every moment, in the bits that
 -- are not hidden
@@ -45,6 +48,16 @@ pub record IsRun (p : Pair) (T : List ℕ) (l : Lasso) : Type 0 where
 
 abbrev pub PlayerIsRight : Type 0
 PlayerIsRight = (p : Pair) (T : List ℕ) (l : Lasso) → playValidity p T l ≡ valid → IsRun p T l
+
+-- Document 02, No. 10: "The player's rule follows; the first state is chosen as before". The first state of the run is the start state of least
+-- entry, the lowest of these; each later one is the one that the single step chooses in the state before it.
+pub record FollowsStep (p : Pair) (T : List ℕ) (l : Lasso) : Type 0 where
+  pub first : let c = moment l 0 in Best (p .abstraction .start) (nonBlank p T 0 c) (entry p T 0 c) (placeAt p T l 0 .state)
+  pub later : (t : ℕ) → let a = placeAt p T l t .state in let to = placeAt p T l (suc t) in let d = moment l (suc t) in
+      Chosen a (successors (p .abstraction) a) (nonBlank p T (to .section) d) (entry p T (to .section) d) (to .state)
+
+abbrev pub PlayerFollows : Type 0
+PlayerFollows = (p : Pair) (T : List ℕ) (l : Lasso) → playValidity p T l ≡ valid → FollowsStep p T l
 
 -- "those past n × P are neither read": tables with room and the same n × P entries get the same answer of the check
 abbrev pub CheckUnread : Type 0

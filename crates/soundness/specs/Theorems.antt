@@ -3,11 +3,11 @@ use Rattle.machine.specs.Lassos.{moment}
 use Rattle.machine.specs.WellFormedLaws.{well-pair, valid-is-well}
 use Rattle.machine.specs.VerdictLaws.{carried-at}
 use Rattle.machine.specs.EntriesLaws.{check-same}
-use Rattle.soundness.specs.Statements.{PassingIsSound, CarriedIsSound, PlayerIsRight, CheckUnread, PlayerUnread}
+use Rattle.soundness.specs.Statements.{PassingIsSound, CarriedIsSound, PlayerIsRight, PlayerFollows, CheckUnread, PlayerUnread}
 use Rattle.soundness.specs.PlayLaws.{play-at}
 use Rattle.soundness.specs.AnswerLaws.{start-found}
-use Rattle.soundness.specs.SoundLaws.{returns, closes, agrees}
-use Rattle.soundness.specs.PlayerLaws.{playable, player-run}
+use Rattle.soundness.specs.SoundLaws.{returns, closes, agrees, follows, starts-lowest}
+use Rattle.soundness.specs.PlayerLaws.{good-play, Playable, playable, player-run}
 use Rattle.soundness.specs.UnreadLaws.{answer-same, buffer-same}
 
 pub passing-is-sound : PassingIsSound
@@ -23,6 +23,12 @@ carried-is-sound p T n e = let c = carried-at p T n e in passing-is-sound p T (v
 
 pub player-is-right : PlayerIsRight
 player-is-right p T l e = player-run p T l (playable p T l e)
+
+pub player-follows : PlayerFollows
+player-follows p T l e =
+    let k = playable p T l e in
+    let y = play-at (p .concrete) l (good-play (p .concrete) l (k .good)) in
+    record { first = starts-lowest p T (k .well) (k .passing) l y (k .partnered); later = follows p T (k .well) (k .passing) l y (k .partnered) }
 
 pub check-unread : CheckUnread
 check-unread p T U long long′ same = check-same p T U same long long′

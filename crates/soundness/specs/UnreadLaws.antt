@@ -5,7 +5,6 @@ use mathlib.Core.Path.{_≡_, refl, sym, ap, _∙_}
 use Prim.Native.Nat.{ℕ, zero, suc, _+_, _*_, _≤_, _<_}
 use lib.ListN.{length}
 use Rattle.mask.specs.Logic.{and}
-use Rattle.mask.specs.Bits.{hasBit}
 use Rattle.mask.specs.BoundedLaws.{first-cong, some-cong}
 use Rattle.mask.specs.TablesLaws.{table-cong}
 use Rattle.machine.specs.declared.Pair.{Pair}
@@ -14,8 +13,9 @@ use Rattle.machine.specs.RefusalsLaws.{then-answer, buffer-valid, then-same, af
 use Rattle.machine.specs.Machines.{matched, moves, starts, successors, nC, nA, setsA}
 use Rattle.machine.specs.WellFormedLaws.{WellPair, well-valid}
 use Rattle.machine.specs.Lassos.{Lasso, moment}
-use Rattle.machine.specs.Step.{partner, stateOf}
+use Rattle.machine.specs.Step.{stateOf}
 use Rattle.machine.specs.PartnerLaws.{partner-below}
+use Rattle.machine.specs.SingleStepLaws.{single-below}
 use Rattle.machine.specs.Table.{tableRoom, entry, SameEntries}
 use Rattle.machine.specs.EntriesLaws.{entry-same, covers-same, lines-same}
 use Rattle.machine.specs.Lines.{nonBlank}
@@ -25,16 +25,21 @@ use Rattle.soundness.specs.PlayerLaws.{GoodLasso, good-lasso, good-play,
 
 module _ (p : Pair) (T U : List ℕ) (same : SameEntries p T U) where
   -- ---- the rule's partners, among moves to states of the machine
-  partner-unread : (moves j d : ℕ) → j < setsA p → d < nC p → ((i : ℕ) → i < 64 → hasBit moves i ≡ true → i < nA p)
-      → partner moves (nonBlank p T j d) (entry p T j d) ≡ partner moves (nonBlank p U j d) (entry p U j d)
+  nonBlank-unread : (j d i : ℕ) → j < setsA p → d < nC p → i < nA p → nonBlank p T j d i ≡ nonBlank p U j d i
   unfolding nonBlank
-  partner-unread moves j d hj hd moved = partner-below moves (nA p) _ _ _ _ moved
-      (λ i h. ap (and (matched p d i)) (covers-same p T U same j d i hj hd h)) (λ i h. entry-same p T U same j d i hj hd h)
+  nonBlank-unread j d i hj hd h = ap (and (matched p d i)) (covers-same p T U same j d i hj hd h)
 
   module _ (w : WellPair p) where
     start-unread : (c : ℕ) → c < nC p → startPartner p T c ≡ startPartner p U c
     unfolding startPartner starts
-    start-unread c hc = partner-unread (p .abstraction .start) 0 c (w .abstraction .sets-low) hc (w .abstraction .start-bits)
+    start-unread c hc =
+        let z = w .abstraction .sets-low in
+        partner-below (p .abstraction .start) (nA p) _ _ _ _ (w .abstraction .start-bits) (λ i. nonBlank-unread 0 c i z hc) (λ i. entry-same p T U same 0 c i z hc)
+
+    follow-unread : (j : ℕ) (at : Place) (d : ℕ) → j < setsA p → d < nC p → at .state < nA p → follow p T j at d ≡ follow p U j at d
+    unfolding follow moves
+    follow-unread j at d hj hd ha = single-below (at .state) (successors (p .abstraction) (at .state)) (nA p) _ _ _ _ (λ b. w .abstraction .move-bits (at .state) b ha)
+        (λ i. nonBlank-unread j d i hj hd) (λ i. entry-same p T U same j d i hj hd)
 
     starts-unread : (l : Lasso) → moment l 0 < nC p → startValidity p T l ≡ startValidity p U l
     unfolding startValidity
@@ -43,11 +48,11 @@ module _ (p : Pair) (T U : List ℕ) (same : SameEntries p T U) where
     -- a step from a place whose state and section are the machines'
     step-unread : (c d : ℕ) (at : Place) → c < nC p → d < nC p → at .state < nA p → at .section < setsA p → stepTo p T c at d .section < setsA p
         → stepTo p T c at d ≡ stepTo p U c at d
-    unfolding stepTo sectionAfter follow moves
+    unfolding stepTo sectionAfter
     step-unread c d at hc hd ha hj hk =
         rw (← entry-same p T U same (at .section) c (at .state) hj hc ha)
         (λ i. record {
-          state = stateOf (partner-unread (successors (p .abstraction) (at .state)) _ d hk hd (λ b. w .abstraction .move-bits (at .state) b ha) i);
+          state = stateOf (follow-unread _ at d hk hd ha i);
           section = sectionAfter p T c at;
         })
 

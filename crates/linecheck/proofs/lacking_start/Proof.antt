@@ -49,9 +49,9 @@ covered c =
     let i = c .before .before in
     let l = i .before .before .before .before in
     let x = top l .args in
-    c .has-partner .ensures
+    c .has-partner .ensures 0
     ∙ start-found (x .p) (x .table .now) (well l) (small l) (l .loop .c) (i .entry-index .result) (i .entry-index .result + x .p .abstraction .states)
-    (place-at (x .p) (well l) _ 0 (l .loop .c) 0 (i .entry-index .ensures) (omega arith) (omega arith) (omega arith)) refl (room i) _
+    (place-at (x .p) (well l) _ 0 (l .loop .c) 0 (i .entry-index .ensures) (omega arith) (omega arith) (omega arith)) refl (room i) 0 _
 
 loop-holds : tie.Need-loop-holds Inv-loop μ-loop
 loop-holds c = (search needs, below-none _)

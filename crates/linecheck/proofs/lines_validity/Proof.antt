@@ -231,7 +231,7 @@ row-in r =
 abbrev moves-of : Lined → ℕ
 moves-of l = getD (p-of (entry l) .abstraction .successors) (a-of (entry l)) 0
 
--- what the single step says of the taken state
+-- what the single step says of the taken state, whatever the present one
 told : (c : tie.After-has-partner Inv-loop3 μ-loop3 Inv-loop2 μ-loop2 Inv-loop μ-loop Inv-lines μ-lines)
     → let r = c .before .before in
     let l = lined (walk (taken r)) in
@@ -241,9 +241,9 @@ told c =
     let r = c .before .before in
     let l = lined (walk (taken r)) in
     let d = entry l in
-    c .has-partner .ensures
+    c .has-partner .ensures 0
     ∙ step-found (p-of d) (T-of d) (well d) (masks-of d) (made d) (l .line-of .result .section) (taken r .lowest .result) (r .entry-index2 .result) (r .entry-index2 .result + nA (p-of d)) (row-of r) refl
-    (row-in r) (taken-in (taken r)) (moves-of l) (l .line-of .result .bound) _
+    (row-in r) (taken-in (taken r)) 0 (moves-of l) (l .line-of .result .bound) _
 
 -- the first entry that fails is where the loops are left, with its spot
 stopped : (l : Lined)

@@ -1,4 +1,4 @@
--- There is a partner exactly if there is one among the states that are left; each turn takes the lowest of them.
+-- Whatever the present state, there is a partner exactly if there is one among the states that are left; each turn takes the lowest of them.
 use mathlib.Core.Logic.{⊎-elim}
 use mathlib.Core.Path.{_≡_, sym, ap, _∙_}
 use Prim.Native.Nat.{ℕ, _<_, _^_}
@@ -10,14 +10,15 @@ use Rattle.mask.specs.BitsLaws.{rest-lt}
 use Rattle.mask.specs.Bounded.{someIn}
 use Rattle.mask.specs.BoundedLaws.{someIn-zero}
 use Rattle.mask.specs.WalkLaws.{someIn-hit, someIn-miss}
-use Rattle.machine.specs.Step.{partner, inRow, found}
-use Rattle.machine.specs.PartnerLaws.{within, within-hit, within-miss, found-row}
+use Rattle.machine.specs.Step.{singleStep, inRow, found}
+use Rattle.machine.specs.PartnerLaws.{within, within-hit, within-miss}
+use Rattle.machine.specs.SingleStepLaws.{single-row}
 use Rattle.machine.proofs.has_partner.Statement.{statement}
 use Rattle.machine.proofs.has_partner.Tie as tie
 
 abbrev Inv-loop : tie.InvT-loop
 Inv-loop moves matched row bound m₀ m =
-    (m < 2 ^ 64) × (found (partner moves (inRow matched row bound) (λ a. getD row a 0)) ≡ someIn 64 m (within row bound))
+    (m < 2 ^ 64) × (((present : ℕ) → found (singleStep present moves (inRow matched row bound) (λ a. getD row a 0)) ≡ someIn 64 m (within row bound)))
 
 abbrev μ-loop : tie.MeasureT-loop
 μ-loop moves matched row bound m₀ m = m
@@ -26,7 +27,7 @@ loop-holds : tie.Need-loop-holds Inv-loop μ-loop
 loop-holds c =
     let x = c .before .args in (
       omega (arith, and-le-l (x .moves) (x .matched)),
-      found-row (x .moves) (x .matched) (x .row .now) (x .bound) (λ a. getD (x .row .now) a 0),
+      λ present. single-row present (x .moves) (x .matched) (x .row .now) (x .bound) (λ a. getD (x .row .now) a 0),
     )
 
 lowest-requires : tie.Need-lowest-requires Inv-loop μ-loop
@@ -43,7 +44,7 @@ returns c =
     let l = c .before .before .before .before .before .loop in
     let x = c .before .before .before .before .before .before .before .args in
     let a = c .before .before .before .lowest in
-    sym (l .inv .1 ∙ someIn-hit 64 (l .m) (within (x .row .now) (x .bound)) (a .result) (omega arith) (l .inv .0) (a .ensures)
+    λ present. sym (l .inv .1 present ∙ someIn-hit 64 (l .m) (within (x .row .now) (x .bound)) (a .result) (omega arith) (l .inv .0) (a .ensures)
     (within-hit (x .row .now) (x .bound) (a .result) (omega arith) (omega arith)))
 
 rest-requires : tie.Need-rest-requires Inv-loop μ-loop
@@ -58,7 +59,7 @@ loop-again c =
     let x = c .before .before .before .before .before .before .args in
     let a = c .before .before .lowest in (
       omega (arith, c .rest .ensures, rest-lt (l .m) (omega arith)),
-      l .inv .1 ∙ someIn-miss 64 (l .m) (within (x .row .now) (x .bound)) (a .result) (omega arith) (l .inv .0) (a .ensures)
+      λ present. l .inv .1 present ∙ someIn-miss 64 (l .m) (within (x .row .now) (x .bound)) (a .result) (omega arith) (l .inv .0) (a .ensures)
           (within-miss (x .row .now) (x .bound) (a .result) (λ h. ⊎-elim (λ w. omega arith) (λ w. omega arith) (c .before .if1 .came)))
           ∙ ap (λ (m : ℕ). someIn 64 m (within (x .row .now) (x .bound))) (sym (c .rest .ensures)),
     )
@@ -66,7 +67,7 @@ loop-again c =
 returns-2 : tie.Need-returns-2 Inv-loop μ-loop
 returns-2 c =
     let x = c .before .before .before .args in
-    sym (c .before .loop .inv .1 ∙ ap (λ (m : ℕ). someIn 64 m (within (x .row .now) (x .bound))) (c .loop-test .left)
+    λ present. sym (c .before .loop .inv .1 present ∙ ap (λ (m : ℕ). someIn 64 m (within (x .row .now) (x .bound))) (c .loop-test .left)
     ∙ someIn-zero 64 (within (x .row .now) (x .bound)))
 
 pub has-partner-spec : {M : Type 1} → statement M

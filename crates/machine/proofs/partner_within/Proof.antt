@@ -1,82 +1,116 @@
--- The best state and its limit are those of the states passed; each turn takes the lowest state that is left.
-use mathlib.Core.Logic.{⊎-elim}
-use mathlib.Core.Path.{sym, _∙_}
-use Prim.Native.Nat.{_<_}
+-- The lowest state of least entry is found first; the present state takes its place if it is in the set and as good.
+use mathlib.Core.Bool.{true}
+use mathlib.Core.Path.{_≡_, sym, _∙_}
+use Prim.Native.Nat.{ℕ, _≤_, _<_}
 use native.Mathlib.Omega.{arith}
-use lib.Bits.{bitAnd, and-le-l}
-use lib.ListN.{getD}
+use lib.ListN.{length, getD}
 use borrow.Author.Needs.{needs}
-use Rattle.mask.specs.BitsLaws.{rest-lt}
-use Rattle.machine.specs.PartnerLaws.{Walked, walked-start, walked-take, walked-keep, walked-done, partner-row}
+use Rattle.mask.specs.LogicLaws.{and-l, and-r, and-i, clash}
+use Rattle.mask.specs.BitsLaws.{has-and, has-lt}
+use Rattle.machine.specs.declared.Partner.{Partner}
+use Rattle.machine.specs.declared.Partner.the-variants.{State}
+use Rattle.machine.specs.Step.{singleStep, inRow}
+use Rattle.machine.specs.PartnerLaws.{Best, partner-at}
+use Rattle.machine.specs.RowLaws.{inRow-at, inRow-of}
+use Rattle.machine.specs.SingleStepLaws.{single-stays, single-leaves, single-nobody}
 use Rattle.machine.proofs.partner_within.Statement.{statement}
 use Rattle.machine.proofs.partner_within.Tie as tie
 
-abbrev Inv-loop : tie.InvT-loop
-Inv-loop moves matched row bound m₀ best₀ limit₀ m best limit = Walked row bound (bitAnd moves matched) m best limit
+abbrev top : tie.After-has → tie.Start
+top c = c .before .before .before .before .before .before
 
-abbrev μ-loop : tie.MeasureT-loop
-μ-loop moves matched row bound m₀ best₀ limit₀ m best limit = m
+-- the entry of a state, the lowest state of least entry, and the partner
+abbrev key : tie.After-has → ℕ → ℕ
+key c a = getD (top c .args .row .now) a 0
 
-add-limit : tie.Need-add-limit Inv-loop μ-loop
-add-limit c = search needs
+abbrev lowest : tie.After-has → ℕ
+lowest c = c .before .before .found .given .0 .0
 
-loop-holds : tie.Need-loop-holds Inv-loop μ-loop
-loop-holds c =
-    let x = c .before .args in
-    walked-start (x .row .now) (x .bound) (bitAnd (x .moves) (x .matched)) (omega (arith, and-le-l (x .moves) (x .matched)))
+abbrev named : tie.After-has → Partner
+named c = let x = top c .args in singleStep (x .present) (x .moves) (inRow (x .matched) (x .row .now) (x .bound)) (key c)
 
-lowest-requires : tie.Need-lowest-requires Inv-loop μ-loop
-lowest-requires c κs = search needs
+best : (c : tie.After-has) → let x = top c .args in Best (x .moves) (inRow (x .matched) (x .row .now) (x .bound)) (key c) (lowest c)
+best c =
+    let x = top c .args in
+    partner-at (x .moves) (inRow (x .matched) (x .row .now) (x .bound)) (key c) (lowest c)
+    (sym (c .before .before .before .before .least-within .ensures) ∙ c .before .before .found .given .1)
 
-mul-e : tie.Need-mul-e Inv-loop μ-loop
-mul-e c = search needs
+lowest-row : (c : tie.After-has) → (lowest c < length (top c .args .row .now)) × (key c (lowest c) ≤ top c .args .bound)
+lowest-row c = let x = top c .args in let r = inRow-at (x .matched) (x .row .now) (x .bound) (lowest c) (best c .inside) in (r .1, r .2)
 
-shared-slice-read-e : tie.Need-shared-slice-read-e Inv-loop μ-loop
-shared-slice-read-e c = search needs
+-- the present state is as good
+stays : (c : tie.After-has) → c .has .result ≡ true → top c .args .present < length (top c .args .row .now)
+    → key c (top c .args .present) ≤ key c (lowest c) → State (top c .args .present) ≡ named c
+stays c t h l =
+    let x = top c .args in
+    let bits = sym (has-and (x .present) (x .moves) (x .matched)) ∙ sym (c .has .ensures) ∙ t in
+    sym (single-stays (x .present) (key c) (x .moves) _ (lowest c) (best c) (has-lt 64 (x .moves) (x .present) (omega arith) (and-l _ _ bits)) (and-l _ _ bits)
+    (inRow-of (x .matched) (x .row .now) (x .bound) (x .present) (and-r _ _ bits) h (omega (arith, lowest-row c .1))) l)
 
-cast-e : tie.Need-cast-e Inv-loop μ-loop
-cast-e c = omega (arith, c .shared-slice-known2 .given (c .before .before .lowest .result))
+-- it is not
+leaves : (c : tie.After-has) → (c .has .result ≡ true → top c .args .present < length (top c .args .row .now) → key c (lowest c) < key c (top c .args .present))
+    → State (lowest c) ≡ named c
+leaves c worse =
+    let x = top c .args in
+    sym (single-leaves (x .present) (key c) (x .moves) _ (lowest c) (best c) (λ l m s.
+    let r = inRow-at (x .matched) (x .row .now) (x .bound) (x .present) s in
+    worse (c .has .ensures ∙ has-and (x .present) (x .moves) (x .matched) ∙ and-i m (r .0)) (r .1)))
 
-rest-requires : tie.Need-rest-requires Inv-loop μ-loop
-rest-requires c κs = search needs
+least-within-requires : tie.Need-least-within-requires
+least-within-requires c κs = search needs
 
-loop-less : tie.Need-loop-less Inv-loop μ-loop
-loop-less c = omega (arith, c .rest .ensures, rest-lt (c .before .before .before .before .loop .m) (omega arith))
+enum-known-found : tie.Need-enum-known-found
+enum-known-found c = search needs
 
-loop-again : tie.Need-loop-again Inv-loop μ-loop
-loop-again c =
-    let l = c .before .before .before .before .loop in
-    let x = c .before .before .before .before .before .before .args in
-    let a = c .before .before .lowest in
-    let moves = bitAnd (x .moves) (x .matched) in
-    let p : 0 < l .m = omega arith in
-    let keep = walked-keep (x .row .now) (x .bound) moves (l .m) (l .best) (l .limit) (a .result) p (a .ensures) (l .inv) in
-    let take = walked-take (x .row .now) (x .bound) moves (l .m) (l .best) (l .limit) (a .result) p (a .ensures) (l .inv) in
-    rw (c .rest .ensures) (⊎-elim
-    (λ w. rw (w .3, w .4) (take (w .0 .taken) (w .2 .taken)))
-    (⊎-elim (λ w. rw (w .3, w .4) (keep (λ h. w .2 .left))) (λ w. rw (w .1, w .2) (keep (λ h. omega arith))))
-    (c .before .if1 .came))
+enum-told : tie.Need-enum-told
+enum-told c = search needs
 
-returns : tie.Need-returns Inv-loop μ-loop
+returns : tie.Need-returns
 returns c =
-    let l = c .before .loop in
-    let x = c .before .before .before .args in
-    walked-done (x .row .now) (x .bound) (bitAnd (x .moves) (x .matched)) (l .best) (l .limit) (rw (c .loop-test .left) at (l .inv))
-    ∙ sym (partner-row (x .moves) (x .matched) (x .row .now) (x .bound) (λ a. getD (x .row .now) a 0))
+    let x = c .before .before .before .before .args in
+    sym (single-nobody (x .present) (λ a. getD (x .row .now) a 0) (x .moves) _ (sym (c .before .before .least-within .ensures) ∙ c .enum-told .given .1))
+
+has-requires : tie.Need-has-requires
+has-requires c κs = search needs
+
+mul-if3 : tie.Need-mul-if3
+mul-if3 c = search needs
+
+shared-slice-read-if3 : tie.Need-shared-slice-read-if3
+shared-slice-read-if3 c = search needs
+
+mul-if3-2 : tie.Need-mul-if3-2
+mul-if3-2 c = omega (arith, best (c .before .before .before) .below)
+
+shared-slice-read-if3-2 : tie.Need-shared-slice-read-if3-2
+shared-slice-read-if3-2 c = lowest-row (c .before .before .before .before) .0
+
+returns-2 : tie.Need-returns-2
+returns-2 c = let h = c .before .before .before .before .before in stays h (c .before .before .before .before .if1 .taken) (c .before .before .before .if2 .taken) (c .if3 .taken)
+
+returns-3 : tie.Need-returns-3
+returns-3 c = leaves (c .before .before .before .before .before) (λ t h. c .if3 .left)
+
+returns-4 : tie.Need-returns-4
+returns-4 c = leaves (c .before .before) (λ t h. absurd (omega arith))
+
+returns-5 : tie.Need-returns-5
+returns-5 c = leaves (c .before) (λ t h. absurd (clash (c .if1 .left) t))
 
 pub partner-within-spec : {M : Type 1} → statement M
 partner-within-spec =
     tie.close
     (tie.spec
-    Inv-loop
-    μ-loop
-    add-limit
-    loop-holds
-    lowest-requires
-    mul-e
-    shared-slice-read-e
-    cast-e
-    rest-requires
-    loop-less
-    loop-again
-    returns)
+    least-within-requires
+    enum-known-found
+    enum-told
+    returns
+    has-requires
+    mul-if3
+    shared-slice-read-if3
+    mul-if3-2
+    shared-slice-read-if3-2
+    returns-2
+    returns-3
+    returns-4
+    returns-5)

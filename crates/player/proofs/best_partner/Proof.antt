@@ -47,7 +47,7 @@ returns c =
     let r = top d .pre in
     let small : (i : ℕ) → getD (x .table .now) i 0 ≤ blank = λ i. omega (arith, d .before .before .shared-slice-known .given i) in
     c .partner-within .ensures ∙ rw (r .0 .masks) (row-partner (x .p) (x .table .now) (r .0 .well) small (x .j) (x .d)
-    (e .entry-index .result) (e .entry-index .result + nA (x .p)) (r .1 .0 .1) (from e) refl (omega (arith, row-low e, r .0 .long)) (x .moves) (r .1 .1))
+    (e .entry-index .result) (e .entry-index .result + nA (x .p)) (r .1 .0 .1) (from e) refl (omega (arith, row-low e, r .0 .long)) (x .present) (x .moves) (r .1 .1))
 
 mul-partner-within-2 : tie.Need-mul-partner-within-2
 mul-partner-within-2 c = omega (arith, row-low (c .before))

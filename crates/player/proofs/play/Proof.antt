@@ -12,12 +12,10 @@ use Rattle.machine.specs.RefusalsLaws.{tested-valid, tested-refused}
 use Rattle.machine.specs.Machines.{starts}
 use Rattle.machine.specs.WellFormedLaws.{WellPair, well-valid}
 use Rattle.machine.specs.Lassos.{Lasso, moment, given}
-use Rattle.machine.specs.Step.{partner, stateOf}
-use Rattle.machine.specs.Table.{entry}
-use Rattle.machine.specs.Lines.{nonBlank}
+use Rattle.machine.specs.Step.{stateOf}
 use Rattle.machine.specs.Verdict.{Verdict, carried, notCarried}
 use Rattle.machine.specs.Player.{lassoValidity, startPartner}
-use Rattle.machine.specs.PlayerLaws.{play-valid}
+use Rattle.machine.specs.PlayerLaws.{start-single, play-valid}
 use Rattle.linecheck.specs.declared.Checked.{Checked}
 use Rattle.linecheck.specs.declared.Checked.the-variants.{Carried, NotCarried, Refused}
 use Rattle.linecheck.specs.Answers.{verdictOf}
@@ -132,11 +130,11 @@ begun c = c .before .before .before .before .before
 
 first-is : (c : tie.After-best-partner) → let d = checked (begun c) .before .before in
     c .best-partner .result ≡ startPartner (top d .args .p) (top d .args .table .now) (moment (lasso d) 0)
-unfolding startPartner
 first-is c =
     let x = top (checked (begun c) .before .before) .args in
     c .best-partner .ensures
-    ∙ ap (λ (b : ℕ). partner (x .p .abstraction .start) (nonBlank (x .p) (x .table .now) 0 b) (entry (x .p) (x .table .now) 0 b)) (c .before .before .state-at .ensures)
+    ∙ start-single (x .p) (x .table .now) _ _ (omega arith)
+    ∙ ap (startPartner (x .p) (x .table .now)) (c .before .before .state-at .ensures)
 
 enum-known-first : tie.Need-enum-known-first
 enum-known-first c = search needs

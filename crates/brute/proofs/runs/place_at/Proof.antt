@@ -6,6 +6,7 @@ use native.Mathlib.Omega.{arith}
 use borrow.Author.Needs.{needs}
 use Rattle.machine.specs.Lassos.{given}
 use Rattle.machine.specs.Player.{placeAt, startPartner}
+use Rattle.machine.specs.PlayerLaws.{start-single}
 use Rattle.machine.specs.WellFormedLaws.{WellPair, well-pair}
 use Rattle.brute.specs.Runs.{asPlace}
 use Rattle.brute.specs.ScanLaws.{Placed, place-next, place-start, placed}
@@ -40,11 +41,10 @@ state-of-requires : tie.Need-state-of-requires Inv-loop μ-loop
 state-of-requires c κs = search needs
 
 loop-holds : tie.Need-loop-holds Inv-loop μ-loop
-unfolding startPartner
 loop-holds c =
     let x = c .before .before .before .before .before .before .before .args in
     let l = given (x .stem .now) (x .cycle .now) in
-    (search needs, rw (c .state-of .ensures) (place-start (x .p) (x .table .now) l _ (c .before .least-partner .ensures ∙ ap (startPartner (x .p) (x .table .now)) (c .before .before .moment-at .ensures))))
+    (search needs, rw (c .state-of .ensures) (place-start (x .p) (x .table .now) l _ (c .before .least-partner .ensures ∙ start-single (x .p) (x .table .now) _ _ (omega arith) ∙ ap (startPartner (x .p) (x .table .now)) (c .before .before .moment-at .ensures))))
 
 moment-at-requires-2 : tie.Need-moment-at-requires-2 Inv-loop μ-loop
 moment-at-requires-2 c κs = search needs

@@ -13,7 +13,7 @@ use Rattle.machine.specs.RefusalsLaws.{tested-refused, tested-valid}
 use Rattle.machine.specs.WellFormed.{pairValidity}
 use Rattle.machine.specs.WellFormedLaws.{mul-bound, valid-is-well}
 use Rattle.brute.specs.Runs.{playedOf}
-use Rattle.machine.specs.PlayerLaws.{lasso-length, play-alone, play-fails, play-ill, play-unfit, play-valid}
+use Rattle.machine.specs.PlayerLaws.{lasso-length, play-alone, play-fails, play-ill, play-unfit, play-valid, start-single}
 use Rattle.brute.specs.ScanLaws.{played-refused, played-run}
 use Rattle.brute.proofs.runs.plain_play.Statement.{statement}
 use Rattle.brute.proofs.runs.plain_play.Tie as tie
@@ -30,8 +30,7 @@ fits c = tested-valid (c .before .before .lasso-fits .ensures) (c .enum-told3 .g
 start : (c : tie.After-least-partner)
     → let x = c .before .before .before .before .before .before .before .before .before .before .before .before .before .before .before .args in
     c .least-partner .result ≡ startPartner (x .p) (x .table .now) (moment (given (x .stem .now) (x .cycle .now)) 0)
-unfolding startPartner
-start c = c .least-partner .ensures ∙ ap (startPartner (c .before .before .before .before .before .before .before .before .before .before .before .before .before .before .before .args .p) (c .before .before .before .before .before .before .before .before .before .before .before .before .before .before .before .args .table .now)) (c .before .moment-at .ensures)
+start c = c .least-partner .ensures ∙ start-single _ _ _ _ (omega arith) ∙ ap (startPartner (c .before .before .before .before .before .before .before .before .before .before .before .before .before .before .before .args .p) (c .before .before .before .before .before .before .before .before .before .before .before .before .before .before .before .args .table .now)) (c .before .moment-at .ensures)
 
 -- the rounds and the lasso's length are small numbers
 room : (c : tie.After-earlier-round)

@@ -8,7 +8,7 @@ use lib.ListN.{getD}
 use borrow.Author.Needs.{needs}
 use Rattle.machine.specs.Machines.{nC, nA, setsA, moves, successors, next}
 use Rattle.machine.specs.Lassos.{Lasso, moment, given}
-use Rattle.machine.specs.Step.{partner, stateOf}
+use Rattle.machine.specs.Step.{singleStep, stateOf}
 use Rattle.machine.specs.Table.{tableRoom, entryIndex, entry}
 use Rattle.machine.specs.Lines.{nonBlank}
 use Rattle.machine.specs.PlayerLaws.{after-lt}
@@ -127,7 +127,7 @@ ruled-section c =
 
 ruled-state : (c : tie.After-state-of) → let s = c .before .before .before in let d = begun s in let x = top d .args in
     let j = s .section-after .result in let b = moment (lasso d) (s .before .onward .result .position) in
-    c .state-of .result ≡ stateOf (partner (successors (x .p .abstraction) (x .self .a)) (nonBlank (x .p) (x .table .now) j b) (entry (x .p) (x .table .now) j b))
+    c .state-of .result ≡ stateOf (singleStep (x .self .a) (successors (x .p .abstraction) (x .self .a)) (nonBlank (x .p) (x .table .now) j b) (entry (x .p) (x .table .now) j b))
 unfolding successors
 ruled-state c =
     let s = c .before .before .before in
@@ -135,7 +135,7 @@ ruled-state c =
     let j = s .section-after .result in
     let m = successors (x .p .abstraction) (x .self .a) in
     c .state-of .ensures ∙ ap stateOf (c .before .best-partner .ensures
-    ∙ ap (λ (b : ℕ). partner m (nonBlank (x .p) (x .table .now) j b) (entry (x .p) (x .table .now) j b)) (c .before .before .state-at2 .ensures))
+    ∙ ap (λ (b : ℕ). singleStep (x .self .a) m (nonBlank (x .p) (x .table .now) j b) (entry (x .p) (x .table .now) j b)) (c .before .before .state-at2 .ensures))
 
 returns : tie.Need-returns
 returns c =
