@@ -79,7 +79,7 @@ module _ (p : Pair) (T : List ℕ) (small : (i : ℕ) → getD T i 0 ≤ blank) 
 -- ---- places stay within the abstract machine's 64 states and its sections
 pub state-small : (moves : ℕ) (S : ℕ → Bool) (key : ℕ → ℕ) → stateOf (partner moves S key) < 64
 unfolding stateOf
-state-small moves S key = ⊎-elim (λ v. rw (v .1) (v .2 .below)) (λ v. rw (v .0) (omega arith)) (partner-view moves S key)
+state-small moves S key = ⊎-elim (λ v. rw (v .1) (v .2 .candidate .below)) (λ v. rw (v .0) (omega arith)) (partner-view moves S key)
 
 module _ (p : Pair) (T : List ℕ) where
   pub record Placed (at : Place) : Type 0 where

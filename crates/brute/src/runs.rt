@@ -1,4 +1,4 @@
-// The plain reading of document 01's "Player".
+// The plain reading of document 01's "Player", with the single step of document 02, No. 10.
 ghost use mathlib.Core.Bool.{true};
 ghost use mathlib.Core.Path.{_≡_};
 ghost use Prim.Native.Nat.{_+_, _<_, _≤_};

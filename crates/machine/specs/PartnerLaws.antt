@@ -1,4 +1,4 @@
--- Laws of the single step: what it names, and what one turn of a walk does to the best state so far.
+-- Laws of the search for a partner of least key: what it names, and what one turn of a walk does to the best state so far.
 use mathlib.Core.Bool.{Bool, true, false, cond}
 use mathlib.Core.Logic.{_⊎_, inl, inr, ⊎-elim, by-cases}
 use mathlib.Core.Path.{_≡_, refl, sym, ap, subst, _∙_}
@@ -20,6 +20,7 @@ use Rattle.mask.specs.WalkLaws.{rest-above, rest-has, rest-keeps, rest-small}
 use Rattle.machine.specs.declared.Partner.{Partner}
 use Rattle.machine.specs.declared.Partner.the-variants.{State, Nobody}
 use Rattle.machine.specs.Step.{better, least, partner, alike, inRow, found}
+use Rattle.machine.specs.SingleStep.{Candidate, Best}
 
 -- ---- the least of the numbers below n
 -- a has the least key of the numbers below n that pass, and is the lowest of these
@@ -129,34 +130,27 @@ least-same n p q key rank h k =
         }
 
 -- ---- the partner
--- a is in the moves and in the set, has the least key of these, and is the lowest of these
-pub record Best (moves : ℕ) (S : ℕ → Bool) (key : ℕ → ℕ) (a : ℕ) : Type 0 where
-  pub below : a < 64
-  pub moved : hasBit moves a ≡ true
-  pub inside : S a ≡ true
-  pub keyed : (i : ℕ) → i < 64 → hasBit moves i ≡ true → S i ≡ true → key a ≤ key i
-  pub first : (i : ℕ) → i < a → hasBit moves i ≡ true → S i ≡ true → key a < key i
-
--- a state of the moves that is in the set
+-- the test of a candidate
 abbrev pub candidate : ℕ → (ℕ → Bool) → ℕ → Bool
 candidate moves S a = and (hasBit moves a) (S a)
 
 module _ (moves : ℕ) (S : ℕ → Bool) (key : ℕ → ℕ) where
+  candidate-at : (i : ℕ) → i < 64 → candidate moves S i ≡ true → Candidate moves S i
+  candidate-at i h t = record { below = h; moved = and-l _ _ t; inside = and-r _ _ t }
+
   best-least : (a : ℕ) → Best moves S key a → Least 64 (candidate moves S) key a
   best-least a b = record {
-    below = b .below;
-    passes = and-i (b .moved) (b .inside);
-    keyed = λ i h t. b .keyed i h (and-l _ _ t) (and-r _ _ t);
-    first = λ i h t. b .first i h (and-l _ _ t) (and-r _ _ t);
+    below = b .candidate .below;
+    passes = and-i (b .candidate .moved) (b .candidate .inside);
+    keyed = λ i h t. b .least i (candidate-at i h t);
+    first = λ i h t. b .lowest i h (candidate-at i (omega (arith, b .candidate .below)) t);
   }
 
   least-best : (a : ℕ) → Least 64 (candidate moves S) key a → Best moves S key a
   least-best a l = record {
-    below = l .below;
-    moved = and-l _ _ (l .passes);
-    inside = and-r _ _ (l .passes);
-    keyed = λ i h e t. l .keyed i h (and-i e t);
-    first = λ i h e t. l .first i h (and-i e t);
+    candidate = candidate-at a (l .below) (l .passes);
+    least = λ i c. l .keyed i (c .below) (and-i (c .moved) (c .inside));
+    lowest = λ i h c. l .first i h (and-i (c .moved) (c .inside));
   }
 
   pub partner-is : (a : ℕ) → Best moves S key a → partner moves S key ≡ State a
@@ -205,11 +199,9 @@ module _ (moves row : ℕ) (h : moves < 2 ^ 64) where
       let p : 0 < m = omega arith in
       let t : and (hasBit moves a) (hasBit row a) ≡ true = sym (has-and a moves row) ∙ lowest-set 64 m p small in
       partner-is moves (hasBit row) alike a (record {
-        below = lowest-lt 64 m p small;
-        moved = and-l _ _ t;
-        inside = and-r _ _ t;
-        keyed = λ i l e u. omega arith;
-        first = λ i l e u. absurd (clash (lowest-least 64 m i l) (has-and i moves row ∙ and-i e u));
+        candidate = candidate-at moves (hasBit row) alike a (lowest-lt 64 m p small) t;
+        least = λ i c. omega arith;
+        lowest = λ i l c. absurd (clash (lowest-least 64 m i l) (has-and i moves row ∙ and-i (c .moved) (c .inside)));
       })
 
   pub partner-nobody : bitAnd moves row ≡ 0 → partner moves (hasBit row) alike ≡ Nobody

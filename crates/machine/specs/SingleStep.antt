@@ -13,6 +13,12 @@ pub record Candidate (moves : ℕ) (S : ℕ → Bool) (a : ℕ) : Type 0 where
   pub moved : hasBit moves a ≡ true
   pub inside : S a ≡ true
 
+-- a has the least key of these, and is the lowest of those that have it
+pub record Best (moves : ℕ) (S : ℕ → Bool) (key : ℕ → ℕ) (a : ℕ) : Type 0 where
+  pub candidate : Candidate moves S a
+  pub least : (i : ℕ) → Candidate moves S i → key a ≤ key i
+  pub lowest : (i : ℕ) → i < a → Candidate moves S i → key a < key i
+
 -- a is the chosen partner in a set S with entries: "least entry, then the present score state if it is among them, then the lowest number"
 pub record Chosen (present moves : ℕ) (S : ℕ → Bool) (entries : ℕ → ℕ) (a : ℕ) : Type 0 where
   pub candidate : Candidate moves S a

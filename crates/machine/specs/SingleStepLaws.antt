@@ -17,8 +17,8 @@ use Rattle.mask.specs.BoundedLaws.{someIn-of}
 use Rattle.machine.specs.declared.Partner.{Partner}
 use Rattle.machine.specs.declared.Partner.the-variants.{State, Nobody}
 use Rattle.machine.specs.Step.{partner, staying, singleStep, alike, inRow, found, stateOf}
-use Rattle.machine.specs.PartnerLaws.{Best, partner-is, partner-none, partner-found, partner-view, partner-at, partner-below, partner-lowest, partner-nobody, within, found-row}
-use Rattle.machine.specs.SingleStep.{Candidate, Chosen, Names, NamesChosen, FoundAnywhere}
+use Rattle.machine.specs.PartnerLaws.{partner-is, partner-none, partner-found, partner-view, partner-at, partner-below, partner-lowest, partner-nobody, within, found-row}
+use Rattle.machine.specs.SingleStep.{Candidate, Best, Chosen, Names, NamesChosen, FoundAnywhere}
 
 -- ---- the key
 module _ (present : ℕ) (entries : ℕ → ℕ) where
@@ -45,59 +45,17 @@ module _ (present : ℕ) (entries : ℕ → ℕ) where
     unfolding singleStep
     single-found = partner-found moves S Key
 
-    -- ---- beside the lowest state b of least entry: the present state is named if it is as good, else b
-    module _ (b : ℕ) (best : Best moves S entries b) where
-      pub single-stays : present < 64 → hasBit moves present ≡ true → S present ≡ true → entries present ≤ entries b → singleStep present moves S entries ≡ State present
-      unfolding singleStep
-      single-stays h m s l = partner-is moves S Key present (record {
-        below = h;
-        moved = m;
-        inside = s;
-        keyed = λ i k t u. omega (arith, staying-here present refl, best .keyed i k t u, staying-low i);
-        first = λ i k t u. omega (arith, staying-here present refl, best .keyed i (omega arith) t u, staying-away i (λ e. omega arith));
-      })
-
-      pub single-leaves : (present < 64 → hasBit moves present ≡ true → S present ≡ true → entries b < entries present) → singleStep present moves S entries ≡ State b
-      unfolding singleStep
-      single-leaves worse = partner-is moves S Key b (record {
-        below = best .below;
-        moved = best .moved;
-        inside = best .inside;
-        keyed = λ i k t u. by-cases (ℕ-discrete i present)
-            (λ e. omega (arith, staying-high b, staying-low i, passed i e k t u)) (λ n. omega (arith, staying-high b, staying-away i n, best .keyed i k t u));
-        first = λ i k t u. omega (arith, staying-high b, staying-low i, best .first i k t u);
-      })
-        where
-          passed : (i : ℕ) → i ≡ present → i < 64 → hasBit moves i ≡ true → S i ≡ true → entries b < entries i
-          passed i e h t u = let l = worse (rw e at h) (rw e at t) (rw e at u) in rw e l
-
-    pub single-nobody : partner moves S entries ≡ Nobody → singleStep present moves S entries ≡ Nobody
-    unfolding singleStep found
-    single-nobody e = partner-none moves S Key (λ i h t. refute (S i) (λ u. clash (sym (partner-found moves S entries) ∙ ap found e) (someIn-of 64 moves S i h t u)))
-
-    -- where the present state is no candidate, the lowest number of least entry is named
-    pub single-away : (present < 64 → hasBit moves present ≡ true → S present ≡ true → ⊥) → singleStep present moves S entries ≡ partner moves S entries
-    single-away out =
-        ⊎-elim (λ v. single-leaves (v .0) (v .2) (λ h m s. absurd (out h m s)) ∙ sym (v .1)) (λ v. single-nobody (v .0) ∙ sym (v .0)) (partner-view moves S entries)
-
     -- ---- of least key, the lowest of these, is the chosen one
     chosen-of : (a : ℕ) → Best moves S Key a → Chosen present moves S entries a
     chosen-of a b = record {
-      candidate = record { below = b .below; moved = b .moved; inside = b .inside };
-      least = λ i c. omega (arith, b .keyed i (c .below) (c .moved) (c .inside), staying-low a, staying-high i);
-      stays = λ c l. by-cases (ℕ-discrete a present) (λ e. e)
-          (λ n. absurd (omega (arith, b .keyed present (c .below) (c .moved) (c .inside), staying-away a n, staying-here present refl)));
-      lowest = λ n i l c. omega (arith, b .first i l (c .moved) (c .inside), staying-away a n, staying-high i);
+      candidate = b .candidate;
+      least = λ i c. omega (arith, b .least i c, staying-low a, staying-high i);
+      stays = λ c l. by-cases (ℕ-discrete a present) (λ e. e) (λ n. absurd (omega (arith, b .least present c, staying-away a n, staying-here present refl)));
+      lowest = λ n i l c. omega (arith, b .lowest i l c, staying-away a n, staying-high i);
     }
 
     best-of : (a : ℕ) → Chosen present moves S entries a → Best moves S Key a
-    best-of a c = record {
-      below = c .candidate .below;
-      moved = c .candidate .moved;
-      inside = c .candidate .inside;
-      keyed = λ i h t u. keyed i (record { below = h; moved = t; inside = u });
-      first = λ i l t u. first i l (record { below = omega (arith, c .candidate .below); moved = t; inside = u });
-    }
+    best-of a c = record { candidate = c .candidate; least = keyed; lowest = first }
       where
         -- where a is not the present state, that one has a greater entry if it is a candidate
         greater : (a ≡ present → ⊥) → Candidate moves S present → entries a < entries present
@@ -120,8 +78,35 @@ module _ (present : ℕ) (entries : ℕ → ℕ) where
         λ e i c. clash (sym (partner-found moves S Key) ∙ ap found e) (someIn-of 64 moves S i (c .below) (c .moved) (c .inside)),
         λ none. partner-none moves S Key (λ i h t. refute (S i) (λ u. none i (record { below = h; moved = t; inside = u }))),
       );
-      width = λ w few fits a e. has-lt w moves a fits (partner-at moves S Key a e .moved);
+      width = λ w few fits a e. has-lt w moves a fits (partner-at moves S Key a e .candidate .moved);
     }
+
+    -- ---- beside the lowest state b of least entry: the present state is named if it is as good, else b
+    module _ (b : ℕ) (best : Best moves S entries b) where
+      pub single-stays : Candidate moves S present → entries present ≤ entries b → singleStep present moves S entries ≡ State present
+      single-stays here l = names .chosen present .1 (record {
+        candidate = here;
+        least = λ i c. omega (arith, best .least i c);
+        stays = λ c k. refl;
+        lowest = λ n. absurd (n refl);
+      })
+
+      pub single-leaves : (Candidate moves S present → entries b < entries present) → singleStep present moves S entries ≡ State b
+      single-leaves worse = names .chosen b .1 (record {
+        candidate = best .candidate;
+        least = best .least;
+        stays = λ c k. absurd (omega (arith, worse c));
+        lowest = λ n. best .lowest;
+      })
+
+    pub single-nobody : partner moves S entries ≡ Nobody → singleStep present moves S entries ≡ Nobody
+    unfolding found
+    single-nobody e = names .nobody .1 (λ i c. clash (sym (partner-found moves S entries) ∙ ap found e) (someIn-of 64 moves S i (c .below) (c .moved) (c .inside)))
+
+    -- where the present state is no candidate, the lowest number of least entry is named
+    pub single-away : (Candidate moves S present → ⊥) → singleStep present moves S entries ≡ partner moves S entries
+    single-away out =
+        ⊎-elim (λ v. single-leaves (v .0) (v .2) (λ c. absurd (out c)) ∙ sym (v .1)) (λ v. single-nobody (v .0) ∙ sym (v .0)) (partner-view moves S entries)
 
     -- what is named where there is one
     pub chosen-named : found (singleStep present moves S entries) ≡ true → Chosen present moves S entries (stateOf (singleStep present moves S entries))
@@ -140,7 +125,7 @@ found-anywhere moves S entries a b = single-found a entries moves S ∙ sym (sin
 
 -- before the first state none is present, which a number from 64 on says: no state has it
 pub single-none : (present moves : ℕ) (S : ℕ → Bool) (entries : ℕ → ℕ) → 64 ≤ present → singleStep present moves S entries ≡ partner moves S entries
-single-none present moves S entries h = single-away present entries moves S (λ l. absurd (omega arith))
+single-none present moves S entries h = single-away present entries moves S (λ c. omega (arith, c .below))
 
 -- among moves to numbers below n only what the set and the entries are there counts
 pub single-below : (present moves n : ℕ) (S R : ℕ → Bool) (entries others : ℕ → ℕ) → ((i : ℕ) → i < 64 → hasBit moves i ≡ true → i < n)
@@ -151,21 +136,20 @@ single-below present moves n S R entries others moved set same =
 
 -- ---- a set that is a mask
 module _ (present moves row : ℕ) (h : moves < 2 ^ 64) where
-  pub mask-stays : hasBit (bitAnd moves row) present ≡ true → singleStep present moves (hasBit row) alike ≡ State present
-  mask-stays t =
+  in-both : hasBit (bitAnd moves row) present ≡ true → Candidate moves (hasBit row) present
+  in-both t =
       let bits = sym (has-and present moves row) ∙ t in
-      names present alike moves (hasBit row) .chosen present .1 (record {
-        candidate = record { below = has-lt 64 moves present h (and-l _ _ bits); moved = and-l _ _ bits; inside = and-r _ _ bits };
-        least = λ i c. omega arith;
-        stays = λ c l. refl;
-        lowest = λ n. absurd (n refl);
-      })
+      record { below = has-lt 64 moves present h (and-l _ _ bits); moved = and-l _ _ bits; inside = and-r _ _ bits }
+
+  pub mask-stays : hasBit (bitAnd moves row) present ≡ true → singleStep present moves (hasBit row) alike ≡ State present
+  mask-stays t = names present alike moves (hasBit row) .chosen present .1
+      (record { candidate = in-both t; least = λ i c. omega arith; stays = λ c l. refl; lowest = λ n. absurd (n refl) })
 
   pub mask-nobody : bitAnd moves row ≡ 0 → singleStep present moves (hasBit row) alike ≡ Nobody
   mask-nobody e = single-nobody present alike moves (hasBit row) (partner-nobody moves row h e)
 
   pub mask-lowest : (bitAnd moves row ≡ 0 → ⊥) → hasBit (bitAnd moves row) present ≡ false → singleStep present moves (hasBit row) alike ≡ State (lowestOf 64 (bitAnd moves row))
-  mask-lowest d t = single-away present alike moves (hasBit row) (λ l m s. clash t (has-and present moves row ∙ and-i m s)) ∙ partner-lowest moves row h d
+  mask-lowest d t = single-away present alike moves (hasBit row) (λ c. clash t (has-and present moves row ∙ and-i (c .moved) (c .inside))) ∙ partner-lowest moves row h d
 
 -- ---- a set that is given by its entries and a bound
 pub single-row : (present moves matched : ℕ) (row : List ℕ) (bound : ℕ) (entries : ℕ → ℕ)

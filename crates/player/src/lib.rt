@@ -1,4 +1,4 @@
-// The player of lassos: document 01, "Player".
+// The player of lassos: document 01, "Player", with the single step of document 02, No. 10.
 // Cost: the line check, and then at most 28,672 steps, each one search among the successors of an abstract state.
 ghost use mathlib.Core.Bool.{true, cond};
 ghost use mathlib.Core.Path.{_≡_};

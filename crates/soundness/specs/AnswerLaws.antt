@@ -16,8 +16,8 @@ use Rattle.machine.specs.declared.Partner.the-variants.{State, Nobody}
 use Rattle.machine.specs.Machines.{nC, nA, setsC, setsA, successors, moves, starts, inFairSet, next}
 use Rattle.machine.specs.Step.{partner, found, stateOf}
 use Rattle.machine.specs.StepLaws.{Steps}
-use Rattle.machine.specs.PartnerLaws.{Best, partner-found, partner-at}
-use Rattle.machine.specs.SingleStep.{Chosen}
+use Rattle.machine.specs.PartnerLaws.{partner-found, partner-at}
+use Rattle.machine.specs.SingleStep.{Best, Chosen}
 use Rattle.machine.specs.SingleStepLaws.{single-found, chosen-named}
 use Rattle.machine.specs.Table.{entry}
 use Rattle.machine.specs.Ranks.{levelOf, setOf}
@@ -199,7 +199,7 @@ module _ (p : Pair) (T : List ℕ) where
         × (starts (p .abstraction) (stateOf (startPartner p T c)) ≡ true)
     unfolding starts
     start-place c t =
-        let x = start-best c t in (
+        let x = start-best c t .candidate in (
           record {
             bound = w .abstraction .start-bits _ (x .below) (x .moved);
             section-bound = w .abstraction .sets-low;

@@ -14,8 +14,7 @@ use Rattle.machine.specs.declared.Pair.{Pair}
 use Rattle.machine.specs.Machines.{nA, setsC, setsA, successors, starts, inFairSet, matched, next}
 use Rattle.machine.specs.Lassos.{Lasso, moment, isPlay, SameObservations}
 use Rattle.machine.specs.Step.{found}
-use Rattle.machine.specs.PartnerLaws.{Best}
-use Rattle.machine.specs.SingleStep.{Chosen}
+use Rattle.machine.specs.SingleStep.{Best, Chosen}
 use Rattle.machine.specs.Table.{entry}
 use Rattle.machine.specs.Ranks.{setOf}
 use Rattle.machine.specs.LevelLaws.{set-lt}

@@ -10,8 +10,7 @@ use Rattle.machine.specs.Refusals.{answer, valid}
 use Rattle.machine.specs.WellFormed.{wellFormed}
 use Rattle.machine.specs.Machines.{successors}
 use Rattle.machine.specs.Lassos.{Lasso, moment, isPlay, SameObservations}
-use Rattle.machine.specs.PartnerLaws.{Best}
-use Rattle.machine.specs.SingleStep.{Chosen}
+use Rattle.machine.specs.SingleStep.{Best, Chosen}
 use Rattle.machine.specs.Table.{tableRoom, entry, SameEntries}
 use Rattle.machine.specs.Lines.{nonBlank, passesEach}
 use Rattle.machine.specs.Verdict.{HasStarts, carried, linesVerdict, checkVerdict}

@@ -10,7 +10,8 @@ use Rattle.mask.specs.BitsLaws.{has-and, has-lt}
 use Rattle.machine.specs.declared.Partner.{Partner}
 use Rattle.machine.specs.declared.Partner.the-variants.{State}
 use Rattle.machine.specs.Step.{singleStep, inRow}
-use Rattle.machine.specs.PartnerLaws.{Best, partner-at}
+use Rattle.machine.specs.SingleStep.{Best}
+use Rattle.machine.specs.PartnerLaws.{partner-at}
 use Rattle.machine.specs.RowLaws.{inRow-at, inRow-of}
 use Rattle.machine.specs.SingleStepLaws.{single-stays, single-leaves, single-nobody}
 use Rattle.machine.proofs.partner_within.Statement.{statement}
@@ -36,7 +37,7 @@ best c =
     (sym (c .before .before .before .before .least-within .ensures) ∙ c .before .before .found .given .1)
 
 lowest-row : (c : tie.After-has) → (lowest c < length (top c .args .row .now)) × (key c (lowest c) ≤ top c .args .bound)
-lowest-row c = let x = top c .args in let r = inRow-at (x .matched) (x .row .now) (x .bound) (lowest c) (best c .inside) in (r .1, r .2)
+lowest-row c = let x = top c .args in let r = inRow-at (x .matched) (x .row .now) (x .bound) (lowest c) (best c .candidate .inside) in (r .1, r .2)
 
 -- the present state is as good
 stays : (c : tie.After-has) → c .has .result ≡ true → top c .args .present < length (top c .args .row .now)
@@ -44,17 +45,20 @@ stays : (c : tie.After-has) → c .has .result ≡ true → top c .args .present
 stays c t h l =
     let x = top c .args in
     let bits = sym (has-and (x .present) (x .moves) (x .matched)) ∙ sym (c .has .ensures) ∙ t in
-    sym (single-stays (x .present) (key c) (x .moves) _ (lowest c) (best c) (has-lt 64 (x .moves) (x .present) (omega arith) (and-l _ _ bits)) (and-l _ _ bits)
-    (inRow-of (x .matched) (x .row .now) (x .bound) (x .present) (and-r _ _ bits) h (omega (arith, lowest-row c .1))) l)
+    sym (single-stays (x .present) (key c) (x .moves) _ (lowest c) (best c) (record {
+      below = has-lt 64 (x .moves) (x .present) (omega arith) (and-l _ _ bits);
+      moved = and-l _ _ bits;
+      inside = inRow-of (x .matched) (x .row .now) (x .bound) (x .present) (and-r _ _ bits) h (omega (arith, lowest-row c .1));
+    }) l)
 
 -- it is not
 leaves : (c : tie.After-has) → (c .has .result ≡ true → top c .args .present < length (top c .args .row .now) → key c (lowest c) < key c (top c .args .present))
     → State (lowest c) ≡ named c
 leaves c worse =
     let x = top c .args in
-    sym (single-leaves (x .present) (key c) (x .moves) _ (lowest c) (best c) (λ l m s.
-    let r = inRow-at (x .matched) (x .row .now) (x .bound) (x .present) s in
-    worse (c .has .ensures ∙ has-and (x .present) (x .moves) (x .matched) ∙ and-i m (r .0)) (r .1)))
+    sym (single-leaves (x .present) (key c) (x .moves) _ (lowest c) (best c) (λ k.
+    let r = inRow-at (x .matched) (x .row .now) (x .bound) (x .present) (k .inside) in
+    worse (c .has .ensures ∙ has-and (x .present) (x .moves) (x .matched) ∙ and-i (k .moved) (r .0)) (r .1)))
 
 least-within-requires : tie.Need-least-within-requires
 least-within-requires c κs = search needs
@@ -80,7 +84,7 @@ shared-slice-read-if3 : tie.Need-shared-slice-read-if3
 shared-slice-read-if3 c = search needs
 
 mul-if3-2 : tie.Need-mul-if3-2
-mul-if3-2 c = omega (arith, best (c .before .before .before) .below)
+mul-if3-2 c = omega (arith, best (c .before .before .before) .candidate .below)
 
 shared-slice-read-if3-2 : tie.Need-shared-slice-read-if3-2
 shared-slice-read-if3-2 c = lowest-row (c .before .before .before .before) .0
