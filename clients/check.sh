@@ -62,7 +62,7 @@ seal() {
 for n in 01 03 05 06 10 12; do expect 100 "samples/case-$n.dom"; done
 for n in 02 04 09 11; do expect 200 "samples/case-$n.dom"; done
 for n in 07 08; do expect 12 "samples/case-$n.dom"; done
-for name in large lamp choice; do expect 100 "samples/$name.dom"; done
+for name in large lamp choice stay; do expect 100 "samples/$name.dom"; done
 for name in lost hard; do expect 101 "samples/$name.dom"; done
 
 # each refusal of the reader
@@ -140,7 +140,7 @@ from lacking large; byte 82 8; seal; expect 203 "$file"
 for name in lost case-06 case-07 case-08 case-09; do restores "samples/$name.dom" 100 samples/case-05.dom; done
 for n in 01 03 05 10 12; do restores "samples/case-$n.dom" 100 "samples/case-$n.dom"; done
 for n in 02 04 11; do restores "samples/case-$n.dom" 200 "samples/case-$n.dom"; done
-for name in large lamp choice; do restores "samples/$name.dom" 100 "samples/$name.dom"; done
+for name in large lamp choice stay; do restores "samples/$name.dom" 100 "samples/$name.dom"; done
 # a hidden mask is kept, and decides what the table is
 # masked NUMBER LINE NAME: the copy is restored with this number, and then gets this line
 masked() {
@@ -161,12 +161,17 @@ from longer large; head -c 513 /dev/zero >>"$file"
 same 'restore longer' 'refused 2 0 0 0' "$("$work/restore" "$file" "$work/none")"
 [ ! -e "$work/none" ] || { echo 'restore: a refusal wrote a file'; failed=1; }
 
-# case 10, a longer run, and each refusal of the player; a show without a table
+# case 10, a longer run, plays with a choice, and each refusal of the player; a show without a table
 plays 'run 0 / 1' samples/case-10.dom / 0
 plays 'run 0 / 1 1 1 1 1 1 1' samples/large.dom 0 / 1
 plays 'run / 0 1' samples/choice.dom / 0 1
 plays 'run / 0 2' "$work/choice-shown.new" / 0 1
 plays 'refused 12 1 0 1' "$work/choice-shown" / 0 1
+plays 'run 0 / 1' samples/stay.dom / 0
+# the set of the score's state 0 alone: the entries are 0 and 2, and the play goes back for the lower one
+from back stay; byte 69 1; seal
+masked 100 'carried 2' back
+plays 'run / 0 1' "$work/back.new" / 0
 plays 'refused 12 1 0 0' samples/case-07.dom / 0
 plays 'refused 13 0 0 0' samples/case-10.dom 0 /
 plays 'refused 14 1 0 0' samples/case-10.dom 0 / 1
