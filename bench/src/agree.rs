@@ -64,8 +64,20 @@ fn compare(f: &[u8], counts: &mut [usize; 4]) {
     }] += 1;
 }
 
+// what the plays were: with a run, without a table, refused; and at how many of the runs' first moves the abstract state changes, by the lowest
+// number and by the player's rule
+#[derive(Default)]
+struct Plays {
+    kinds: [usize; 3],
+    jumps: usize,
+    changes: usize,
+}
+
+// how many moves of each run are looked at
+const MOVES: usize = 1000;
+
 // the same run, or the same refusal and a buffer as it was
-fn compare_play(f: &[u8], stem: &[u8], cycle: &[u8], counts: &mut [usize; 3]) {
+fn compare_play(f: &[u8], stem: &[u8], cycle: &[u8], plays: &mut Plays) {
     let mut x = vec![0xA5u8; plain::ROOM];
     let mut y = vec![0xA5u8; plain::ROOM];
     let a = proved::play(f, stem, cycle, &mut x);
@@ -75,10 +87,14 @@ fn compare_play(f: &[u8], stem: &[u8], cycle: &[u8], counts: &mut [usize; 3]) {
         Ok(Some((s, q))) => {
             assert!(x[..s + q] == y[..s + q], "run");
             assert!(x[s + q..].iter().all(|&v| v == 0xA5), "past the run");
+            let mut t = vec![0u16; plain::ROOM];
+            let (p, _) = plain::read(f, &mut t).unwrap();
+            plays.jumps += plain::changes(&p, &t, stem, cycle, MOVES, false);
+            plays.changes += plain::changes(&p, &t, stem, cycle, MOVES, true);
         }
         _ => assert!(x.iter().all(|&v| v == 0xA5), "no run, and the buffer changed"),
     }
-    counts[match b {
+    plays.kinds[match b {
         Ok(Some(_)) => 0,
         Ok(None) => 1,
         Err(_) => 2,
@@ -95,7 +111,7 @@ fn carried(p: &Pair) -> bool {
 // what concerns masks is drawn from h, so that the machines that r makes later, to be timed, do not depend on it
 pub fn on_files(r: &mut Random, h: &mut Random) {
     let mut counts = [0usize; 4];
-    let mut plays = [0usize; 3];
+    let mut plays = Plays::default();
     let (mut masked, mut thanks_to_mask) = (0, 0);
     for round in 0..3000 {
         let mut p = r.pair(if round % 50 == 0 { 64 } else { 7 });
@@ -141,7 +157,9 @@ pub fn on_files(r: &mut Random, h: &mut Random) {
     }
     println!("agreed: carried {}, not carried {}, no table {}, refused {}", counts[0], counts[1], counts[2], counts[3]);
     println!("agreed on shows with a hidden mask: {masked}, carried only thanks to it {thanks_to_mask}");
-    println!("agreed on plays: run {}, no table {}, refused {}", plays[0], plays[1], plays[2]);
+    let [run, no_table, refused] = plays.kinds;
+    println!("agreed on plays: run {run}, no table {no_table}, refused {refused}");
+    println!("changes of state in {} moves of these runs: {}, by the lowest number alone {}", MOVES * run, plays.changes, plays.jumps);
 }
 
 // block k of one file, put at place i of another

@@ -337,9 +337,9 @@ fn lasso_holds(c: &Machine, stem: &[u8], cycle: &[u8]) -> Result<(), Refusal> {
     Ok(())
 }
 
-// the state of the mask with the least entry that is not blank, the lowest of these
-fn best(moves: u64, row: &[u16]) -> Option<usize> {
-    bits(moves).filter(|&u| row[u] != BLANK).min_by_key(|&u| row[u])
+// the state of the mask with the least entry that is not blank; of these the present state if it is one of them, else the lowest
+fn best(present: Option<usize>, moves: u64, row: &[u16]) -> Option<usize> {
+    bits(moves).filter(|&u| row[u] != BLANK).min_by_key(|&u| (row[u], present != Some(u)))
 }
 
 pub fn play(p: &Pair, t: &[u16], stem: &[u8], cycle: &[u8], run: &mut [u8]) -> Result<(usize, usize), Refusal> {
@@ -351,7 +351,7 @@ pub fn play(p: &Pair, t: &[u16], stem: &[u8], cycle: &[u8], run: &mut [u8]) -> R
     let (nc, na, n) = (c.states, a.states, a.sets);
     let row = |j: usize, s: usize| &t[(j * nc + s) * na..(j * nc + s + 1) * na];
     let at = |i: usize| if i < stem.len() { stem[i] as usize } else { cycle[(i - stem.len()) % cycle.len()] as usize };
-    let mut u = best(a.start, row(0, at(0))).ok_or(Refusal(16, 0, 0, 0))?;
+    let mut u = best(None, a.start, row(0, at(0))).ok_or(Refusal(16, 0, 0, 0))?;
     let mut j = 0;
     let mut seen = [[0usize; 7]; 64];
     let mut i = 0;
@@ -367,9 +367,28 @@ pub fn play(p: &Pair, t: &[u16], stem: &[u8], cycle: &[u8], run: &mut [u8]) -> R
         if row(j, at(i))[u] == 0 {
             j = (j + 1) % n;
         }
-        u = best(a.successors[u], row(j, at(i + 1))).unwrap();
+        u = best(Some(u), a.successors[u], row(j, at(i + 1))).unwrap();
         i += 1;
     }
+}
+
+// At how many of the first moves of a play the abstract state changes: where of several partners of least entry the present state is taken before
+// the lowest number, as the player does, and where it is not. The player has a run of this lasso.
+pub fn changes(p: &Pair, t: &[u16], stem: &[u8], cycle: &[u8], moves: usize, stay: bool) -> usize {
+    let (c, a) = (&p.c, &p.a);
+    let row = |j: usize, s: usize| &t[(j * c.states + s) * a.states..(j * c.states + s + 1) * a.states];
+    let at = |i: usize| if i < stem.len() { stem[i] as usize } else { cycle[(i - stem.len()) % cycle.len()] as usize };
+    let mut u = best(None, a.start, row(0, at(0))).unwrap();
+    let (mut j, mut count) = (0, 0);
+    for i in 0..moves {
+        if row(j, at(i))[u] == 0 {
+            j = (j + 1) % a.sets;
+        }
+        let v = best(stay.then_some(u), a.successors[u], row(j, at(i + 1))).unwrap();
+        count += (u != v) as usize;
+        u = v;
+    }
+    count
 }
 
 pub fn play_file(bytes: &[u8], stem: &[u8], cycle: &[u8], run: &mut [u8]) -> Result<Option<(usize, usize)>, Refusal> {
