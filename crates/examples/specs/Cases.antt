@@ -1,6 +1,5 @@
 -- Document 01, "Shelf examples", cases 1 to 12, as one fact about one list, by computation; and a second list of small cases with two
--- concrete states, with more than one set, with a hidden mask or with several partners of least entry, which tell slips that cases 1 to 12 do not
--- tell.
+-- concrete states, with more than one set, with a hidden mask or with several partners, which tell slips that cases 1 to 12 do not tell.
 use mathlib.Core.List.{List, [], _∷_}
 use mathlib.Core.Path.{_≡_, refl}
 use Prim.Native.Nat.{ℕ}

@@ -28,8 +28,8 @@ pub record Chosen (present moves : ℕ) (S : ℕ → Bool) (entries : ℕ → �
 
 -- the single step "shall name the chosen partner, or none exactly if there is none"; of moves of w bits it names a number below w
 pub record Names (present moves : ℕ) (S : ℕ → Bool) (entries : ℕ → ℕ) : Type 0 where
-  pub chosen : (a : ℕ) → singleStep present moves S entries ≡ State a ↔ Chosen present moves S entries a
-  pub nobody : singleStep present moves S entries ≡ Nobody ↔ ((i : ℕ) → Candidate moves S i → ⊥)
+  pub chosen : (a : ℕ) → (singleStep present moves S entries ≡ State a) ↔ Chosen present moves S entries a
+  pub nobody : (singleStep present moves S entries ≡ Nobody) ↔ ((i : ℕ) → Candidate moves S i → ⊥)
   pub width : (w : ℕ) → w ≤ 64 → moves < 2 ^ w → (a : ℕ) → singleStep present moves S entries ≡ State a → a < w
 
 -- for any mask, any set and any entries

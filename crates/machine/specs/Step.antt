@@ -16,7 +16,7 @@ use Rattle.machine.specs.Machines.{successors, nC, nA}
 unfoldable pub steps : Pair → (ℕ → ℕ → Bool) → ℕ → ℕ → Bool
 steps p S c a = everyIn (nC p) (successors (p .concrete) c) (λ d. someIn (nA p) (successors (p .abstraction) a) (S d))
 
--- a state with key k is taken in place of the best state before it: ties go to the lowest number
+-- whether state s is taken in place of the best state before it: of equal keys the lower number stays
 unfoldable pub better : (ℕ → ℕ) → ℕ → Partner → Bool
 better key s (State b) = ltb (key s) (key b)
 better key s Nobody = true

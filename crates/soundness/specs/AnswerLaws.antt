@@ -76,8 +76,8 @@ module _ (p : Pair) (T : List ℕ) where
   unfolding sectionAfter
   section-stays c at e = rw (ne-eqb _ _ e)
 
-  -- the lines give a candidate
-  record Candidate (c d : ℕ) (at : Place) : Type 0 where
+  -- the partner that the pair's line gives
+  record LinePartner (c d : ℕ) (at : Place) : Type 0 where
     who : ℕ
     low : who < nA p
     moved : moves (p .abstraction) (at .state) who ≡ true
@@ -102,8 +102,8 @@ module _ (p : Pair) (T : List ℕ) where
         nonBlank-of p T j c a (q .0) (covers-of p T j c a (λ e. omega (arith, q .1, ranks-small p w)))
 
     -- in a goal, the next section has it; elsewhere the line bounds its entry
-    candidate-goal : (c d : ℕ) (at : Place) → c < nC p → Covered c at → d < nC p → moves (p .concrete) c d ≡ true → entryAt c at ≡ 0 → Candidate c d at
-    candidate-goal c d at hc h hd m e =
+    line-partner-goal : (c d : ℕ) (at : Place) → c < nC p → Covered c at → d < nC p → moves (p .concrete) c d ≡ true → entryAt c at ≡ 0 → LinePartner c d at
+    line-partner-goal c d at hc h hd m e =
         let b = passing-at c at hc h .to-next e d hd m in
         record {
           who = b .0;
@@ -114,10 +114,10 @@ module _ (p : Pair) (T : List ℕ) where
           falls = λ z. absurd (z e);
         }
 
-    candidate-ranked : (c d : ℕ) (at : Place) → c < nC p → Covered c at → d < nC p → moves (p .concrete) c d ≡ true → entryAt c at ≢ 0
+    line-partner-ranked : (c d : ℕ) (at : Place) → c < nC p → Covered c at → d < nC p → moves (p .concrete) c d ≡ true → entryAt c at ≢ 0
         → (bound : ℕ) → bound ≤ entryAt c at → (inFairSet (p .concrete) (setOf (setsC p) (entryAt c at)) c ≡ true → bound < entryAt c at)
-        → Steps p (atMost p T (at .section) bound) c (at .state) → Candidate c d at
-    candidate-ranked c d at hc h hd m z bound most less line =
+        → Steps p (atMost p T (at .section) bound) c (at .state) → LinePartner c d at
+    line-partner-ranked c d at hc h hd m z bound most less line =
         let b = line d hd m in
         let small = atMost-at p T (at .section) bound d (b .0) (b .3) .1 in
         record {
@@ -129,11 +129,11 @@ module _ (p : Pair) (T : List ℕ) where
           falls = λ z i. rw (section-stays c at z) (omega (arith, less i));
         }
 
-    candidate : (c d : ℕ) (at : Place) → c < nC p → Covered c at → d < nC p → moves (p .concrete) c d ≡ true → Candidate c d at
-    candidate c d at hc h hd m = by-cases (ℕ-discrete r 0) (candidate-goal c d at hc h hd m)
+    line-partner : (c d : ℕ) (at : Place) → c < nC p → Covered c at → d < nC p → moves (p .concrete) c d ≡ true → LinePartner c d at
+    line-partner c d at hc h hd m = by-cases (ℕ-discrete r 0) (line-partner-goal c d at hc h hd m)
         (λ z. ⊎-elim
-        (λ i. candidate-ranked c d at hc h hd m z ((levelOf (setsC p) r - 1) * setsC p) (omega (arith, level-below (setsC p) r z)) (λ i. level-below (setsC p) r z) (lowered z i))
-        (λ o. candidate-ranked c d at hc h hd m z r (omega arith) (λ i. absurd (clash o i)) (line .outside z o))
+        (λ i. line-partner-ranked c d at hc h hd m z ((levelOf (setsC p) r - 1) * setsC p) (omega (arith, level-below (setsC p) r z)) (λ i. level-below (setsC p) r z) (lowered z i))
+        (λ o. line-partner-ranked c d at hc h hd m z r (omega arith) (λ i. absurd (clash o i)) (line .outside z o))
         (dec (inFairSet (p .concrete) (setOf (setsC p) r) c)))
       where
         r : ℕ
@@ -151,7 +151,7 @@ module _ (p : Pair) (T : List ℕ) where
     pub answer-of : (c d : ℕ) (at : Place) → c < nC p → Covered c at → d < nC p → moves (p .concrete) c d ≡ true → (b : ℕ) → LeastPartner c d at b
         → Answer c d at (record { state = b; section = sectionAfter p T c at })
     answer-of c d at hc h hd m b x =
-        let k = candidate c d at hc h hd m in
+        let k = line-partner c d at hc h hd m in
         let least = x .least (k .who) (k .low) (k .moved) (k .covered) in
         record {
           again = record { bound = x .low; section-bound = section-lt p T c at (h .section-bound); covered = x .covered };
@@ -161,14 +161,14 @@ module _ (p : Pair) (T : List ℕ) where
         }
 
     -- the rule's is the one that the single step chooses
-    follow-chosen : (c d : ℕ) (at : Place) → Candidate c d at → let j = sectionAfter p T c at in
+    follow-chosen : (c d : ℕ) (at : Place) → LinePartner c d at → let j = sectionAfter p T c at in
         Chosen (at .state) (successors (p .abstraction) (at .state)) (nonBlank p T j d) (entry p T j d) (stateOf (follow p T j at d))
     unfolding follow moves
     follow-chosen c d at k = chosen-named (at .state) (entry p T (sectionAfter p T c at) d) _ _
         (single-found (at .state) _ _ _ ∙ someIn-of 64 _ _ (k .who) (small (k .low)) (k .moved) (k .covered))
 
     -- and so of least entry
-    follow-least : (c d : ℕ) (at : Place) → at .state < nA p → Candidate c d at → LeastPartner c d at (stateOf (follow p T (sectionAfter p T c at) at d))
+    follow-least : (c d : ℕ) (at : Place) → at .state < nA p → LinePartner c d at → LeastPartner c d at (stateOf (follow p T (sectionAfter p T c at) at d))
     unfolding moves
     follow-least c d at h k =
         let x = follow-chosen c d at k in
@@ -183,12 +183,12 @@ module _ (p : Pair) (T : List ℕ) where
     module _ (c d : ℕ) (at : Place) (hc : c < nC p) (h : Covered c at) (hd : d < nC p) (m : moves (p .concrete) c d ≡ true) where
       pub step-answers : Answer c d at (stepTo p T c at d)
       unfolding stepTo
-      step-answers = answer-of c d at hc h hd m _ (follow-least c d at (h .bound) (candidate c d at hc h hd m))
+      step-answers = answer-of c d at hc h hd m _ (follow-least c d at (h .bound) (line-partner c d at hc h hd m))
 
       pub step-chosen : let to = stepTo p T c at d in
           Chosen (at .state) (successors (p .abstraction) (at .state)) (nonBlank p T (to .section) d) (entry p T (to .section) d) (to .state)
       unfolding stepTo
-      step-chosen = follow-chosen c d at (candidate c d at hc h hd m)
+      step-chosen = follow-chosen c d at (line-partner c d at hc h hd m)
 
     -- the rule's start, where there is a partner, is the lowest start state of least entry
     pub start-best : (c : ℕ) → found (startPartner p T c) ≡ true → Best (p .abstraction .start) (nonBlank p T 0 c) (entry p T 0 c) (stateOf (startPartner p T c))

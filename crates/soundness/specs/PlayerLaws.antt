@@ -7,12 +7,12 @@ use Prim.Native.Nat.{ℕ, zero, suc, _+_, _-_, _*_, _≤_, _<_}
 use native.Mathlib.Nat.{le-trans, mul-le-mul-left, mul-le-mul-right}
 use native.Mathlib.Decide.{decLt}
 use native.Mathlib.Omega.{arith}
-use lib.ListN.{length, take, drop}
+use lib.ListN.{length, getD, take, drop}
 use borrow.Author.Tests.{eqb-true, eq-eqb, ne-eqb, ltb-false, leb-false}
 use Rattle.mask.specs.LogicLaws.{dec, clash, and-l, and-r, and-i, or-none, not-i, not-false}
 use Rattle.mask.specs.Bounded.{first, some}
 use Rattle.mask.specs.BoundedLaws.{first-before, first-has, first-most, some-of, some-at, every-of}
-use Rattle.mask.specs.TablesLaws.{table-length}
+use Rattle.mask.specs.TablesLaws.{table-length, table-at}
 use Rattle.machine.specs.declared.Machine.{Machine}
 use Rattle.machine.specs.declared.Pair.{Pair}
 use Rattle.machine.specs.Refusals.{valid}
@@ -136,6 +136,10 @@ module _ (p : Pair) (T : List ℕ) (l : Lasso) where
   run-length : length (run p T l) ≡ loopStart p T l (lastRound p T l)
   unfolding run
   run-length = table-length (loopStart p T l (lastRound p T l)) (λ t. placeAt p T l t .state)
+
+  pub run-states : (t : ℕ) → t < length (run p T l) → getD (run p T l) t 0 ≡ placeAt p T l t .state
+  unfolding run
+  run-states t h = table-at (loopStart p T l (lastRound p T l)) (λ t. placeAt p T l t .state) t 0 (omega (arith, run-length))
 
   parts : earlierRound p T l < lastRound p T l → loopStart p T l (lastRound p T l) ≡ stemLength p T l + loopLength p T l
   unfolding stemLength loopLength

@@ -4,7 +4,7 @@ use mathlib.Core.Bool.{true}
 use mathlib.Core.List.{List}
 use mathlib.Core.Path.{_≡_}
 use Prim.Native.Nat.{ℕ, suc, _+_, _≤_, _<_}
-use lib.ListN.{length, take, drop}
+use lib.ListN.{length, getD, take, drop}
 use Rattle.machine.specs.declared.Pair.{Pair}
 use Rattle.machine.specs.Refusals.{answer, valid}
 use Rattle.machine.specs.WellFormed.{wellFormed}
@@ -49,8 +49,9 @@ abbrev pub PlayerIsRight : Type 0
 PlayerIsRight = (p : Pair) (T : List ℕ) (l : Lasso) → playValidity p T l ≡ valid → IsRun p T l
 
 -- Document 02, No. 10: "The player's rule follows; the first state is chosen as before". The first state of the run is the start state of least
--- entry, the lowest of these; each later one is the one that the single step chooses in the state before it.
+-- entry, the lowest of these; each later one is the one that the single step chooses in the state before it. The run has the states of the places.
 pub record FollowsStep (p : Pair) (T : List ℕ) (l : Lasso) : Type 0 where
+  pub states : (t : ℕ) → t < length (run p T l) → getD (run p T l) t 0 ≡ placeAt p T l t .state
   pub first : let c = moment l 0 in Best (p .abstraction .start) (nonBlank p T 0 c) (entry p T 0 c) (placeAt p T l 0 .state)
   pub later : (t : ℕ) → let a = placeAt p T l t .state in let to = placeAt p T l (suc t) in let d = moment l (suc t) in
       Chosen a (successors (p .abstraction) a) (nonBlank p T (to .section) d) (entry p T (to .section) d) (to .state)

@@ -7,7 +7,7 @@ use Rattle.soundness.specs.Statements.{PassingIsSound, CarriedIsSound, P
 use Rattle.soundness.specs.PlayLaws.{play-at}
 use Rattle.soundness.specs.AnswerLaws.{start-found}
 use Rattle.soundness.specs.SoundLaws.{returns, closes, agrees, follows, starts-lowest}
-use Rattle.soundness.specs.PlayerLaws.{good-play, Playable, playable, player-run}
+use Rattle.soundness.specs.PlayerLaws.{good-play, playable, run-states, player-run}
 use Rattle.soundness.specs.UnreadLaws.{answer-same, buffer-same}
 
 pub passing-is-sound : PassingIsSound
@@ -28,7 +28,7 @@ pub player-follows : PlayerFollows
 player-follows p T l e =
     let k = playable p T l e in
     let y = play-at (p .concrete) l (good-play (p .concrete) l (k .good)) in
-    record { first = starts-lowest p T (k .well) (k .passing) l y (k .partnered); later = follows p T (k .well) (k .passing) l y (k .partnered) }
+    record { states = run-states p T l; first = starts-lowest p T (k .well) (k .passing) l y (k .partnered); later = follows p T (k .well) (k .passing) l y (k .partnered) }
 
 pub check-unread : CheckUnread
 check-unread p T U long long′ same = check-same p T U same long long′

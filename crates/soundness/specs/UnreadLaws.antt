@@ -1,5 +1,4 @@
 -- Entries past n × P are not looked at: for each pair, lasso and buffer, the player says the same of two tables with the same n × P entries.
-use mathlib.Core.Bool.{true}
 use mathlib.Core.List.{List}
 use mathlib.Core.Path.{_≡_, refl, sym, ap, _∙_}
 use Prim.Native.Nat.{ℕ, zero, suc, _+_, _*_, _≤_, _<_}

@@ -1,14 +1,8 @@
 -- The moves that are in the row are the bits of one mask: the present state, its lowest, or none.
-use mathlib.Core.Bool.{true, false}
-use mathlib.Core.Path.{_≡_, sym, ap, _∙_}
+use mathlib.Core.Path.{sym, ap, _∙_}
 use native.Mathlib.Omega.{arith}
 use borrow.Author.Needs.{needs}
-use Rattle.mask.specs.Logic.{and}
-use Rattle.mask.specs.LogicLaws.{and-i, clash}
-use Rattle.mask.specs.Bits.{hasBit}
-use Rattle.mask.specs.BitsLaws.{has-and}
 use Rattle.machine.specs.declared.Partner.the-variants.{State}
-use Rattle.machine.specs.Step.{singleStep, alike}
 use Rattle.machine.specs.SingleStepLaws.{mask-stays, mask-lowest, mask-nobody}
 use Rattle.machine.proofs.partner_in.Statement.{statement}
 use Rattle.machine.proofs.partner_in.Tie as tie

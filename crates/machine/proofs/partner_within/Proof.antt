@@ -90,10 +90,10 @@ shared-slice-read-if3-2 : tie.Need-shared-slice-read-if3-2
 shared-slice-read-if3-2 c = lowest-row (c .before .before .before .before) .0
 
 returns-2 : tie.Need-returns-2
-returns-2 c = let h = c .before .before .before .before .before in stays h (c .before .before .before .before .if1 .taken) (c .before .before .before .if2 .taken) (c .if3 .taken)
+returns-2 c = let h = c .before .before .before .before .before in stays h (c .before .before .before .before .if1 .taken) (c .before .before .before .if2 .taken) (omega (arith, c .if3 .taken))
 
 returns-3 : tie.Need-returns-3
-returns-3 c = leaves (c .before .before .before .before .before) (λ t h. c .if3 .left)
+returns-3 c = leaves (c .before .before .before .before .before) (λ t h. omega (arith, c .if3 .left))
 
 returns-4 : tie.Need-returns-4
 returns-4 c = leaves (c .before .before) (λ t h. absurd (omega arith))

@@ -1,6 +1,5 @@
 -- The two cases of the key.
-use mathlib.Core.Path.{_≡_, sym, _∙_}
-use native.Mathlib.Omega.{arith}
+use mathlib.Core.Path.{sym}
 use borrow.Author.Needs.{needs}
 use Rattle.machine.specs.SingleStepLaws.{staying-here, staying-away}
 use Rattle.brute.proofs.runs.staying_key.Statement.{statement}
