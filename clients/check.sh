@@ -1,7 +1,7 @@
 #!/bin/sh
 # Builds the programs in C from the archives. Holds `console` to the number of each sample and of damaged copies, `restore` to the samples whose
-# table is the solver's and to what `shelf` says of a hard show and of shows with other hidden masks, `play` to runs and refusals, and all of them
-# and the programs for the shell to the refusals of badly joined copies.
+# table is the solver's and to what `shelf` says of a hard show and of altered ones, `play` to runs and refusals, and all of them and the programs
+# for the shell to the refusals of badly joined copies.
 set -eu
 cd "$(dirname "$0")/.."
 work=$(mktemp -d)
@@ -58,7 +58,7 @@ seal() {
     byte 511 $((sum / 256))
 }
 
-# the shelf examples, a large show, shows with a hidden mask, and shows without a table
+# the shelf examples, a large show, shows with a hidden mask, one in which the player stays, and shows without a table
 for n in 01 03 05 06 10 12; do expect 100 "samples/case-$n.dom"; done
 for n in 02 04 09 11; do expect 200 "samples/case-$n.dom"; done
 for n in 07 08; do expect 12 "samples/case-$n.dom"; done
@@ -141,16 +141,16 @@ for name in lost case-06 case-07 case-08 case-09; do restores "samples/$name.dom
 for n in 01 03 05 10 12; do restores "samples/case-$n.dom" 100 "samples/case-$n.dom"; done
 for n in 02 04 11; do restores "samples/case-$n.dom" 200 "samples/case-$n.dom"; done
 for name in large lamp choice stay; do restores "samples/$name.dom" 100 "samples/$name.dom"; done
-# a hidden mask is kept, and decides what the table is
-# masked NUMBER LINE NAME: the copy is restored with this number, and then gets this line
-masked() {
+# restored NUMBER LINE NAME: the copy is restored with this number, and then gets this line
+restored() {
     same "restore $3" "$1" "$("$work/restore" "$work/$3" "$work/$3.new")"
     same "shelf $3" "$2" "$(target/bin/shelf <"$work/$3.new")"
 }
-masked 100 'carried 1' four-with-1
-masked 200 'not carried 0 0' four-with-2
-masked 200 'not carried 0 0' lamp-shown
-masked 100 'carried 2' choice-shown
+# a hidden mask is kept, and decides what the table is
+restored 100 'carried 1' four-with-1
+restored 200 'not carried 0 0' four-with-2
+restored 200 'not carried 0 0' lamp-shown
+restored 100 'carried 2' choice-shown
 # a show that is hard to solve: its number, its count of entries, and its table once more
 same 'restore hard' 200 "$("$work/restore" samples/hard.dom "$work/hard")"
 same 'shelf hard' 'not carried 0 539' "$(target/bin/shelf <"$work/hard")"
@@ -170,7 +170,7 @@ plays 'refused 12 1 0 1' "$work/choice-shown" / 0 1
 plays 'run 0 / 1' samples/stay.dom / 0
 # the set of the score's state 0 alone: the entries are 0 and 2, and the play goes back for the lower one
 from back stay; byte 69 1; seal
-masked 100 'carried 2' back
+restored 100 'carried 2' back
 plays 'run / 0 1' "$work/back.new" / 0
 plays 'refused 12 1 0 0' samples/case-07.dom / 0
 plays 'refused 13 0 0 0' samples/case-10.dom 0 /

@@ -64,13 +64,13 @@ fn compare(f: &[u8], counts: &mut [usize; 4]) {
     }] += 1;
 }
 
-// what the plays were: with a run, without a table, refused; and at how many of the runs' first moves the abstract state changes, by the lowest
-// number and by the player's rule
+// what the plays were: with a run, without a table, refused; and at how many of the runs' first moves the abstract state changes, by the player's
+// rule and where equal entries go to the lowest number
 #[derive(Default)]
 struct Plays {
     kinds: [usize; 3],
-    jumps: usize,
-    changes: usize,
+    by_rule: usize,
+    by_number: usize,
 }
 
 // how many moves of each run are looked at
@@ -89,8 +89,8 @@ fn compare_play(f: &[u8], stem: &[u8], cycle: &[u8], plays: &mut Plays) {
             assert!(x[s + q..].iter().all(|&v| v == 0xA5), "past the run");
             let mut t = vec![0u16; plain::ROOM];
             let (p, _) = plain::read(f, &mut t).unwrap();
-            plays.jumps += plain::changes(&p, &t, stem, cycle, MOVES, false);
-            plays.changes += plain::changes(&p, &t, stem, cycle, MOVES, true);
+            plays.by_rule += plain::changes(&p, &t, stem, cycle, MOVES, true);
+            plays.by_number += plain::changes(&p, &t, stem, cycle, MOVES, false);
         }
         _ => assert!(x.iter().all(|&v| v == 0xA5), "no run, and the buffer changed"),
     }
@@ -159,7 +159,7 @@ pub fn on_files(r: &mut Random, h: &mut Random) {
     println!("agreed on shows with a hidden mask: {masked}, carried only thanks to it {thanks_to_mask}");
     let [run, no_table, refused] = plays.kinds;
     println!("agreed on plays: run {run}, no table {no_table}, refused {refused}");
-    println!("changes of state in {} moves of these runs: {}, by the lowest number alone {}", MOVES * run, plays.changes, plays.jumps);
+    println!("changes of state in {} moves of these runs: {}, by the lowest number alone {}", MOVES * run, plays.by_rule, plays.by_number);
 }
 
 // block k of one file, put at place i of another

@@ -372,8 +372,8 @@ pub fn play(p: &Pair, t: &[u16], stem: &[u8], cycle: &[u8], run: &mut [u8]) -> R
     }
 }
 
-// At how many of the first moves of a play the abstract state changes: where of several partners of least entry the present state is taken before
-// the lowest number, as the player does, and where it is not. The player has a run of this lasso.
+// At how many of the first moves of a play, of which the player has a run, the abstract state changes: with `stay` by the player's rule, and without
+// it where of several partners of least entry the lowest number is always taken.
 pub fn changes(p: &Pair, t: &[u16], stem: &[u8], cycle: &[u8], moves: usize, stay: bool) -> usize {
     let (c, a) = (&p.c, &p.a);
     let row = |j: usize, s: usize| &t[(j * c.states + s) * a.states..(j * c.states + s + 1) * a.states];
