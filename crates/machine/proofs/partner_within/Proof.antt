@@ -44,7 +44,7 @@ stays : (c : tie.After-has) → c .has .result ≡ true → top c .args .present
     → key c (top c .args .present) ≤ key c (lowest c) → State (top c .args .present) ≡ named c
 stays c t h l =
     let x = top c .args in
-    let bits = sym (has-and (x .present) (x .moves) (x .matched)) ∙ sym (c .has .ensures) ∙ t in
+    let bits = sym (has-and (x .present) _ _) ∙ sym (c .has .ensures) ∙ t in
     sym (single-stays (x .present) (key c) (x .moves) _ (lowest c) (best c) (record {
       below = has-lt 64 (x .moves) (x .present) (omega arith) (and-l _ _ bits);
       moved = and-l _ _ bits;
