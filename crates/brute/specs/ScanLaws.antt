@@ -22,7 +22,7 @@ use Rattle.machine.specs.PartnerLaws.{better-in, better-out, least-miss, least-
 use Rattle.machine.specs.Player.{Place, earlierRound, follow, lastRound, loopLength, loopStart, placeAt, playValidity, played, samePlace, sectionAfter, startPartner, stemLength, stepTo, playAnswer}
 use Rattle.machine.specs.Refusals.{answer, refused, valid}
 use Rattle.machine.specs.RefusalsLaws.{then-of, then-refused}
-use Rattle.machine.specs.Step.{found, least, partner, staying, singleStep, stateOf}
+use Rattle.machine.specs.Step.{least, partner, staying, singleStep, stateOf}
 use Rattle.machine.specs.Table.{blank, covers, entry, entryIndex}
 use Rattle.machine.specs.PlayerLaws.{section-lt}
 use Rattle.machine.specs.declared.Pair.{Pair}

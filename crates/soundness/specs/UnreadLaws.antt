@@ -15,7 +15,7 @@ use Rattle.machine.specs.Lassos.{Lasso, moment}
 use Rattle.machine.specs.Step.{stateOf}
 use Rattle.machine.specs.PartnerLaws.{partner-below}
 use Rattle.machine.specs.SingleStepLaws.{single-below}
-use Rattle.machine.specs.Table.{tableRoom, entry, SameEntries}
+use Rattle.machine.specs.Table.{tableRoom, SameEntries}
 use Rattle.machine.specs.EntriesLaws.{entry-same, covers-same, lines-same}
 use Rattle.machine.specs.Lines.{nonBlank}
 use Rattle.machine.specs.Player.{Place, startPartner, startValidity, sectionAfter, follow, stepTo, placeAt, samePlace, lastRound, earlierRound, stemLength, loopLength, run, played, playValidity, allValidity, playerAnswer, playerBuffer}
