@@ -19,7 +19,7 @@ use Rattle.mask.specs.BoundedLaws.{some-of, some-none}
 use Rattle.mask.specs.WalkLaws.{rest-above, rest-has, rest-keeps, rest-small}
 use Rattle.machine.specs.declared.Partner.{Partner}
 use Rattle.machine.specs.declared.Partner.the-variants.{State, Nobody}
-use Rattle.machine.specs.Step.{better, least, partner, alike, inRow, found}
+use Rattle.machine.specs.Step.{better, least, partner, alike, inRow, found, stateOf}
 use Rattle.machine.specs.SingleStep.{Candidate, Best}
 
 -- ---- the least of the numbers below n
@@ -176,6 +176,12 @@ module _ (moves : ℕ) (S : ℕ → Bool) (key : ℕ → ℕ) where
   partner-at a e = ⊎-elim
       (λ v. let z : v .0 ≡ a = cc in subst (Best moves S key) z (v .2))
       (λ v. let z : _≡_ {A = ℕ} 0 1 = cc in absurd (omega arith)) partner-view
+
+-- a partner that there is has its number
+pub found-state : (b : Partner) → found b ≡ true → b ≡ State (stateOf b)
+unfolding found stateOf
+found-state (State a) t = refl
+found-state Nobody t = absurd (clash refl t)
 
 -- the same candidates with the same keys have the same partner
 pub partner-same : (m n : ℕ) (S R : ℕ → Bool) (key rank : ℕ → ℕ) → ((i : ℕ) → i < 64 → candidate m S i ≡ candidate n R i)

@@ -14,10 +14,9 @@ use Rattle.mask.specs.Bits.{hasBit, lowestOf}
 use Rattle.mask.specs.BitsLaws.{has-lt, has-and}
 use Rattle.mask.specs.Bounded.{someIn}
 use Rattle.mask.specs.BoundedLaws.{someIn-of}
-use Rattle.machine.specs.declared.Partner.{Partner}
 use Rattle.machine.specs.declared.Partner.the-variants.{State, Nobody}
 use Rattle.machine.specs.Step.{partner, staying, singleStep, alike, inRow, found, stateOf}
-use Rattle.machine.specs.PartnerLaws.{partner-is, partner-none, partner-found, partner-view, partner-at, partner-below, partner-lowest, partner-nobody, within, found-row}
+use Rattle.machine.specs.PartnerLaws.{partner-is, partner-none, partner-found, partner-view, partner-at, found-state, partner-below, partner-lowest, partner-nobody, within, found-row}
 use Rattle.machine.specs.SingleStep.{Candidate, Best, Chosen, Names, NamesChosen, FoundAnywhere}
 
 -- ---- the key
@@ -81,23 +80,17 @@ module _ (present : ℕ) (entries : ℕ → ℕ) where
       width = λ w few fits a e. has-lt w moves a fits (partner-at moves S Key a e .candidate .moved);
     }
 
-    -- ---- beside the lowest state b of least entry: the present state is named if it is as good, else b
-    module _ (b : ℕ) (best : Best moves S entries b) where
-      pub single-stays : Candidate moves S present → entries present ≤ entries b → singleStep present moves S entries ≡ State present
-      single-stays here l = names .chosen present .1 (record {
-        candidate = here;
-        least = λ i c. omega (arith, best .least i c);
-        stays = λ c k. refl;
-        lowest = λ n. absurd (n refl);
-      })
+    -- ---- the present state is named if it is a candidate and none is better, else the lowest state b of least entry
+    pub single-stays : Candidate moves S present → ((i : ℕ) → Candidate moves S i → entries present ≤ entries i) → singleStep present moves S entries ≡ State present
+    single-stays here least = names .chosen present .1 (record { candidate = here; least = least; stays = λ c k. refl; lowest = λ n. absurd (n refl) })
 
-      pub single-leaves : (Candidate moves S present → entries b < entries present) → singleStep present moves S entries ≡ State b
-      single-leaves worse = names .chosen b .1 (record {
-        candidate = best .candidate;
-        least = best .least;
-        stays = λ c k. absurd (omega (arith, worse c));
-        lowest = λ n. best .lowest;
-      })
+    pub single-leaves : (b : ℕ) → Best moves S entries b → (Candidate moves S present → entries b < entries present) → singleStep present moves S entries ≡ State b
+    single-leaves b best worse = names .chosen b .1 (record {
+      candidate = best .candidate;
+      least = best .least;
+      stays = λ c k. absurd (omega (arith, worse c));
+      lowest = λ n. best .lowest;
+    })
 
     pub single-nobody : partner moves S entries ≡ Nobody → singleStep present moves S entries ≡ Nobody
     unfolding found
@@ -110,12 +103,7 @@ module _ (present : ℕ) (entries : ℕ → ℕ) where
 
     -- what is named where there is one
     pub chosen-named : found (singleStep present moves S entries) ≡ true → Chosen present moves S entries (stateOf (singleStep present moves S entries))
-    unfolding found stateOf
-    chosen-named t = go (singleStep present moves S entries) refl t
-      where
-        go : (b : Partner) → singleStep present moves S entries ≡ b → found b ≡ true → Chosen present moves S entries (stateOf b)
-        go (State a) e t = names .chosen a .0 e
-        go Nobody e t = absurd (clash refl t)
+    chosen-named t = names .chosen _ .0 (found-state _ t)
 
 pub names-chosen : NamesChosen
 names-chosen present moves S entries = names present entries moves S
@@ -136,14 +124,11 @@ single-below present moves n S R entries others moved set same =
 
 -- ---- a set that is a mask
 module _ (present moves row : ℕ) (h : moves < 2 ^ 64) where
-  in-both : hasBit (bitAnd moves row) present ≡ true → Candidate moves (hasBit row) present
-  in-both t =
-      let bits = sym (has-and present moves row) ∙ t in
-      record { below = has-lt 64 moves present h (and-l _ _ bits); moved = and-l _ _ bits; inside = and-r _ _ bits }
-
   pub mask-stays : hasBit (bitAnd moves row) present ≡ true → singleStep present moves (hasBit row) alike ≡ State present
-  mask-stays t = names present alike moves (hasBit row) .chosen present .1
-      (record { candidate = in-both t; least = λ i c. omega arith; stays = λ c l. refl; lowest = λ n. absurd (n refl) })
+  mask-stays t =
+      let bits = sym (has-and present moves row) ∙ t in
+      single-stays present alike moves (hasBit row)
+      (record { below = has-lt 64 moves present h (and-l _ _ bits); moved = and-l _ _ bits; inside = and-r _ _ bits }) (λ i c. omega arith)
 
   pub mask-nobody : bitAnd moves row ≡ 0 → singleStep present moves (hasBit row) alike ≡ Nobody
   mask-nobody e = single-nobody present alike moves (hasBit row) (partner-nobody moves row h e)

@@ -2,7 +2,7 @@
 use mathlib.Core.Bool.{Bool, true}
 use mathlib.Core.List.{List}
 use mathlib.Core.Logic.{_≢_, ⊎-elim, by-cases}
-use mathlib.Core.Path.{_≡_, refl, _∙_}
+use mathlib.Core.Path.{_≡_, _∙_}
 use Prim.Native.Nat.{ℕ, _-_, _*_, _≤_, _<_}
 use native.Mathlib.Decide.{ℕ-discrete}
 use native.Mathlib.Omega.{arith}
@@ -11,12 +11,10 @@ use Rattle.mask.specs.LogicLaws.{dec, clash}
 use Rattle.mask.specs.Bits.{hasBit}
 use Rattle.mask.specs.BoundedLaws.{someIn-at, someIn-of}
 use Rattle.machine.specs.declared.Pair.{Pair}
-use Rattle.machine.specs.declared.Partner.{Partner}
-use Rattle.machine.specs.declared.Partner.the-variants.{State, Nobody}
 use Rattle.machine.specs.Machines.{nC, nA, setsC, setsA, successors, moves, starts, inFairSet, next}
 use Rattle.machine.specs.Step.{partner, found, stateOf}
 use Rattle.machine.specs.StepLaws.{Steps}
-use Rattle.machine.specs.PartnerLaws.{partner-found, partner-at}
+use Rattle.machine.specs.PartnerLaws.{partner-found, partner-at, found-state}
 use Rattle.machine.specs.SingleStep.{Best, Chosen}
 use Rattle.machine.specs.SingleStepLaws.{single-found, chosen-named}
 use Rattle.machine.specs.Table.{entry}
@@ -28,15 +26,6 @@ use Rattle.machine.specs.Verdict.{startCovered}
 use Rattle.machine.specs.WellFormedLaws.{WellPair, ranks-small}
 use Rattle.machine.specs.Player.{Place, startPartner, sectionAfter, follow, stepTo}
 use Rattle.machine.specs.PlayerLaws.{section-lt}
-
--- the partner that is named
-best-named : (moves : ℕ) (S : ℕ → Bool) (key : ℕ → ℕ) → found (partner moves S key) ≡ true → Best moves S key (stateOf (partner moves S key))
-unfolding found stateOf
-best-named moves S key t = go (partner moves S key) refl t
-  where
-    go : (b : Partner) → partner moves S key ≡ b → found b ≡ true → Best moves S key (stateOf b)
-    go (State a) e t = partner-at moves S key a e
-    go Nobody e t = absurd (clash refl t)
 
 -- one is named if there is any
 named : (moves : ℕ) (S : ℕ → Bool) (key : ℕ → ℕ) (i : ℕ) → i < 64 → hasBit moves i ≡ true → S i ≡ true → found (partner moves S key) ≡ true
@@ -193,7 +182,7 @@ module _ (p : Pair) (T : List ℕ) where
     -- the rule's start, where there is a partner, is the lowest start state of least entry
     pub start-best : (c : ℕ) → found (startPartner p T c) ≡ true → Best (p .abstraction .start) (nonBlank p T 0 c) (entry p T 0 c) (stateOf (startPartner p T c))
     unfolding startPartner
-    start-best c t = best-named (p .abstraction .start) (nonBlank p T 0 c) (entry p T 0 c) t
+    start-best c t = partner-at (p .abstraction .start) (nonBlank p T 0 c) (entry p T 0 c) _ (found-state _ t)
 
     pub start-place : (c : ℕ) → found (startPartner p T c) ≡ true → Covered c (record { state = stateOf (startPartner p T c); section = 0 })
         × (starts (p .abstraction) (stateOf (startPartner p T c)) ≡ true)

@@ -45,11 +45,11 @@ stays : (c : tie.After-has) → c .has .result ≡ true → top c .args .present
 stays c t h l =
     let x = top c .args in
     let bits = sym (has-and (x .present) _ _) ∙ sym (c .has .ensures) ∙ t in
-    sym (single-stays (x .present) (key c) (x .moves) _ (lowest c) (best c) (record {
+    sym (single-stays (x .present) (key c) (x .moves) _ (record {
       below = has-lt 64 (x .moves) (x .present) (omega arith) (and-l _ _ bits);
       moved = and-l _ _ bits;
       inside = inRow-of (x .matched) (x .row .now) (x .bound) (x .present) (and-r _ _ bits) h (omega (arith, lowest-row c .1));
-    }) l)
+    }) (λ i k. omega (arith, l, best c .least i k)))
 
 -- it is not
 leaves : (c : tie.After-has) → (c .has .result ≡ true → top c .args .present < length (top c .args .row .now) → key c (lowest c) < key c (top c .args .present))
