@@ -1,7 +1,7 @@
 #!/bin/sh
 # Builds the programs in C from the archives. Holds `console` to the number of each sample and of damaged copies, `restore` to the samples whose
 # table is the solver's and to what `shelf` says of a hard show and of altered ones, `play` to runs and refusals, and all of them and the programs
-# for the shell to the refusals of badly joined copies.
+# for the shell to the refusals of badly joined copies. Looks for divide instructions in the archives that have the check.
 set -eu
 cd "$(dirname "$0")/.."
 work=$(mktemp -d)
@@ -57,6 +57,22 @@ seal() {
     byte 510 $((sum % 256))
     byte 511 $((sum / 256))
 }
+
+# divides NUMBER FILE FUNCTION: how many instructions of an object or an archive divide, or call a routine of the compiler that does; FUNCTION
+# is in it, so that a file which is not disassembled is told from one that has none
+divides() {
+    found=$(objdump -d -r --no-show-raw-insn "$2" | awk -v name="<$3>:" '
+        $2 == name { seen = 1 }
+        $1 ~ /:$/ && ($2 ~ /^[a-z]*div|^rem/ || $2 ~ /^R_/ && $3 ~ /^__[a-z_]*(div|mod)/) { n++ }
+        END { if (seen) print n + 0; else print "not seen" }')
+    [ "$found" = "$1" ] || { echo "$2, divide instructions: expected $1, and found $found"; failed=1; }
+}
+
+# the look finds a division where there is one; the archives that have the check have none
+echo 'unsigned quotient(unsigned x, unsigned y) { return x / y; }' | cc -O2 -x c -c -o "$work/quotient.o" -
+divides 1 "$work/quotient.o" quotient
+divides 0 target/staticlib/libconsole.a console_answer
+divides 0 target/staticlib/libplayback.a play_file
 
 # the shelf examples, a large show, shows with a hidden mask, one in which the player stays, and shows without a table
 for n in 01 03 05 06 10 12; do expect 100 "samples/case-$n.dom"; done

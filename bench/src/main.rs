@@ -9,7 +9,7 @@ mod sweeps;
 
 use agree::file;
 use measure::{at_least, at_most, batch, hard_family, judge, playing, solving};
-use pairs::{chain, first_hard, linked_chain, rings, second_hard, Lengths, Links, Random};
+use pairs::{chain, first_hard, linked_chain, ranked_rings, rings, second_hard, Lengths, Links, Random};
 use plain::Pair;
 
 fn main() {
@@ -57,8 +57,18 @@ fn main() {
             chain_times = times;
         }
     }
-    let p = rings(8, 7);
+    // by the number of sets, by which an entry's l and k are found
+    let mut s = Random(0xE7037ED1A0B428DB);
     let mut t = vec![0u16; plain::ROOM];
+    for sets in [3, 5, 7, 8] {
+        let dense = Pair::new(s.machine(64, sets, 1, 8, 8), s.machine(64, 7, 1, 8, 12));
+        let sparse = Pair::new(s.machine(64, sets, 2, 1, 8), s.machine(64, 7, 2, 3, 10));
+        for (name, p) in [("dense", dense), ("sparse", sparse), ("ranked", ranked_rings(sets, 7))] {
+            nested::solve(&p, &mut t);
+            judge(&format!("read and check, 64 by 64, {name}, m = {sets}"), &file(&p, Some(&t)));
+        }
+    }
+    let p = rings(8, 7);
     nested::solve(&p, &mut t);
     let f = file(&p, Some(&t));
     let round: Vec<u8> = (0..64).collect();

@@ -186,20 +186,28 @@ pub fn linked_chain(links: Links) -> Pair {
     Pair::new(c, a)
 }
 
-// a ring of 64 states, and one of 61 with three more states that lead into it; one observation, every state in every set: the run of a lasso
-// round the first comes back to its beginning only after 61 rounds, or 61 x 7 where the sections go round too
+// 64 states of one observation, those below `length` in a ring and the others leading into it; each of the sets is the mask `fair`
+fn ring(length: usize, sets: usize, fair: u64) -> Machine {
+    let mut x = machine_of(64, sets);
+    for s in 0..64 {
+        x.successors[s] = 1 << ((s + 1) % length);
+    }
+    for k in 0..sets {
+        x.fairness[k] = fair;
+    }
+    x
+}
+
+// rings of 64 and of 61 states, every state in every set: the run of a lasso round the first comes back to its beginning only after 61 rounds, or
+// 61 x 7 where the sections go round too
 pub fn rings(m: usize, n: usize) -> Pair {
-    let ring = |length: usize, sets: usize| {
-        let mut x = machine_of(64, sets);
-        for s in 0..64 {
-            x.successors[s] = 1 << ((s + 1) % length);
-        }
-        for k in 0..sets {
-            x.fairness[k] = full(64);
-        }
-        x
-    };
-    Pair::new(ring(64, m), ring(61, n))
+    Pair::new(ring(64, m, full(64)), ring(61, n, full(64)))
+}
+
+// two rings of 64 states, every concrete state and one abstract state in every set: each step towards that state is a level, and of 64 entries
+// one is 0 and the others are ranks
+pub fn ranked_rings(m: usize, n: usize) -> Pair {
+    Pair::new(ring(64, m, full(64)), ring(64, n, 1))
 }
 
 // The hard families. The concrete machine has rings of x and x2 states, the abstract one rings of y and y2. Where two lengths are coprime, the

@@ -17,6 +17,7 @@ ghost use Rattle.machine.specs.Refusals.{answer, testedOf};
 ghost use Rattle.machine.specs.Verdict.{lackingStart, startVerdict, checkVerdict};
 ghost use Rattle.linecheck.specs.Answers.{verdictOf};
 ghost use Rattle.linecheck.specs.Bounds.{lineOf};
+ghost use Rattle.linecheck.specs.Reciprocal.{reciprocalOf};
 use machine::Pair;
 use machine::Refusal;
 use machine::Validity;
@@ -41,15 +42,35 @@ struct Level {
     set: usize,
 }
 
-// The l and k of an entry that is not 0.
+// 2^19 / m, rounded up: what stands for 1 / m in a division of 16 bits. Modulo 8 there is no other m than those of the arms, so that the compiler
+// makes a list of the numbers and tests no range.
+fn reciprocal_of(m: usize) -> usize
+    requires { ⌜ (0 < m) × (m ≤ 8) ⌝ }
+    ensures { λ r. ⌜ r ≡ reciprocalOf m ⌝ }
+{
+    match m % 8 {
+        0 => 65536,
+        1 => 524288,
+        2 => 262144,
+        3 => 174763,
+        4 => 131072,
+        5 => 104858,
+        6 => 87382,
+        _ => 74899,
+    }
+}
+
+// The l and k of an entry that is not 0, without a division: on some processors that is dear.
 fn level_of(m: usize, e: u16) -> Level
-    requires { ⌜ (0 < m) × (0 < e) ⌝ }
+    requires { ⌜ ((0 < m) × (m ≤ 8)) × (0 < e) ⌝ }
     ensures { λ r. ⌜ (r .level ≡ levelOf m e) × (r .set ≡ setOf m e) ⌝ }
 {
-    let r = e as usize - 1;
+    let entry = e as usize;
+    let x = entry - 1;
+    let quotient = (x * reciprocal_of(m)) >> 19;
     Level {
-        level: r / m + 1,
-        set: r % m,
+        level: quotient + 1,
+        set: x - quotient * m,
     }
 }
 
