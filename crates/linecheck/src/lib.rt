@@ -1,6 +1,7 @@
 // The line check: document 01, "Line check". It sees the machines and the step, and not the solver.
 // Cost: for each non-blank entry and each successor of its concrete state, one search among the successors of its abstract state, which stops
-// at the first that serves: at most n x nC x nA x nC x nA looks at an entry, and on passing tables far fewer.
+// at the first that serves: at most n x nC x nA x nC x nA looks at an entry, and on passing tables far fewer. Nothing divides but by fixed powers
+// of two.
 ghost use mathlib.Core.Bool.{true};
 ghost use mathlib.Core.Path.{_≡_};
 ghost use Prim.Native.Nat.{_<_, _≤_};
@@ -60,7 +61,7 @@ fn reciprocal_of(m: usize) -> usize
     }
 }
 
-// The l and k of an entry that is not 0, without a division: on some processors that is dear.
+// The l and k of an entry that is not 0. A division by m would be dear on some processors.
 fn level_of(m: usize, e: u16) -> Level
     requires { ⌜ ((0 < m) × (m ≤ 8)) × (0 < e) ⌝ }
     ensures { λ r. ⌜ (r .level ≡ levelOf m e) × (r .set ≡ setOf m e) ⌝ }
