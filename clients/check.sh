@@ -61,16 +61,21 @@ seal() {
 # divides NUMBER FILE FUNCTION: how many instructions of an object or an archive divide, or call a routine of the compiler that does; FUNCTION
 # is in it, so that a file which is not disassembled is told from one that has none
 divides() {
-    found=$(objdump -d -r --no-show-raw-insn "$2" | awk -v name="<$3>:" '
+    objdump -d -r --no-show-raw-insn "$2" >"$work/code" || { echo "$2: not disassembled"; failed=1; }
+    found=$(awk -v name="<$3>:" '
         $2 == name { seen = 1 }
         $1 ~ /:$/ && ($2 ~ /^[a-z]*div|^rem/ || $2 ~ /^R_/ && $3 ~ /^__[a-z_]*(div|mod)/) { n++ }
-        END { if (seen) print n + 0; else print "not seen" }')
+        END { if (seen) print n + 0; else print "not seen" }' "$work/code")
     [ "$found" = "$1" ] || { echo "$2, divide instructions: expected $1, and found $found"; failed=1; }
 }
 
-# the look finds a division where there is one; the archives that have the check have none
-echo 'unsigned quotient(unsigned x, unsigned y) { return x / y; }' | cc -O2 -x c -c -o "$work/quotient.o" -
-divides 1 "$work/quotient.o" quotient
+# a division and a call of a routine that divides are found; the archives that have the check have neither
+cc -O2 -x c -c -o "$work/quotient.o" - <<'END'
+unsigned __udivsi3(unsigned x, unsigned y);
+unsigned quotient(unsigned x, unsigned y) { return x / y; }
+unsigned called(unsigned x, unsigned y) { return __udivsi3(x, y) + 1; }
+END
+divides 2 "$work/quotient.o" quotient
 divides 0 target/staticlib/libconsole.a console_answer
 divides 0 target/staticlib/libplayback.a play_file
 

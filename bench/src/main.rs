@@ -64,11 +64,13 @@ fn main() {
         let dense = Pair::new(s.machine(64, sets, 1, 8, 8), s.machine(64, 7, 1, 8, 12));
         let sparse = Pair::new(s.machine(64, sets, 2, 1, 8), s.machine(64, 7, 2, 3, 10));
         for (name, p) in [("dense", dense), ("sparse", sparse), ("ranked", ranked_rings(sets, 7))] {
+            agree::compare_tables(&p);
             nested::solve(&p, &mut t);
             judge(&format!("read and check, 64 by 64, {name}, m = {sets}"), &file(&p, Some(&t)));
         }
     }
     let p = rings(8, 7);
+    agree::compare_tables(&p);
     nested::solve(&p, &mut t);
     let f = file(&p, Some(&t));
     let round: Vec<u8> = (0..64).collect();

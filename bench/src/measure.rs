@@ -57,6 +57,7 @@ fn solver_row(name: &str, ours: f64, theirs: f64, nested: f64) {
 }
 
 pub fn judge(name: &str, f: &[u8]) {
+    assert_eq!(proved::console(f), plain::verdict(f).number(), "{name}");
     let a = time(|| {
         black_box(proved::console(black_box(f)));
     });

@@ -43,8 +43,8 @@ struct Level {
     set: usize,
 }
 
-// 2^19 / m, rounded up: what stands for 1 / m in a division of 16 bits. Modulo 8 there is no other m than those of the arms, so that the compiler
-// makes a list of the numbers and tests no range.
+// 2^19 / m, rounded up: a number of 16 bits, multiplied with it and shifted by 19, is divided by m. The arm 0 is that of 8. Each value modulo 8
+// has an arm, so that the compiler makes a list of them and tests no range.
 fn reciprocal_of(m: usize) -> usize
     requires { ⌜ (0 < m) × (m ≤ 8) ⌝ }
     ensures { λ r. ⌜ r ≡ reciprocalOf m ⌝ }

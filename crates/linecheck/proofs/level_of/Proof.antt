@@ -2,11 +2,11 @@
 use Prim.Native.Nat.{_-_, _*_, _^_, _<_}
 use native.Mathlib.Omega.{arith}
 use borrow.Author.Needs.{needs}
-use Rattle.linecheck.specs.ReciprocalLaws.{found-high, times-high, levels-below, level-is, set-is}
+use Rattle.linecheck.specs.ReciprocalLaws.{found-high, times-high, quotient-times, level-is, set-is}
 use Rattle.linecheck.proofs.level_of.Statement.{statement}
 use Rattle.linecheck.proofs.level_of.Tie as tie
 
-product-small : (c : tie.After-reciprocal-of) → (c .before .args .e - 1) * c .reciprocal-of .result < 2 ^ 36
+product-small : (c : tie.After-reciprocal-of) → (c .before .args .e - 1) * c .reciprocal-of .result < 2 ^ 35
 product-small c =
     let x = c .before .args in
     found-high (x .m) (x .e) _ (c .reciprocal-of .ensures) (omega arith) (omega arith) (omega arith)
@@ -27,7 +27,7 @@ mul-t7 : tie.Need-mul-t7
 mul-t7 c = record { fits = times-high _ (c .before .args .m) (omega (arith, product-small c)) (omega arith) }
 
 sub-t8 : tie.Need-sub-t8
-sub-t8 c = let x = c .before .args in omega (arith, levels-below (x .m) (x .e) (c .reciprocal-of .result) (c .reciprocal-of .ensures) (omega arith) (omega arith) (omega arith))
+sub-t8 c = let x = c .before .args in omega (arith, quotient-times (x .m) (x .e) (c .reciprocal-of .result) (c .reciprocal-of .ensures) (omega arith) (omega arith) (omega arith))
 
 returns : tie.Need-returns
 returns c =
