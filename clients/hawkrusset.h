@@ -45,7 +45,8 @@ uint32_t first_block_answer(const uint8_t *bytes, size_t length);
  * The show of the file whose bytes these are, all of them, with the solver's table, whether or not the file has one: 59,905 bytes are
  * refusal 2. The answer is the length of the new file, which stands at the start of `out`; the bytes after it are unchanged. Or the answer
  * is 0: then `out` is unchanged. `spot` is a place for four numbers, written beside a refusal and only then: the refusal's number (1 for an
- * `out` of fewer than 59,392 bytes) and the three numbers of its spot. `bytes`, `out` and `spot` must not overlap.
+ * `out` of fewer than 59,392 bytes, 21 for a fairness set without a state) and the three numbers of its spot. `bytes`, `out` and `spot` must not
+ * overlap.
  * It takes at most 140,000 bytes of stack. librestore.a has it (rt staticlib restore).
  */
 size_t solve_file(const uint8_t *bytes, size_t length, uint8_t *out, size_t room, uint64_t spot[4]);

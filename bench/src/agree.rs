@@ -112,9 +112,13 @@ fn carried(p: &Pair) -> bool {
 pub fn on_files(r: &mut Random, h: &mut Random) {
     let mut counts = [0usize; 4];
     let mut plays = Plays::default();
-    let (mut masked, mut thanks_to_mask) = (0, 0);
+    let (mut masked, mut thanks_to_mask, mut empty) = (0, 0, 0);
     for round in 0..3000 {
         let mut p = r.pair(if round % 50 == 0 { 64 } else { 7 });
+        // one show of three keeps its empty sets
+        if round % 3 != 0 {
+            p = p.filled();
+        }
         h.may_hide(&mut p);
         if p.hidden != 0 {
             masked += 1;
@@ -127,6 +131,10 @@ pub fn on_files(r: &mut Random, h: &mut Random) {
             _ => file(&p, Some(&t)),
         };
         compare(&f, &mut counts);
+        if p.has_empty_set() {
+            empty += 1;
+            assert_eq!(proved::solve(&f, &mut vec![0u8; FILE_ROOM]).map_err(|e| e.0), Err(21), "an empty set");
+        }
         for _ in 0..4 {
             let (stem, cycle) = lasso(r, &p.c);
             compare_play(&f, &stem, &cycle, &mut plays);
@@ -157,6 +165,7 @@ pub fn on_files(r: &mut Random, h: &mut Random) {
     }
     println!("agreed: carried {}, not carried {}, no table {}, refused {}", counts[0], counts[1], counts[2], counts[3]);
     println!("agreed on shows with a hidden mask: {masked}, carried only thanks to it {thanks_to_mask}");
+    println!("agreed on shows with an empty set: {empty}");
     let [run, no_table, refused] = plays.kinds;
     println!("agreed on plays: run {run}, no table {no_table}, refused {refused}");
     println!("changes of state in {} moves of these runs: {}, by the lowest number alone {}", MOVES * run, plays.by_rule, plays.by_number);
@@ -175,7 +184,7 @@ pub fn on_blocks(r: &mut Random) {
     let mut other = file(&r.shaped_pair(64, 64), None);
     for _ in 0..1000 {
         let (nc, na) = (12 + r.below(53), 12 + r.below(53));
-        let p = r.shaped_pair(nc, na);
+        let p = r.shaped_pair(nc, na).filled();
         let mut t = vec![0u16; plain::ROOM];
         sweeps::solve(&p, &mut t);
         let good = file(&p, Some(&t));

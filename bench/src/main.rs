@@ -20,23 +20,23 @@ fn main() {
     let mut q = Random(0xD1B54A32D192ED03);
     let small = |q: &mut Random| {
         let (nc, na) = (1 + q.below(9), 1 + q.below(9));
-        q.shaped_pair(nc, na)
+        q.shaped_pair(nc, na).filled()
     };
     let mut small: Vec<_> = (0..2000).map(|_| small(&mut q)).collect();
     small.iter_mut().for_each(|p| h.may_hide(p));
     agree::on_pairs("2000 random, to 9 by 9", &small);
-    let mut altered: Vec<_> = (0..1000).map(|_| q.altered_hard_pair()).collect();
+    let mut altered: Vec<_> = (0..1000).map(|_| q.altered_hard_pair().filled()).collect();
     altered.iter_mut().for_each(|p| h.may_hide(p));
     agree::on_pairs("1000 altered hard ones, to 14 by 14", &altered);
-    let eight: Vec<_> = (0..1000).map(|_| q.shaped_pair(8, 8)).collect();
+    let eight: Vec<_> = (0..1000).map(|_| q.shaped_pair(8, 8).filled()).collect();
     agree::on_pairs("1000 random, 8 by 8", &eight);
-    let full_size: Vec<_> = (0..1000).map(|_| q.shaped_pair(64, 64)).collect();
+    let full_size: Vec<_> = (0..1000).map(|_| q.shaped_pair(64, 64).filled()).collect();
     agree::on_pairs("1000 random, 64 by 64", &full_size);
 
     println!("{:52} {:>12}    {:>12} {:>30}", "job", "proved", "plain", "nested");
     let mut chain_times = f64::MAX;
     for states in [8, 16, 32, 64] {
-        let p = Pair::new(r.machine(states, 8, 1, 8, 8), r.machine(states, 7, 1, 8, 12));
+        let p = Pair::new(r.machine(states, 8, 1, 8, 8), r.machine(states, 7, 1, 8, 12)).filled();
         let mut t = vec![0u16; plain::ROOM];
         nested::solve(&p, &mut t);
         let good = file(&p, Some(&t));
@@ -45,7 +45,7 @@ fn main() {
         judge(&format!("read, {states} by {states} (first entry fails)"), &bad);
         judge(&format!("read and check, {states} by {states}, dense"), &good);
         solving(&format!("read, solve and write, {states} by {states}, dense"), &p);
-        let p = Pair::new(r.machine(states, 8, 2, 1, 8), r.machine(states, 7, 2, 3, 10));
+        let p = Pair::new(r.machine(states, 8, 2, 1, 8), r.machine(states, 7, 2, 3, 10)).filled();
         nested::solve(&p, &mut t);
         judge(&format!("read and check, {states} by {states}, sparse"), &file(&p, Some(&t)));
         solving(&format!("read, solve and write, {states} by {states}, sparse"), &p);
@@ -61,8 +61,8 @@ fn main() {
     let mut s = Random(0xE7037ED1A0B428DB);
     let mut t = vec![0u16; plain::ROOM];
     for sets in [3, 5, 7, 8] {
-        let dense = Pair::new(s.machine(64, sets, 1, 8, 8), s.machine(64, 7, 1, 8, 12));
-        let sparse = Pair::new(s.machine(64, sets, 2, 1, 8), s.machine(64, 7, 2, 3, 10));
+        let dense = Pair::new(s.machine(64, sets, 1, 8, 8), s.machine(64, 7, 1, 8, 12)).filled();
+        let sparse = Pair::new(s.machine(64, sets, 2, 1, 8), s.machine(64, 7, 2, 3, 10)).filled();
         for (name, p) in [("dense", dense), ("sparse", sparse), ("ranked", ranked_rings(sets, 7))] {
             agree::compare_tables(&p);
             nested::solve(&p, &mut t);

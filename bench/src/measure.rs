@@ -113,6 +113,7 @@ fn idle(p: &Pair) -> Pair {
             x.observations[s] = observation;
             x.successors[s] = 1 << s;
         }
+        x.fairness[..m.sets].fill(1);
         x
     };
     Pair::new(still(&p.c, 0), still(&p.a, 1))

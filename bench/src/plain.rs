@@ -26,6 +26,22 @@ impl Pair {
     pub fn new(c: Machine, a: Machine) -> Pair {
         Pair { c, a, hidden: 0 }
     }
+
+    // the same, with a state in each set that had none, so that the solver takes it
+    pub fn filled(mut self) -> Pair {
+        for m in [&mut self.c, &mut self.a] {
+            for k in 0..m.sets {
+                if m.fairness[k] == 0 {
+                    m.fairness[k] = 1 << (k % m.states);
+                }
+            }
+        }
+        self
+    }
+
+    pub fn has_empty_set(&self) -> bool {
+        *self != self.filled()
+    }
 }
 
 pub const ROOM: usize = 28672;
@@ -99,6 +115,14 @@ fn content(index: usize, m: &Machine) -> Result<(), Refusal> {
         }
     }
     Ok(())
+}
+
+// a set without a state, counted from 1: what the solver does not take
+fn nonempty(index: usize, m: &Machine) -> Result<(), Refusal> {
+    match m.fairness[..m.sets].iter().position(|&set| set == 0) {
+        Some(k) => Err(Refusal(21, index, k + 1, 0)),
+        None => Ok(()),
+    }
 }
 
 // ---- files
@@ -404,6 +428,8 @@ pub fn play_file(bytes: &[u8], stem: &[u8], cycle: &[u8], run: &mut [u8]) -> Res
 pub fn solve_file(solve: fn(&Pair, &mut [u16]), bytes: &[u8], out: &mut [u8]) -> Result<usize, Refusal> {
     let mut t = [0u16; ROOM];
     let (p, _) = read(bytes, &mut t)?;
+    nonempty(0, &p.c)?;
+    nonempty(1, &p.a)?;
     solve(&p, &mut t);
     Ok(write(&p, Some(&t), out))
 }

@@ -10,9 +10,11 @@ use Rattle.mask.specs.Tables.{table}
 use Rattle.mask.specs.TablesLaws.{fill-done}
 use Rattle.machine.specs.declared.Pair.{Pair}
 use Rattle.machine.specs.Refusals.{Result, answer, refused, bufferAfter}
+use Rattle.machine.specs.RefusalsLaws.{then-refused, buffer-kept}
 use Rattle.machine.specs.Machines.{nC, nA, setsA}
-use Rattle.machine.specs.WellFormed.{wellFormed}
+use Rattle.machine.specs.WellFormed.{wellFormed, nonemptySets}
 use Rattle.machine.specs.WellFormedLaws.{well-pair}
+use Rattle.machine.specs.EmptySetsLaws.{empty-set-told, empty-set-is-unfair, nonempty-has-state}
 use Rattle.machine.specs.Ranks.{rank, solverTable}
 use Rattle.machine.specs.Table.{tableRoom, entry, entries}
 use Rattle.machine.specs.LinesLaws.{covers-at, covers-of}
@@ -25,13 +27,16 @@ use Rattle.machine.specs.Lassos.{SameObservations}
 use Rattle.soundness.specs.PlayLaws.{observations-zero}
 use Rattle.soundness.specs.Theorems.{carried-is-sound, check-unread, player-unread}
 use Rattle.codec.specs.Format.{fileOf}
+use Rattle.codec.specs.Writer.{writeAnswer, writeBuffer}
+use Rattle.codec.specs.WriterLaws.{with-room}
 use Rattle.codec.specs.FileLaws.{write-read, read-write, written-reads, read-writes, first-block, first-block-tells-size, entries-unread, taken-fits, taken-hidden, stored-test, stored-matched, taken-representable, Was, was-taken, was-well}
 use Rattle.codec.specs.PlacesLaws.{blocks-told, first-told, lowest-told, damaged-told, misplaced-told, joined-told, exchanged-told, overwritten-told}
 use Rattle.solver.specs.Solver.{solveValidity, solvedTable}
+use Rattle.solver.specs.SolverLaws.{solve-long, solved-refused}
 use Rattle.solver.specs.SolvedLaws.{solve-takes, solved-same, solved-room}
 use Rattle.restore.specs.Restoring.{restored, restoreBuffer}
-use Rattle.restore.specs.RestoringLaws.{restore-valid, restore-made}
-use Rattle.assurance.specs.Statements.{FilesReadBack, FilesAreWritten, FirstBlockIsEnough, TakenIsNotCut, EntriesAreUnread, FilesAreSound, StoredFilesAreSound, StoredFilesKeepMeaning, BlocksAreTold, BadCopiesAreTold, LostTableIsReplaced}
+use Rattle.restore.specs.RestoringLaws.{restore-valid, restore-made, restore-empty}
+use Rattle.assurance.specs.Statements.{FilesReadBack, FilesAreWritten, FirstBlockIsEnough, TakenIsNotCut, EntriesAreUnread, FilesAreSound, StoredFilesAreSound, StoredFilesKeepMeaning, BlocksAreTold, BadCopiesAreTold, LostTableIsReplaced, SolverRefusesEmpty, WriterRefusesEmpty, FileSolverRefusesEmpty, EmptySetsAreRefused, EmptySetMeans}
 use Rattle.assurance.specs.Statements.{SolverTakesMachines, SolvedPasses, SolvedCovers, SolvedIsCarried, SolvedIsFigure2, SolvedGoals, SolvedRanks, SolvedRest}
 
 pub files-read-back : FilesReadBack
@@ -72,9 +77,9 @@ bad-copies-are-told = (damaged-told, misplaced-told, joined-told, exchanged-told
 -- the new file is that of the same machines with the solver's table, and what is written reads back
 pub lost-table-is-replaced : LostTableIsReplaced
 unfolding restored
-lost-table-is-replaced f first p note bytes e buffer lent room long =
+lost-table-is-replaced f first p note bytes e some buffer lent room long =
     let w = was-taken f first p note e in
-    let made = restore-made f buffer (restore-valid f buffer room w) in
+    let made = restore-made f buffer (restore-valid f buffer room w some) in
     let size = length (restored f) in
     let back = write-read p true (solverTable p) lent (taken-representable f first p note bytes e) (was-well w) (table-is p (well-pair p (was-well w)) .1) long in
     let cut : take size (restoreBuffer f buffer) ≡ fileOf p true (solverTable p) =
@@ -92,37 +97,64 @@ lost-table-is-replaced f first p note bytes e buffer lent room long =
     file w = ap (λ (q : Pair). fileOf q true (solverTable q)) (w .pair-is)
 
 pub solver-takes-machines : (p : Pair) (T : List ℕ) → SolverTakesMachines p T
-solver-takes-machines p T well room = solve-takes p T well room
+solver-takes-machines p T well some room = solve-takes p T well some room
 
--- ---- what the solver leaves in a table with room, of well-formed machines
-module _ (p : Pair) (T : List ℕ) (well : wellFormed p ≡ true) (room : tableRoom ≤ length T) where
+-- ---- empty sets
+solver-refuses-empty : SolverRefusesEmpty
+solver-refuses-empty p T well empty room =
+    let told = empty-set-told p well empty in
+    let e = solve-long p (length T) room ∙ told .1 in
+    (told .0, told .2, e, sym (solved-refused p T (told .0) e))
+
+writer-refuses-empty : WriterRefusesEmpty
+unfolding writeAnswer writeBuffer
+writer-refuses-empty p note T buffer well empty room long =
+    let told = empty-set-told p well empty in
+    let e = with-room p (length T) (length buffer) room long ∙ told .1 in
+    (told .0, told .2, then-refused _ _ _ e, buffer-kept _ _ buffer e)
+
+file-solver-refuses-empty : FileSolverRefusesEmpty
+file-solver-refuses-empty f first p note e empty buffer room =
+    let w = was-taken f first p note e in
+    let told = empty-set-told p (was-well w) empty in
+    let both = restore-empty f buffer room w (told .1) in
+    (told .0, told .2, both .0, both .1)
+
+pub empty-sets-are-refused : EmptySetsAreRefused
+empty-sets-are-refused = (solver-refuses-empty, writer-refuses-empty, file-solver-refuses-empty)
+
+pub empty-set-means : EmptySetMeans
+empty-set-means = (empty-set-is-unfair, nonempty-has-state)
+
+-- ---- what the solver leaves in a table with room, of well-formed machines whose sets all have a state
+module _ (p : Pair) (T : List ℕ) (well : wellFormed p ≡ true) (some : nonemptySets p ≡ true) (room : tableRoom ≤ length T) where
   said-same : checkVerdict p (solvedTable p T) ≡ linesVerdict p (solverTable p)
-  said-same = check-lines p _ (solved-room p T well room) ∙ verdict-same p _ _ (solved-same p T well room)
+  said-same = check-lines p _ (solved-room p T well some room) ∙ verdict-same p _ _ (solved-same p T well some room)
 
   entry-rank : (j c a : ℕ) → j < setsA p → c < nC p → a < nA p → entry p (solvedTable p T) j c a ≡ rank p j c a
-  entry-rank j c a hj hc ha = entry-same p _ _ (solved-same p T well room) j c a hj hc ha ∙ table-holds-ranks p j c a hj hc ha
+  entry-rank j c a hj hc ha = entry-same p _ _ (solved-same p T well some room) j c a hj hc ha ∙ table-holds-ranks p j c a hj hc ha
 
 module _ (p : Pair) (T : List ℕ) where
   pub solved-passes : SolvedPasses p T
-  solved-passes well room = each-same p _ _ (solved-same p T well room) ∙ solver-table-passes p well
+  solved-passes well some room = each-same p _ _ (solved-same p T well some room) ∙ solver-table-passes p well
 
   pub solved-covers : SolvedCovers p T
-  solved-covers well room R t j c a hj hc ha u = covers-same p _ _ (solved-same p T well room) j c a hj hc ha ∙ solver-table-covers p well R t j c a hj hc ha u
+  solved-covers well some room R t j c a hj hc ha u = covers-same p _ _ (solved-same p T well some room) j c a hj hc ha ∙ solver-table-covers p well R t j c a hj hc ha u
 
   pub solved-is-carried : SolvedIsCarried p T
-  solved-is-carried well room = rw (said-same p T well room) (carried-exactly p well)
+  solved-is-carried well some room = rw (said-same p T well some room) (carried-exactly p well)
 
   pub solved-is-figure2 : SolvedIsFigure2 p T
-  solved-is-figure2 well room j c a hj hc ha =
+  solved-is-figure2 well some room j c a hj hc ha =
       let f = rank-is-figure2 p well j c a hj hc ha .0 in
-      let e = entry-rank p T well room j c a hj hc ha in
+      let e = entry-rank p T well some room j c a hj hc ha in
       (λ t. f .0 (λ b. covers-at p (solvedTable p T) j c a t (e ∙ b)), λ t. covers-of p (solvedTable p T) j c a (λ b. f .1 t (sym e ∙ b)))
 
   pub solved-goals : SolvedGoals p T
-  solved-goals well room j c a hj hc ha = rw (entry-rank p T well room j c a hj hc ha) (rank-is-goal p j c a hj hc ha)
+  solved-goals well some room j c a hj hc ha = rw (entry-rank p T well some room j c a hj hc ha) (rank-is-goal p j c a hj hc ha)
 
   pub solved-ranks : SolvedRanks p T
-  solved-ranks well room j c a hj hc ha t g = rw (entry-rank p T well room j c a hj hc ha) (rank-is-least p j c a hj hc ha t g)
+  solved-ranks well some room j c a hj hc ha t g = rw (entry-rank p T well some room j c a hj hc ha) (rank-is-least p j c a hj hc ha t g)
 
   pub solved-rest : SolvedRest p T
   unfolding solvedTable bufferAfter

@@ -1,6 +1,6 @@
 -- What the plain reading of a line steps into, and its answer as document 01 tells it.
 use Rattle.machine.specs.Verdict as Told
-use mathlib.Core.Bool.{Bool}
+use mathlib.Core.Bool.{Bool, false}
 use mathlib.Core.List.{List}
 use Prim.Native.Nat.{ℕ}
 use lib.Dec.{eqb, leb, ltb}
@@ -27,6 +27,12 @@ inTarget p T t j c a = and (matched p c a) (hit t (setsC p) (entry p T j c a))
 
 -- what document 01 says for each case of the answer
 unfoldable pub verdictOf : Verdict → Result Told.Verdict
-verdictOf (Carried n) = answer (Told.carried n)
-verdictOf (NotCarried c n) = answer (Told.notCarried c n)
+verdictOf (Carried n empty) = answer (Told.carried n)
+verdictOf (NotCarried c n empty) = answer (Told.notCarried c n)
 verdictOf (Refused r) = refused r
+
+-- whether a concrete set is empty; a refusal does not tell
+unfoldable pub emptySetOf : Verdict → Bool
+emptySetOf (Carried n empty) = empty
+emptySetOf (NotCarried c n empty) = empty
+emptySetOf (Refused r) = false

@@ -1,9 +1,16 @@
 -- Laws of what lies past an array's end, and of machines as the plain reading meets them.
+use mathlib.Core.Bool.{true, false}
 use mathlib.Core.List.{List}
-use mathlib.Core.Path.{_≡_, sym}
+use mathlib.Core.Path.{_≡_, sym, ap, _∙_}
 use Prim.Native.Nat.{_≤_, ℕ}
 use native.Mathlib.Omega.{arith}
+use lib.Dec.{eqb}
 use lib.ListN.{List·getD-eq-default, getD, length}
+use borrow.Author.Tests.{eqb-true, eqb-false}
+use Rattle.mask.specs.Bits.{hasBit}
+use Rattle.mask.specs.BitsLaws.{has-none}
+use Rattle.mask.specs.Logic.{not}
+use Rattle.mask.specs.LogicLaws.{clash, not-e, not-false}
 use Rattle.machine.specs.Machines.{fairSet, observation, successors}
 use Rattle.machine.specs.declared.Machine.{Machine}
 
@@ -24,3 +31,13 @@ module _ (m : Machine) where
   pub fair-at : {x : ℕ} (k : ℕ) → x ≡ fairSet m k → x ≡ getD (m .fairness) k 0
   unfolding fairSet
   fair-at k e = e
+
+-- ---- sets with a state and without
+pub state-nonzero : (members s : ℕ) → hasBit members s ≡ true → members ≡ 0 → ⊥
+state-nonzero members s t e = clash (has-none s) (ap (λ (x : ℕ). hasBit x s) (sym e) ∙ t)
+
+pub stateless-zero : (members : ℕ) → not (eqb members 0) ≡ false → members ≡ 0
+stateless-zero members t = eqb-true members 0 (not-false _ t)
+
+pub state-some : (members : ℕ) → not (eqb members 0) ≡ true → members ≡ 0 → ⊥
+state-some members t = eqb-false members 0 (not-e _ t)

@@ -15,6 +15,7 @@ pub use lifting::lift;
 pub use lines::Verdict;
 pub use lines::plain_verdict;
 pub use lines::value_at;
+pub use machines::nonempty_validity;
 pub use machines::validity;
 pub use numbers::Shape;
 pub use numbers::digit;

@@ -7,13 +7,14 @@ ghost use Rattle.mask.specs.Bounded.{every, first, someIn};
 ghost use Rattle.mask.specs.Logic.{not};
 ghost use Rattle.machine.specs.Machines.{successors, nC, nA, setsA};
 ghost use Rattle.machine.specs.Refusals.{answer, testedOf};
-ghost use Rattle.machine.specs.WellFormed.{wellFormed};
+ghost use Rattle.machine.specs.WellFormed.{hasEmptySet, wellFormed};
 ghost use Rattle.machine.specs.Step.{steps};
 ghost use Rattle.machine.specs.Ranks.{levelOf, setOf};
 ghost use Rattle.machine.specs.Table.{entry, coveredCount};
 ghost use Rattle.machine.specs.Lines.{passes, goalLine, rankLine, linesValidity};
-ghost use Rattle.machine.specs.Verdict.{startCovered, lackingStart, startVerdict, checkVerdict};
-ghost use Rattle.brute.specs.Lines.{hit, inTarget, verdictOf};
+ghost use Rattle.machine.specs.Verdict.{startCovered, lackingStart, startVerdict, checkVerdict, checkEmptySet};
+ghost use Rattle.brute.specs.Lines.{hit, inTarget, verdictOf, emptySetOf};
+use crate::machines::has_empty_set;
 use crate::machines::has_move;
 use crate::machines::has_start;
 use crate::machines::in_set;
@@ -23,10 +24,10 @@ use machine::Pair;
 use machine::Refusal;
 use machine::Validity;
 
-// What the check says: Carried with the count, NotCarried with c and the count, or where it was stopped.
+// What the check says: Carried with the count, NotCarried with c and the count, each with whether a concrete set is empty; or where it was stopped.
 pub enum Verdict {
-    Carried(usize),
-    NotCarried(usize, usize),
+    Carried(usize, bool),
+    NotCarried(usize, usize, bool),
     Refused(Refusal),
 }
 
@@ -296,20 +297,23 @@ fn lacking_start(p: Pair, table: &[u16]) -> usize
 // What is said of a table that passes each line.
 fn start_verdict(p: Pair, table: &[u16]) -> Verdict
     requires { ⌜ wellFormed p ≡ true ⌝ }
-    ensures { λ r. ⌜ verdictOf r ≡ answer (startVerdict p (now (table .entry))) ⌝ }
+    ensures verdict { λ r. ⌜ verdictOf r ≡ answer (startVerdict p (now (table .entry))) ⌝ }
+    ensures empty { λ r. ⌜ emptySetOf r ≡ hasEmptySet (p .concrete) ⌝ }
 {
     let concrete = p.concrete;
     let c = lacking_start(p, table);
+    let empty = has_empty_set(concrete);
     if c < concrete.states {
-        Verdict::NotCarried(c, covered(p, table))
+        Verdict::NotCarried(c, covered(p, table), empty)
     } else {
-        Verdict::Carried(covered(p, table))
+        Verdict::Carried(covered(p, table), empty)
     }
 }
 
 // What the check says of any table of any pair.
 pub fn plain_verdict(p: Pair, table: &[u16]) -> Verdict
-    ensures { λ r. ⌜ verdictOf r ≡ checkVerdict p (now (table .entry)) ⌝ }
+    ensures verdict { λ r. ⌜ verdictOf r ≡ checkVerdict p (now (table .entry)) ⌝ }
+    ensures empty { λ r. ⌜ emptySetOf r ≡ checkEmptySet p (now (table .entry)) ⌝ }
 {
     if table.len() < machine::TABLE_ROOM {
         return Verdict::Refused(machine::refuse(machine::SHORT_BUFFER, 0, 0, 0));

@@ -1,9 +1,11 @@
 // The plain reading of machines: every question is asked of a state by its number.
 ghost use mathlib.Core.Path.{_≡_};
+ghost use lib.Dec.{eqb};
+ghost use Rattle.mask.specs.Logic.{not};
 ghost use Rattle.mask.specs.Bounded.{some};
 ghost use Rattle.machine.specs.Machines.{observation, successors, moves, starts, fairSet, inFairSet, matched};
 ghost use Rattle.machine.specs.Refusals.{testedOf};
-ghost use Rattle.machine.specs.WellFormed.{countsOk, beyond, stateBeyond, setBeyond, beyondCounts, stuckState, contentValidity, pairValidity};
+ghost use Rattle.machine.specs.WellFormed.{countsOk, beyond, stateBeyond, setBeyond, beyondCounts, stuckState, emptySet, hasEmptySet, contentValidity, contentTests, pairTests, pairValidity, nonemptyValidity};
 use machine::Machine;
 use machine::Pair;
 use machine::Validity;
@@ -187,9 +189,61 @@ fn content(i: usize, m: Machine) -> Validity
     Validity::Valid
 }
 
-// 5, 9, 10 and 11 of a pair.
-pub fn validity(p: Pair) -> Validity
-    ensures { λ r. ⌜ testedOf r ≡ pairValidity p ⌝ }
+// Whether a set has a state.
+fn has_state(members: u64) -> bool
+    ensures { λ r. ⌜ r ≡ not (eqb members 0) ⌝ }
+{
+    for s in 0..64 {
+        if mask::has(members, s) {
+            return true;
+        }
+    }
+    false
+}
+
+// The lowest set without a state, counted from 0; 8 where there is none.
+fn empty_set(m: Machine) -> usize
+    ensures { λ r. ⌜ r ≡ emptySet (m .sets) (m .fairness) ⌝ }
+{
+    for k in 0..8 {
+        if k < m.sets {
+            if !has_state(set_of(m, k)) {
+                return k;
+            }
+        }
+    }
+    8
+}
+
+// Whether a machine has a set without a state.
+pub fn has_empty_set(m: Machine) -> bool
+    ensures { λ r. ⌜ r ≡ hasEmptySet m ⌝ }
+{
+    empty_set(m) < 8
+}
+
+// 9, 10 and 11 of machine number i of a pair, and then 21 if `nonempty`.
+fn content_and_sets(nonempty: bool, i: usize, m: Machine) -> Validity
+    ensures { λ r. ⌜ testedOf r ≡ contentTests nonempty i m ⌝ }
+{
+    let first = content(i, m);
+    if let Validity::Refused(r) = first {
+        return Validity::Refused(r);
+    }
+    if !nonempty {
+        return Validity::Valid;
+    }
+    let k = empty_set(m);
+    if k < 8 {
+        Validity::Refused(machine::refuse(machine::EMPTY_SET, i, k + 1, 0))
+    } else {
+        Validity::Valid
+    }
+}
+
+// 5, then these of the concrete machine and of the abstract one.
+fn tests(nonempty: bool, p: Pair) -> Validity
+    ensures { λ r. ⌜ testedOf r ≡ pairTests nonempty p ⌝ }
 {
     let c = p.concrete;
     let a = p.abstraction;
@@ -199,9 +253,23 @@ pub fn validity(p: Pair) -> Validity
     if !has_counts(7, a) {
         return Validity::Refused(machine::refuse(machine::BAD_COUNTS, 0, 0, 0));
     }
-    let first = content(0, c);
+    let first = content_and_sets(nonempty, 0, c);
     match first {
         Validity::Refused(r) => Validity::Refused(r),
-        Validity::Valid => content(1, a),
+        Validity::Valid => content_and_sets(nonempty, 1, a),
     }
+}
+
+// 5, 9, 10 and 11 of a pair.
+pub fn validity(p: Pair) -> Validity
+    ensures { λ r. ⌜ testedOf r ≡ pairValidity p ⌝ }
+{
+    tests(false, p)
+}
+
+// 5, 9, 10, 11 and 21 of a pair.
+pub fn nonempty_validity(p: Pair) -> Validity
+    ensures { λ r. ⌜ testedOf r ≡ nonemptyValidity p ⌝ }
+{
+    tests(true, p)
 }

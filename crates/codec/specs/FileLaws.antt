@@ -21,6 +21,7 @@ use Rattle.machine.specs.Machines.{nC, nA, setsC, setsA}
 use Rattle.machine.specs.Table.{entries, tableRoom}
 use Rattle.machine.specs.WellFormed.{wellFormed, pairValidity}
 use Rattle.machine.specs.WellFormedLaws.{valid-is-well, pair-refuses}
+use Rattle.machine.specs.EmptySetsLaws.{nonempty-valid, nonempty-at}
 use Rattle.machine.specs.HiddenLaws.{matched-zero}
 use Rattle.codec.specs.Format.{letters, fileLength, fileOf}
 use Rattle.codec.specs.Reader.{inputRoom, taken, numberFound, damagedNumber, blockValidity, headerByte, noteOf, headerHolds, countsHold, headerValidity, firstValidity, demanded, laterBlocks, paddingHolds, blocksValidity, payloadOf, machineAt, pairOf, entriesOf, readValidity, readAnswer, readTable, sizeOf}
@@ -149,15 +150,15 @@ written-reads p note T buffer lent n r b room e =
     let file = fileOf p note T in
     let cut : take n (writeBuffer p note T buffer) ≡ file =
     ap (take n) (t .1) ∙ take-at file (drop (length file) buffer) n (file-length p note T ∙ sym (t .2)) in
-    rw cut (write-read p note T lent r (valid-is-well p (t .0)) b room)
+    rw cut (write-read p note T lent r (valid-is-well p (nonempty-at p (t .0) .0)) b room)
 
 pub read-writes : ReadWrites
 unfolding writeAnswer writeBuffer
-read-writes f lent buffer p note b room e =
+read-writes f lent buffer p note b room e some =
     let w = was-taken f lent p note e in
     let T = readTable f lent in
     let long = was-long w in
-    let v : writeValidity p (length T) (length buffer) ≡ valid = with-room p (length T) (length buffer) long room ∙ ap pairValidity (sym (w .pair-is)) ∙ w .machines in
+    let v : writeValidity p (length T) (length buffer) ≡ valid = with-room p (length T) (length buffer) long room ∙ nonempty-valid p (was-well w) some in
     let same = read-write f lent p note b e .1 in (
       then-of _ _ v ∙ ap answer (sym (file-length p note T) ∙ ap length (sym same)),
       buffer-made _ _ buffer v ∙ ap (λ (l : List ℕ). l ++ drop (length l) buffer) (sym same),

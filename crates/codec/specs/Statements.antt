@@ -14,7 +14,7 @@ use Rattle.machine.specs.declared.Machine.{Machine}
 use Rattle.machine.specs.declared.Pair.{Pair}
 use Rattle.machine.specs.declared.Refusal.{Refusal}
 use Rattle.machine.specs.Table.{entries, tableRoom, AreEntries, SameEntries}
-use Rattle.machine.specs.WellFormed.{wellFormed}
+use Rattle.machine.specs.WellFormed.{wellFormed, nonemptySets}
 use Rattle.machine.specs.Machines.{observation, matched, nC, nA, setsC, setsA}
 use Rattle.machine.specs.Refusals.{valid, answer, refused, refusal, bad-first-block, bad-block, misplaced}
 use Rattle.codec.specs.Format.{letters, fileLength, fileOf}
@@ -47,7 +47,7 @@ WriteRead = (p : Pair) (note : Bool) (T lent : List ℕ) → Representable p →
     → (readAnswer (fileOf p note T) lent ≡ answer (taken p note))
     × (readTable (fileOf p note T) lent ≡ cond note (table (entries p) (λ e. getD T e 0) ++ drop (entries p) lent) lent)
 
--- each file that the reader takes, whoever made it, is the one that the writer makes from what was read
+-- each file that the reader takes, whoever made it, has the format's bytes of what was read, with empty sets too
 abbrev pub ReadWrite : Type 0
 ReadWrite = (f lent : List ℕ) (p : Pair) (note : Bool) → AreBytes f → readAnswer f lent ≡ answer (taken p note)
     → (f ≡ fileOf p note (entriesOf f)) × (f ≡ fileOf p note (readTable f lent))
@@ -163,9 +163,9 @@ abbrev pub TakenFits : Type 0
 TakenFits = (f lent : List ℕ) (p : Pair) (note : Bool) → readAnswer f lent ≡ answer (taken p note) → (length f ≤ fileRoom) × (take inputRoom f ≡ f)
 
 -- ---- what the calls say and write
--- the writer writes well-formed machines where both lent buffers have room
+-- the writer writes well-formed machines whose sets all have a state where both lent buffers have room
 abbrev pub WriteAnswers : Type 0
-WriteAnswers = (p : Pair) (note : Bool) (T buffer : List ℕ) → wellFormed p ≡ true → tableRoom ≤ length T → fileRoom ≤ length buffer
+WriteAnswers = (p : Pair) (note : Bool) (T buffer : List ℕ) → wellFormed p ≡ true → nonemptySets p ≡ true → tableRoom ≤ length T → fileRoom ≤ length buffer
     → writeAnswer p note T buffer ≡ answer (fileLength (nC p) (nA p) (setsC p) (setsA p) note)
 
 -- the writer's buffer, cut to the length that the writer gives, reads back
@@ -175,9 +175,11 @@ WrittenReads = (p : Pair) (note : Bool) (T buffer lent : List ℕ) (n : ℕ) →
     → (readAnswer (take n (writeBuffer p note T buffer)) lent ≡ answer (taken p note))
     × (readTable (take n (writeBuffer p note T buffer)) lent ≡ cond note (table (entries p) (λ e. getD T e 0) ++ drop (entries p) lent) lent)
 
--- a file that was taken is written again, to the byte, from the machines, the mask, the note and the table that were read
+-- a file that was taken is written again, to the byte, from the machines, the mask, the note and the table that were read, where the sets of
+-- both machines all have a state (document 02, No. 7)
 abbrev pub ReadWrites : Type 0
 ReadWrites = (f lent buffer : List ℕ) (p : Pair) (note : Bool) → AreBytes f → fileRoom ≤ length buffer → readAnswer f lent ≡ answer (taken p note)
+    → nonemptySets p ≡ true
     → (writeAnswer p note (readTable f lent) buffer ≡ answer (length f)) × (writeBuffer p note (readTable f lent) buffer ≡ f ++ drop (length f) buffer)
 
 -- entries "past n × P are neither read nor changed": the writer does not read them, of any machines, well formed or not

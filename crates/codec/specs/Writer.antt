@@ -6,7 +6,7 @@ use lib.ListN.{length}
 use Rattle.machine.specs.declared.Pair.{Pair}
 use Rattle.machine.specs.Refusals.{Result, answer, Tested, andThen, bufferAfter, bufferValidity}
 use Rattle.machine.specs.Machines.{nC, nA, setsC, setsA}
-use Rattle.machine.specs.WellFormed.{pairValidity}
+use Rattle.machine.specs.WellFormed.{nonemptyValidity}
 use Rattle.machine.specs.Table.{tableRoom}
 use Rattle.codec.specs.Format.{fileLength, fileOf}
 
@@ -14,9 +14,9 @@ use Rattle.codec.specs.Format.{fileLength, fileOf}
 abbrev pub fileRoom : ℕ
 fileRoom = 59392
 
--- all that the writer tests: 1 of both lent buffers, then 5 and 9 to 11
+-- all that the writer tests: 1 of both lent buffers, then 5, 9 to 11 and 21
 unfoldable pub writeValidity : Pair → ℕ → ℕ → Tested
-writeValidity p tableLen bufferLen = andThen (bufferValidity tableRoom tableLen) (andThen (bufferValidity fileRoom bufferLen) (pairValidity p))
+writeValidity p tableLen bufferLen = andThen (bufferValidity tableRoom tableLen) (andThen (bufferValidity fileRoom bufferLen) (nonemptyValidity p))
 
 -- the writer's whole answer: the file's length in bytes, or a refusal
 unfoldable pub writeAnswer : Pair → Bool → List ℕ → List ℕ → Result ℕ

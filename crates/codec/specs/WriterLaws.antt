@@ -18,8 +18,9 @@ use Rattle.machine.specs.Table.{entries, tableRoom}
 use Rattle.machine.specs.declared.Refusal.{Refusal}
 use Rattle.machine.specs.Refusals.{valid, answer, refused, refusal, andThen, short-buffer, bufferValidity}
 use Rattle.machine.specs.RefusalsLaws.{then-of, then-refused, then-answer, given-at, buffer-valid, buffer-short, buffer-made, buffer-kept}
-use Rattle.machine.specs.WellFormed.{pairValidity, wellFormed}
-use Rattle.machine.specs.WellFormedLaws.{WellPair, well-valid, well-is-valid}
+use Rattle.machine.specs.WellFormed.{nonemptyValidity, nonemptySets, wellFormed}
+use Rattle.machine.specs.WellFormedLaws.{WellPair, well-valid}
+use Rattle.machine.specs.EmptySetsLaws.{nonempty-valid, nonempty-at}
 use Rattle.codec.specs.declared.Size.the-variants as size
 use Rattle.codec.specs.Writer.{fileRoom, writeValidity, writeAnswer, writeBuffer}
 use Rattle.codec.specs.Answers.{sizedOf}
@@ -190,14 +191,14 @@ unfolding writeValidity
 short-table p tableLen bufferLen h = then-refused _ _ _ (buffer-short tableRoom tableLen h)
 
 -- a table with room tells nothing
-with-table : (p : Pair) (tableLen bufferLen : ℕ) → tableRoom ≤ tableLen → writeValidity p tableLen bufferLen ≡ andThen (bufferValidity fileRoom bufferLen) (pairValidity p)
+with-table : (p : Pair) (tableLen bufferLen : ℕ) → tableRoom ≤ tableLen → writeValidity p tableLen bufferLen ≡ andThen (bufferValidity fileRoom bufferLen) (nonemptyValidity p)
 unfolding writeValidity
 with-table p tableLen bufferLen h = then-of _ _ (buffer-valid tableRoom tableLen h)
 
 pub short-file : (p : Pair) (tableLen bufferLen : ℕ) → tableRoom ≤ tableLen → bufferLen < fileRoom → writeValidity p tableLen bufferLen ≡ refused (refusal short-buffer 0 0 0)
 short-file p tableLen bufferLen h k = with-table p tableLen bufferLen h ∙ then-refused _ _ _ (buffer-short fileRoom bufferLen k)
 
-pub with-room : (p : Pair) (tableLen bufferLen : ℕ) → tableRoom ≤ tableLen → fileRoom ≤ bufferLen → writeValidity p tableLen bufferLen ≡ pairValidity p
+pub with-room : (p : Pair) (tableLen bufferLen : ℕ) → tableRoom ≤ tableLen → fileRoom ≤ bufferLen → writeValidity p tableLen bufferLen ≡ nonemptyValidity p
 with-room p tableLen bufferLen h k = with-table p tableLen bufferLen h ∙ then-of _ _ (buffer-valid fileRoom bufferLen k)
 
 -- of lent tables with room it makes no difference which
@@ -215,24 +216,24 @@ module _ (p : Pair) (note : Bool) (T buffer : List ℕ) where
   unfolding writeAnswer writeBuffer sizedOf
   write-valid e z = (ap answer z ∙ sym (then-of _ _ e), sym (buffer-made _ _ buffer e))
 
-  -- the writer answers where machines are well formed and both buffers have room
-  pub write-answers : wellFormed p ≡ true → tableRoom ≤ length T → fileRoom ≤ length buffer
+  -- the writer answers where machines are well formed, each set has a state and both buffers have room
+  pub write-answers : wellFormed p ≡ true → nonemptySets p ≡ true → tableRoom ≤ length T → fileRoom ≤ length buffer
       → writeAnswer p note T buffer ≡ answer (fileLength (nC p) (nA p) (setsC p) (setsA p) note)
   unfolding writeAnswer
-  write-answers t h k = then-of _ _ (with-room p (length T) (length buffer) h k ∙ well-is-valid p t)
+  write-answers t some h k = then-of _ _ (with-room p (length T) (length buffer) h k ∙ nonempty-valid p t some)
 
   -- and only there
   pub answer-valid : {n : ℕ} → writeAnswer p note T buffer ≡ answer n
-      → (pairValidity p ≡ valid) × (writeBuffer p note T buffer ≡ fileOf p note T ++ drop (length (fileOf p note T)) buffer) × (n ≡ fileLength (nC p) (nA p) (setsC p) (setsA p) note)
+      → (nonemptyValidity p ≡ valid) × (writeBuffer p note T buffer ≡ fileOf p note T ++ drop (length (fileOf p note T)) buffer) × (n ≡ fileLength (nC p) (nA p) (setsC p) (setsA p) note)
   unfolding writeAnswer writeBuffer writeValidity
   answer-valid e =
       let t = given-at (writeValidity p (length T) (length buffer)) _ e in
       let a = then-answer (bufferValidity tableRoom (length T)) _ (t .0) in
-      (then-answer (bufferValidity fileRoom (length buffer)) (pairValidity p) (a .1) .1, buffer-made _ _ buffer (t .0), sym (t .1))
+      (then-answer (bufferValidity fileRoom (length buffer)) (nonemptyValidity p) (a .1) .1, buffer-made _ _ buffer (t .0), sym (t .1))
 
   -- the file has room in the buffer
   pub answer-small : {n : ℕ} → writeAnswer p note T buffer ≡ answer n → n ≤ fileRoom
   unfolding fileLength
   answer-small e =
       let t = answer-valid e in
-      omega (arith, t .2, blocks-small _ (payload-small p note (well-valid p (t .0))))
+      omega (arith, t .2, blocks-small _ (payload-small p note (well-valid p (nonempty-at p (t .0) .0))))

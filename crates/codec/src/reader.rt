@@ -428,7 +428,7 @@ fn take_show(bytes: &[u8], table: &mut [u16]) -> Show
     let mut payload = [0u8; PAYLOAD_ROOM];
     join(bytes, &mut payload);
     let pair = pair_at(bytes, &payload);
-    match validity::pair_validity(pair) {
+    match validity::pair_validity(pair, validity::ANY_SETS) {
         Validity::Refused(r) => refused_show(r),
         Validity::Valid => {
             let note = note_of(bytes);

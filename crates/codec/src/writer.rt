@@ -163,8 +163,8 @@ fn put_file(p: Pair, with_table: bool, table: &[u16], buffer: &mut [u8]) -> usiz
     512 * blocks
 }
 
-// Writes the file of a pair into a lent buffer, with the table if `with_table` says so, and gives the file's length in bytes. Stopped by 1, 5
-// and 9 to 11, it writes nothing.
+// Writes the file of a pair into a lent buffer, with the table if `with_table` says so, and gives the file's length in bytes. Stopped by 1, 5,
+// 9 to 11 and 21, it writes nothing.
 pub fn write_file(p: Pair, with_table: bool, table: &[u16], buffer: &mut [u8]) -> Size
     ensures answer { λ r. ⌜ sizedOf r ≡ writeAnswer p «with_table» (now (table .entry)) (now (buffer .entry)) ⌝ }
     ensures bytes { λ _. ⌜ now (buffer .exit) ≡ writeBuffer p «with_table» (now (table .entry)) (now (buffer .entry)) ⌝ }
@@ -175,7 +175,7 @@ pub fn write_file(p: Pair, with_table: bool, table: &[u16], buffer: &mut [u8]) -
     if buffer.len() < FILE_ROOM {
         return Size::Refused(machine::refuse(machine::SHORT_BUFFER, 0, 0, 0));
     }
-    match validity::pair_validity(p) {
+    match validity::pair_validity(p, validity::NONEMPTY_SETS) {
         Validity::Refused(r) => Size::Refused(r),
         Validity::Valid => Size::Bytes(put_file(p, with_table, table, buffer)),
     }

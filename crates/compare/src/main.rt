@@ -19,10 +19,12 @@ fn show(word: &[u8], n: u64) {
 fn counts(t: Tally) {
     show(b": pairs ", t.pairs);
     show(b", well formed ", t.formed);
+    show(b", solved ", t.solved);
     show(b", carried ", t.carried);
     show(b"; tables ", t.tables);
     show(b", passing ", t.passing);
     show(b", carried ", t.carrying);
+    show(b", beside an empty set ", t.empty);
     show(b"; lassos ", t.lassos);
     show(b", runs ", t.runs);
     show(b"; differing ", t.differing);

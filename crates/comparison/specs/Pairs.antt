@@ -1,5 +1,5 @@
 -- All that is compared of a pair, and of a series of pairs.
-use mathlib.Core.Bool.{Bool, cond}
+use mathlib.Core.Bool.{Bool, true, false, cond}
 use mathlib.Core.List.{List}
 use Prim.Native.Nat.{ℕ, _+_, _*_}
 use lib.ListN.{length}
@@ -7,7 +7,7 @@ use lib.Dec.{eqb}
 use Rattle.mask.specs.Logic.{not, and, or}
 use Rattle.machine.specs.declared.Pair.{Pair}
 use Rattle.machine.specs.Machines.{nC, setsC, pairs}
-use Rattle.machine.specs.WellFormed.{isValid, pairValidity}
+use Rattle.machine.specs.WellFormed.{isValid, wellFormed, nonemptyValidity}
 use Rattle.machine.specs.Table.{entries}
 use Rattle.solver.specs.Solver.{solveValidity, solvedTable}
 use Rattle.brute.specs.Numbers.{numberedPair}
@@ -17,7 +17,7 @@ use Rattle.comparison.specs.declared.pairs.Series.{Series}
 use Rattle.comparison.specs.declared.pairs.Trial.{Trial}
 use Rattle.comparison.specs.declared.tally.Tally.{Tally}
 use Rattle.comparison.specs.Answers.{testedFour, sameFour}
-use Rattle.comparison.specs.Tallies.{plus, total, ofPair, ofSolution}
+use Rattle.comparison.specs.Tallies.{nothing, plus, total, ofPair, ofSolution, ofUnsolved}
 use Rattle.comparison.specs.Tables.{zeros, within, tableTally, triedTable}
 use Rattle.comparison.specs.Lassos.{lassosTally}
 
@@ -37,22 +37,26 @@ solutionTally p n every carrying S =
     ofSolution (own .carrying) (solutionAgrees p n (verdictFits own every carrying) (liftedTable p zeros) S)
 
 module _ (t : Trial) where
-  -- the tables of a pair, S being the solver's
+  -- the tables of a pair, S being the solver's or the lifted one
   unfoldable pub tablesTally : Pair → List ℕ → Tally
   tablesTally p S = total (t .tables) (λ x. tableTally p (entries p) S (triedTable (t .every) (setsC p * pairs p + 2) (entries p) S x zeros))
 
-  -- a well-formed pair
-  unfoldable pub formedTally : Pair → List ℕ → Tally
-  formedTally p S =
+  -- a well-formed pair: if it was solved S is the solver's table
+  unfoldable pub formedTally : Pair → Bool → List ℕ → Tally
+  formedTally p solved S =
       let tables = tablesTally p S in
-      plus (plus tables (solutionTally p (entries p) (t .every) (tables .carrying) S)) (lassosTally p S (nC p) (t .stem))
+      plus (plus tables (cond solved (solutionTally p (entries p) (t .every) (tables .carrying) S) ofUnsolved)) (lassosTally p S (nC p) (t .stem))
 
-  -- any pair: a further count where nothing is refused
+  -- a pair that the solver refuses: if it is well formed, and so has an empty set, the lifted table stands for the solver's
+  unfoldable pub unsolvedTally : Pair → Tally
+  unsolvedTally p = cond (wellFormed p) (formedTally p false (liftedTable p zeros)) nothing
+
+  -- any pair
   unfoldable pub pairTally : Pair → Tally
   pairTally p =
       let v = solveValidity p (length zeros) in
-      let tried = ofPair (sameFour (testedFour v) (testedFour (pairValidity p))) in
-      cond (isValid v) (plus tried (formedTally p (solvedTable p zeros))) tried
+      let tried = ofPair (sameFour (testedFour v) (testedFour (nonemptyValidity p))) in
+      plus tried (cond (isValid v) (formedTally p true (solvedTable p zeros)) (unsolvedTally p))
 
 module _ (s : Series) where
   -- the pairs of concrete machine number x

@@ -13,8 +13,9 @@ use Rattle.machine.specs.declared.Refusal.{Refusal}
 use Rattle.machine.specs.Refusals.{Tested, refused, valid}
 use Rattle.machine.specs.Machines.{nC, setsC, pairs}
 use Rattle.machine.specs.Table.{entries}
-use Rattle.machine.specs.WellFormed.{isValid, pairValidity, wellFormed}
+use Rattle.machine.specs.WellFormed.{isValid, pairValidity, nonemptyValidity, wellFormed}
 use Rattle.machine.specs.WellFormedLaws.{valid-is-well}
+use Rattle.machine.specs.EmptySetsLaws.{nonempty-at}
 use Rattle.machine.specs.RefusalsLaws.{then-answer}
 use Rattle.solver.specs.Solver.{solveValidity, solvedTable}
 use Rattle.brute.specs.Numbers.{numberedPair}
@@ -25,9 +26,9 @@ use Rattle.comparison.specs.Lassos.{lassosTally}
 use Rattle.comparison.specs.declared.tally.Tally.{Tally}
 use Rattle.brute.specs.Lifting.{liftedTable}
 use Rattle.brute.specs.Ranking.{tableRanked}
-use Rattle.comparison.specs.Pairs.{verdictFits, solutionAgrees, solutionTally, tablesTally, formedTally, pairTally, rowTally, seriesTally}
+use Rattle.comparison.specs.Pairs.{verdictFits, solutionAgrees, solutionTally, tablesTally, formedTally, unsolvedTally, pairTally, rowTally, seriesTally}
 use Rattle.comparison.specs.Tables.{zeros, within, tableTally, triedTable}
-use Rattle.comparison.specs.Tallies.{plus, total, ofPair, ofSolution}
+use Rattle.comparison.specs.Tallies.{nothing, plus, total, ofPair, ofSolution, ofUnsolved}
 
 module _ (own : Tally) (every : Bool) (carrying : ℕ) where
   pub fits-refused : own .passing ≡ 0 → verdictFits own every carrying ≡ false
@@ -73,30 +74,47 @@ module _ (p : Pair) (n : ℕ) (every : Bool) (carrying : ℕ) (S : List ℕ) whe
   unfolding solutionTally
   solution-is own fits L agrees r eo ef el ea er = rw (er, ea, el, ef, eo)
 
-module _ (t : Trial) (p : Pair) (S : List ℕ) where
+module _ (t : Trial) (p : Pair) (solved : Bool) (S : List ℕ) where
   pub formed-is : (tables solution lassos first r : Tally)
       → tables ≡ total (t .tables) (λ x. tableTally p (entries p) S (triedTable (t .every) (setsC p * pairs p + 2) (entries p) S x zeros))
-      → solution ≡ solutionTally p (entries p) (t .every) (tables .carrying) S → lassos ≡ lassosTally p S (nC p) (t .stem)
-      → first ≡ plus tables solution → r ≡ plus first lassos → r ≡ formedTally t p S
+      → solution ≡ cond solved (solutionTally p (entries p) (t .every) (tables .carrying) S) ofUnsolved → lassos ≡ lassosTally p S (nC p) (t .stem)
+      → first ≡ plus tables solution → r ≡ plus first lassos → r ≡ formedTally t p solved S
   unfolding formedTally tablesTally
   formed-is tables solution lassos first r et es el ef er = rw (er, ef, el, es, et)
 
+-- what is counted of the solver's table, or in its place
+module _ (solved : Bool) {r x y : Tally} where
+  pub solution-tried : solved ≡ true → r ≡ x → r ≡ cond solved x y
+  solution-tried t e = rw t e
+
+  pub solution-none : solved ≡ false → r ≡ y → r ≡ cond solved x y
+  solution-none t e = rw t e
+
+module _ (t : Trial) (p : Pair) where
+  pub unsolved-ill : {r : Refusal} → pairValidity p ≡ refused r → nothing ≡ unsolvedTally t p
+  unfolding unsolvedTally wellFormed isValid
+  unsolved-ill e = rw e
+
+  pub unsolved-formed : (L : List ℕ) (r : Tally) → wellFormed p ≡ true → L ≡ liftedTable p zeros → r ≡ formedTally t p false L → r ≡ unsolvedTally t p
+  unfolding unsolvedTally
+  unsolved-formed L r w el er = rw (w, er, el)
+
 pub solved-well : (p : Pair) (n : ℕ) → solveValidity p n ≡ valid → wellFormed p ≡ true
 unfolding solveValidity
-solved-well p n e = valid-is-well p (then-answer _ _ e .1)
+solved-well p n e = valid-is-well p (nonempty-at p (then-answer _ _ e .1) .0)
 
 -- a pair, with what the solver says, what the plain reading says, and the table S that the solver left
-module _ (t : Trial) (p : Pair) (v u : Tested) (x y : Refusal) (same : Bool) (tried : Tally) (ev : v ≡ solveValidity p (length zeros)) (eu : u ≡ pairValidity p) (ex : x ≡ testedFour v)
+module _ (t : Trial) (p : Pair) (v u : Tested) (x y : Refusal) (same : Bool) (tried : Tally) (ev : v ≡ solveValidity p (length zeros)) (eu : u ≡ nonemptyValidity p) (ex : x ≡ testedFour v)
     (ey : y ≡ testedFour u) (es : same ≡ sameFour x y) (et : tried ≡ ofPair same) where
-  pair-at : pairTally t p ≡ cond (isValid v) (plus tried (formedTally t p (solvedTable p zeros))) tried
+  pair-at : pairTally t p ≡ plus tried (cond (isValid v) (formedTally t p true (solvedTable p zeros)) (unsolvedTally t p))
   unfolding pairTally
   pair-at = rw (et, es, ey, ex, eu, ev)
 
-  pub pair-refused : (r : Refusal) → v ≡ refused r → tried ≡ pairTally t p
+  pub pair-refused : (s : Refusal) → v ≡ refused s → (unsolved r : Tally) → unsolved ≡ unsolvedTally t p → r ≡ plus tried unsolved → r ≡ pairTally t p
   unfolding isValid
-  pair-refused r e = sym (pair-at ∙ rw e)
+  pair-refused s e unsolved r eu er = rw (er, eu) (sym (pair-at ∙ rw e))
 
-  pub pair-formed : v ≡ valid → (S : List ℕ) (formed r : Tally) → S ≡ solvedTable p zeros → formed ≡ formedTally t p S → r ≡ plus tried formed → r ≡ pairTally t p
+  pub pair-formed : v ≡ valid → (S : List ℕ) (formed r : Tally) → S ≡ solvedTable p zeros → formed ≡ formedTally t p true S → r ≡ plus tried formed → r ≡ pairTally t p
   unfolding isValid
   pair-formed e S formed r eS ef er = rw (er, ef, eS) (sym (pair-at ∙ rw e))
 

@@ -12,11 +12,12 @@ use Rattle.mask.specs.LogicLaws.{and-false-l, and-i, and-true-l, not-f, not-i, 
 use Rattle.mask.specs.Tables.{table}
 use Rattle.mask.specs.TablesLaws.{table-at, table-cong, table-length}
 use Rattle.machine.specs.Table.{blank}
-use Rattle.machine.specs.Verdict.{checkVerdict}
+use Rattle.machine.specs.Refusals.{Result}
+use Rattle.machine.specs.Verdict.{Verdict, checkVerdict, checkEmptySet}
 use Rattle.machine.specs.declared.Pair.{Pair}
 use Rattle.machine.specs.declared.Refusal.{Refusal}
 use Rattle.brute.specs.Numbers.{numberedTable}
-use Rattle.comparison.specs.Answers.{sameFour, verdictFour}
+use Rattle.comparison.specs.Answers.{sameFour, verdictFour, saysEmpty}
 use Rattle.comparison.specs.Tables.{altered, tableAgrees, triedTable, tableTally, within}
 use Rattle.comparison.specs.Tallies.{ofTable}
 use Rattle.comparison.specs.declared.tally.Tally.{Tally}
@@ -118,11 +119,12 @@ reused-turn {every} {top} {n} {S} {A} {B} y C b e = record {
 }
 
 -- ---- one table's counts, from two answers x and y about it
-pub table-tally-is : (p : Pair) (n : ℕ) (S T : List ℕ) (x y : Refusal) (agrees : Bool) (r : Tally) → x ≡ verdictFour (checkVerdict p T)
-    → y ≡ verdictFour (checkVerdict p T) → agrees ≡ tableAgrees n x y S T → r ≡ ofTable (leb 100 (x .number)) (eqb (x .number) 100) agrees
+pub table-tally-is : (p : Pair) (n : ℕ) (S T : List ℕ) (v w : Result Verdict) (d e : Bool) (x y : Refusal) (empty agrees : Bool) (r : Tally)
+    → v ≡ checkVerdict p T → d ≡ checkEmptySet p T → x ≡ verdictFour v d → w ≡ checkVerdict p T → e ≡ checkEmptySet p T → y ≡ verdictFour w e
+    → empty ≡ saysEmpty x → agrees ≡ tableAgrees n x y S T → r ≡ ofTable (leb 100 (x .number)) (eqb (x .number) 100) empty agrees
     → r ≡ tableTally p n S T
 unfolding tableTally
-table-tally-is p n S T x y agrees r ex ey ea er = rw (er, ea, ex, ey)
+table-tally-is p n S T v w d e x y empty agrees r ev ed ex ew ee ey es ea er = rw (er, ea, es, ex, ey, ev, ed, ew, ee)
 
 -- and from a buffer that was used before
 pub reused-tally : {every : Bool} {top n : ℕ} {S A B : List ℕ} (p : Pair) (x : ℕ) (C : List ℕ) (r : Tally) → Reused every top n S A B

@@ -1,12 +1,12 @@
 // Each answer as four numbers, so that answers can be compared: a refusal's number and spot; 0 for Valid; 0 and two lengths for a run; 100 and
-// the count for Carried; 200, c and the count for NotCarried.
+// the count for Carried; 200, c and the count for NotCarried, both with 1 as the last number where a concrete set is empty.
 ghost use mathlib.Core.Path.{_≡_};
 ghost use Rattle.machine.specs.Refusals.{testedOf};
-ghost use Rattle.linecheck.specs.Answers.{verdictOf};
+ghost use Rattle.linecheck.specs.Answers.{verdictOf, emptySetOf};
 ghost use Rattle.player.specs.Answers.{playedOf};
-ghost use Rattle.brute.specs.Lines.{verdictOf as plainVerdictOf};
+ghost use Rattle.brute.specs.Lines.{verdictOf as plainVerdictOf, emptySetOf as plainEmptySetOf};
 ghost use Rattle.brute.specs.Runs.{playedOf as plainPlayedOf};
-ghost use Rattle.comparison.specs.Answers.{testedFour, verdictFour, playedFour, sameFour};
+ghost use Rattle.comparison.specs.Answers.{testedFour, verdictFour, playedFour, sameFour, saysEmpty};
 use linecheck::Checked;
 use machine::Refusal;
 use machine::Validity;
@@ -15,10 +15,11 @@ use player::Played;
 // The plain reading's answer about a table, in the check's form.
 pub fn as_checked(v: brute::Verdict) -> Checked
     ensures { λ r. ⌜ verdictOf r ≡ plainVerdictOf v ⌝ }
+    ensures { λ r. ⌜ emptySetOf r ≡ plainEmptySetOf v ⌝ }
 {
     match v {
-        brute::Verdict::Carried(n) => Checked::Carried(n),
-        brute::Verdict::NotCarried(c, n) => Checked::NotCarried(c, n),
+        brute::Verdict::Carried(n, e) => Checked::Carried(n, e),
+        brute::Verdict::NotCarried(c, n, e) => Checked::NotCarried(c, n, e),
         brute::Verdict::Refused(r) => Checked::Refused(r),
     }
 }
@@ -45,13 +46,23 @@ pub fn tested_four(v: Validity) -> Refusal
 
 // The four numbers of what the check says.
 pub fn verdict_four(v: Checked) -> Refusal
-    ensures { λ r. ⌜ r ≡ verdictFour (verdictOf v) ⌝ }
+    ensures { λ r. ⌜ r ≡ verdictFour (verdictOf v) (emptySetOf v) ⌝ }
 {
     match v {
-        Checked::Carried(n) => machine::refuse(100, n, 0, 0),
-        Checked::NotCarried(c, n) => machine::refuse(200, c, n, 0),
+        Checked::Carried(n, e) => machine::refuse(100, n, 0, e as usize),
+        Checked::NotCarried(c, n, e) => machine::refuse(200, c, n, e as usize),
         Checked::Refused(r) => r,
     }
+}
+
+// Whether the four numbers say that a concrete set is empty.
+pub fn says_empty(x: Refusal) -> bool
+    ensures { λ r. ⌜ r ≡ saysEmpty x ⌝ }
+{
+    if x.number < 100 {
+        return false;
+    }
+    x.third == 1
 }
 
 // The four numbers of what the player says.

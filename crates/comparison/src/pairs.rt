@@ -2,7 +2,7 @@
 ghost use mathlib.Core.Bool.{true};
 ghost use mathlib.Core.Path.{_≡_};
 ghost use Rattle.machine.specs.WellFormed.{wellFormed};
-ghost use Rattle.comparison.specs.Pairs.{verdictFits, solutionAgrees, solutionTally, formedTally, pairTally, rowTally, seriesTally};
+ghost use Rattle.comparison.specs.Pairs.{verdictFits, solutionAgrees, solutionTally, formedTally, unsolvedTally, pairTally, rowTally, seriesTally};
 use crate::answers::same_four;
 use crate::answers::tested_four;
 use crate::lassos::compare_lassos;
@@ -14,6 +14,7 @@ use crate::tally::add;
 use crate::tally::none;
 use crate::tally::of_pair;
 use crate::tally::of_solution;
+use crate::tally::of_unsolved;
 use brute::Shape;
 use machine::Pair;
 use machine::Validity;
@@ -24,8 +25,8 @@ pub struct Numbers {
     pub step: u32,
 }
 
-// What is tried of a pair. Tables: the first `tables` of all tables, or of the solver's with one entry changed. Lassos: those with a stem of
-// at most `stem` states.
+// What is tried of a pair. Tables: the first `tables` of all tables, or of the solver's with one entry changed (of a pair that the solver refuses,
+// of the lifted one). Lassos: those with a stem of at most `stem` states.
 pub struct Trial {
     pub every: bool,
     pub tables: u64,
@@ -88,20 +89,37 @@ fn compare_solution(p: Pair, n: usize, every: bool, carrying: u64, solved: &[u16
     of_solution(own.carrying, agrees)
 }
 
-// A well-formed pair.
-fn compare_formed(p: Pair, t: Trial, solved: &[u16]) -> Tally
+// A well-formed pair with a table: if it was solved, the solver's.
+fn compare_formed(p: Pair, t: Trial, solved: bool, table: &[u16]) -> Tally
     requires { ⌜ wellFormed p ≡ true ⌝ }
-    ensures { λ r. ⌜ r ≡ formedTally t p (now (solved .entry)) ⌝ }
+    ensures { λ r. ⌜ r ≡ formedTally t p solved (now (table .entry)) ⌝ }
 {
     let concrete = p.concrete;
     let abstraction = p.abstraction;
     let pairs = concrete.states * abstraction.states;
     let n = abstraction.sets * pairs;
     let top = concrete.sets * pairs + 2;
-    let tables = compare_tables(p, t.every, top as u16, n, t.tables, solved);
-    let solution = compare_solution(p, n, t.every, tables.carrying, solved);
-    let lassos = compare_lassos(p, solved, concrete.states as u8, t.stem);
+    let tables = compare_tables(p, t.every, top as u16, n, t.tables, table);
+    let solution = if solved {
+        compare_solution(p, n, t.every, tables.carrying, table)
+    } else {
+        of_unsolved()
+    };
+    let lassos = compare_lassos(p, table, concrete.states as u8, t.stem);
     add(add(tables, solution), lassos)
+}
+
+// A pair that the solver refuses. A well-formed one has an empty set, and is tried with the lifted table in place of the solver's.
+fn compare_unsolved(p: Pair, t: Trial) -> Tally
+    ensures { λ r. ⌜ r ≡ unsolvedTally t p ⌝ }
+{
+    let formed = brute::validity(p);
+    if let Validity::Refused(_) = formed {
+        return none();
+    }
+    let mut lifted = [0u16; machine::TABLE_ROOM];
+    brute::lift(p, &mut lifted);
+    compare_formed(p, t, false, &lifted)
 }
 
 // Any pair.
@@ -110,11 +128,11 @@ pub fn compare_pair(p: Pair, t: Trial) -> Tally
 {
     let mut solved = [0u16; machine::TABLE_ROOM];
     let answer = solver::solve(p, &mut solved);
-    let plain = brute::validity(p);
+    let plain = brute::nonempty_validity(p);
     let tried = of_pair(same_four(tested_four(answer), tested_four(plain)));
     match answer {
-        Validity::Refused(_) => tried,
-        Validity::Valid => add(tried, compare_formed(p, t, &solved)),
+        Validity::Refused(_) => add(tried, compare_unsolved(p, t)),
+        Validity::Valid => add(tried, compare_formed(p, t, true, &solved)),
     }
 }
 

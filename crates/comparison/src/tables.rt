@@ -1,9 +1,11 @@
-// The check beside the plain reading: on every table, or on the solver's table with one entry changed.
+// The check beside the plain reading: on every table, or on the solver's table with one entry changed. Of a pair that the solver refuses the lifted
+// table stands in its place.
 ghost use mathlib.Core.Path.{_≡_};
 ghost use Rattle.comparison.specs.Tallies.{total};
 ghost use Rattle.comparison.specs.Tables.{zeros, within, tableAgrees, tableTally, altered, triedTable};
 use crate::answers::as_checked;
 use crate::answers::same_four;
+use crate::answers::says_empty;
 use crate::answers::verdict_four;
 use crate::tally::Tally;
 use crate::tally::add;
@@ -48,6 +50,7 @@ pub fn compare_table(p: Pair, n: usize, table: &[u16], solved: &[u16]) -> Tally
     of_table(
         100 <= answer.number,
         answer.number == 100,
+        says_empty(answer),
         table_agrees(n, answer, plain, table, solved),
     )
 }

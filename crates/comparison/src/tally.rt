@@ -1,17 +1,19 @@
 // Counts of what was compared. They are added modulo 2^64.
 ghost use mathlib.Core.Bool.{cond};
 ghost use mathlib.Core.Path.{_≡_};
-ghost use Rattle.comparison.specs.Tallies.{nothing, plus, ofPair, ofSolution, ofTable, ofLasso};
+ghost use Rattle.comparison.specs.Tallies.{nothing, plus, ofPair, ofSolution, ofUnsolved, ofTable, ofLasso};
 
 pub struct Tally {
-    // pairs tried, those that are well formed, and of these those that the solver's table carries
+    // pairs tried, those that are well formed, those that the solver takes, and of these those that its table carries
     pub pairs: u64,
     pub formed: u64,
+    pub solved: u64,
     pub carried: u64,
-    // tables that were checked, those that pass each line, and of these those that are Carried
+    // tables that were checked, those that pass each line, of these those that are Carried, and those beside which a concrete set is empty
     pub tables: u64,
     pub passing: u64,
     pub carrying: u64,
+    pub empty: u64,
     // lassos that were played, and those that gave a run
     pub lassos: u64,
     pub runs: u64,
@@ -26,10 +28,12 @@ pub fn none() -> Tally
     Tally {
         pairs: 0,
         formed: 0,
+        solved: 0,
         carried: 0,
         tables: 0,
         passing: 0,
         carrying: 0,
+        empty: 0,
         lassos: 0,
         runs: 0,
         differing: 0,
@@ -60,25 +64,36 @@ pub fn of_pair(agrees: bool) -> Tally
     t
 }
 
-// The solver's table of one well-formed pair; `carried` is 1 where it is Carried, and else 0.
+// The solver's table of one pair; `carried` is 1 where it is Carried, and else 0.
 pub fn of_solution(carried: u64, agrees: bool) -> Tally
     ensures { λ r. ⌜ r ≡ ofSolution carried agrees ⌝ }
 {
     let mut t = none();
     t.formed = 1;
+    t.solved = 1;
     t.carried = carried;
     t.differing = one_unless(agrees);
     t
 }
 
+// One well-formed pair that the solver refuses.
+pub fn of_unsolved() -> Tally
+    ensures { λ r. ⌜ r ≡ ofUnsolved ⌝ }
+{
+    let mut t = none();
+    t.formed = 1;
+    t
+}
+
 // One table.
-pub fn of_table(passing: bool, carried: bool, agrees: bool) -> Tally
-    ensures { λ r. ⌜ r ≡ ofTable passing carried agrees ⌝ }
+pub fn of_table(passing: bool, carried: bool, empty: bool, agrees: bool) -> Tally
+    ensures { λ r. ⌜ r ≡ ofTable passing carried empty agrees ⌝ }
 {
     let mut t = none();
     t.tables = 1;
     t.passing = one_if(passing);
     t.carrying = one_if(carried);
+    t.empty = one_if(empty);
     t.differing = one_unless(agrees);
     t
 }
@@ -101,10 +116,12 @@ pub fn add(x: Tally, y: Tally) -> Tally
     Tally {
         pairs: std::num::wrapping_add_u64(x.pairs, y.pairs),
         formed: std::num::wrapping_add_u64(x.formed, y.formed),
+        solved: std::num::wrapping_add_u64(x.solved, y.solved),
         carried: std::num::wrapping_add_u64(x.carried, y.carried),
         tables: std::num::wrapping_add_u64(x.tables, y.tables),
         passing: std::num::wrapping_add_u64(x.passing, y.passing),
         carrying: std::num::wrapping_add_u64(x.carrying, y.carrying),
+        empty: std::num::wrapping_add_u64(x.empty, y.empty),
         lassos: std::num::wrapping_add_u64(x.lassos, y.lassos),
         runs: std::num::wrapping_add_u64(x.runs, y.runs),
         differing: std::num::wrapping_add_u64(x.differing, y.differing),

@@ -9,24 +9,25 @@ ghost use lib.ListN.{length, getD};
 ghost use lib.Dec.{eqb};
 ghost use Rattle.mask.specs.Logic.{not};
 ghost use Rattle.mask.specs.Bounded.{count};
-ghost use Rattle.machine.specs.WellFormed.{wellFormed};
+ghost use Rattle.machine.specs.WellFormed.{hasEmptySet, wellFormed};
 ghost use Rattle.machine.specs.Ranks.{levelOf, setOf};
 ghost use Rattle.machine.specs.Table.{blank, tableRoom};
 ghost use Rattle.machine.specs.Lines.{linesValidity};
 ghost use Rattle.machine.specs.Observed.{matchedMasks};
 ghost use Rattle.machine.specs.Refusals.{answer, testedOf};
-ghost use Rattle.machine.specs.Verdict.{lackingStart, startVerdict, checkVerdict};
-ghost use Rattle.linecheck.specs.Answers.{verdictOf};
+ghost use Rattle.machine.specs.Verdict.{lackingStart, startVerdict, checkVerdict, checkEmptySet};
+ghost use Rattle.linecheck.specs.Answers.{verdictOf, emptySetOf};
 ghost use Rattle.linecheck.specs.Bounds.{lineOf};
 ghost use Rattle.linecheck.specs.Reciprocal.{reciprocalOf};
 use machine::Pair;
 use machine::Refusal;
 use machine::Validity;
 
-// What the check says: Carried with the count, NotCarried with c and the count, or where it was stopped.
+// What the check says: Carried with the count, NotCarried with c and the count, each with whether a set of the concrete machine is empty, so that
+// no play of it is fair; or where it was stopped.
 pub enum Checked {
-    Carried(usize),
-    NotCarried(usize, usize),
+    Carried(usize, bool),
+    NotCarried(usize, usize, bool),
     Refused(Refusal),
 }
 
@@ -229,12 +230,13 @@ fn lacking_start(p: Pair, table: &[u16]) -> usize
 
 // The check: what the table says of the pair, or where it was stopped.
 pub fn check_table(p: Pair, table: &[u16]) -> Checked
-    ensures { λ r. ⌜ verdictOf r ≡ checkVerdict p (now (table .entry)) ⌝ }
+    ensures verdict { λ r. ⌜ verdictOf r ≡ checkVerdict p (now (table .entry)) ⌝ }
+    ensures empty { λ r. ⌜ emptySetOf r ≡ checkEmptySet p (now (table .entry)) ⌝ }
 {
     if table.len() < machine::TABLE_ROOM {
         return Checked::Refused(machine::refuse(machine::SHORT_BUFFER, 0, 0, 0));
     }
-    let valid = validity::pair_validity(p);
+    let valid = validity::pair_validity(p, validity::ANY_SETS);
     if let Validity::Refused(r) = valid {
         return Checked::Refused(r);
     }
@@ -248,7 +250,8 @@ pub fn check_table(p: Pair, table: &[u16]) -> Checked
 // What is said of a table that passes each line.
 fn verdict_of_starts(p: Pair, table: &[u16]) -> Checked
     requires { ⌜ (wellFormed p ≡ true) × (tableRoom ≤ length (now table)) ⌝ }
-    ensures { λ r. ⌜ verdictOf r ≡ answer (startVerdict p (now (table .entry))) ⌝ }
+    ensures verdict { λ r. ⌜ verdictOf r ≡ answer (startVerdict p (now (table .entry))) ⌝ }
+    ensures empty { λ r. ⌜ emptySetOf r ≡ hasEmptySet (p .concrete) ⌝ }
 {
     let concrete = p.concrete;
     let abstraction = p.abstraction;
@@ -257,9 +260,10 @@ fn verdict_of_starts(p: Pair, table: &[u16]) -> Checked
     let n = abstraction.sets;
     let found = covered_count(table, n * (nc * na));
     let c = lacking_start(p, table);
+    let empty = validity::has_empty_set(concrete);
     if c < nc {
-        Checked::NotCarried(c, found)
+        Checked::NotCarried(c, found, empty)
     } else {
-        Checked::Carried(found)
+        Checked::Carried(found, empty)
     }
 }

@@ -1,4 +1,4 @@
--- Laws of "beyond" as numbers, and of the search for a state without a successor: what the code of well-formedness leans on.
+-- Laws of "beyond" as numbers, and of the search for a mask without a state: what the code of well-formedness leans on.
 use mathlib.Core.Bool as B
 use mathlib.Core.Bool.{true, false}
 use mathlib.Core.Path.{_≡_}
@@ -15,7 +15,7 @@ use Rattle.mask.specs.Logic.{and}
 use Rattle.mask.specs.LogicLaws.{dec, clash, refute, both, and-l, and-r, and-i}
 use Rattle.mask.specs.BitsLaws.{has-lt}
 use Rattle.mask.specs.BoundedLaws.{first-is, first-none}
-use Rattle.machine.specs.WellFormed.{beyond, stuckState}
+use Rattle.machine.specs.WellFormed.{beyond, firstEmpty}
 use Rattle.machine.specs.WellFormedLaws.{beyond-none, none-beyond, bits-small}
 
 -- a mask has no state at or past n exactly if it is a number of n bits
@@ -43,16 +43,16 @@ beyond-shift n m h = both _ _ fwd bwd
         absurd (clash (low-beyond n m (omega (arith, div-lt-iff-lt-mul {k = 2 ^ n} {x = m} {y = 1} (pow-pos n) .0 (omega arith)))) e))
         (dec (B.not (eqb (m / 2 ^ n) 0)))
 
-stuck-not : (states : ℕ) (l : List ℕ) (s : ℕ) → (s < states → getD l s 0 ≡ 0 → ⊥) → and (ltb s states) (eqb (getD l s 0) 0) ≡ false
-stuck-not states l s f = refute _ (λ t. f (ltb-true s states (and-l _ _ t)) (eqb-true (getD l s 0) 0 (and-r _ _ t)))
+empty-not : (count : ℕ) (l : List ℕ) (i : ℕ) → (i < count → getD l i 0 ≡ 0 → ⊥) → and (ltb i count) (eqb (getD l i 0) 0) ≡ false
+empty-not count l i f = refute _ (λ t. f (ltb-true i count (and-l _ _ t)) (eqb-true (getD l i 0) 0 (and-r _ _ t)))
 
--- the search for a state without a successor, as a loop goes
-pub stuck-at : (states : ℕ) (l : List ℕ) (s : ℕ) → s < 64 → s < states → getD l s 0 ≡ 0
-    → ((k : ℕ) → k < s → k < states → getD l k 0 ≡ 0 → ⊥) → stuckState states l ≡ s
-unfolding stuckState
-stuck-at states l s h k e b =
-    first-is 64 _ s h (and-i (lt-ltb s states k) (eq-eqb (getD l s 0) 0 e)) (λ i q. stuck-not states l i (b i q))
+-- the search for a mask without a state, as a loop goes
+pub empty-at : (room count : ℕ) (l : List ℕ) (i : ℕ) → i < room → i < count → getD l i 0 ≡ 0
+    → ((k : ℕ) → k < i → k < count → getD l k 0 ≡ 0 → ⊥) → firstEmpty room count l ≡ i
+unfolding firstEmpty
+empty-at room count l i h k e b =
+    first-is room _ i h (and-i (lt-ltb i count k) (eq-eqb (getD l i 0) 0 e)) (λ j q. empty-not count l j (b j q))
 
-pub stuck-none : (states : ℕ) (l : List ℕ) → ((k : ℕ) → k < 64 → k < states → getD l k 0 ≡ 0 → ⊥) → stuckState states l ≡ 64
-unfolding stuckState
-stuck-none states l b = first-none 64 _ (λ i q. stuck-not states l i (b i q))
+pub empty-none : (room count : ℕ) (l : List ℕ) → ((k : ℕ) → k < room → k < count → getD l k 0 ≡ 0 → ⊥) → firstEmpty room count l ≡ room
+unfolding firstEmpty
+empty-none room count l b = first-none room _ (λ i q. empty-not count l i (b i q))

@@ -3,6 +3,7 @@ pub mod Machines
 pub mod Refusals
 pub mod WellFormed
 pub mod Lassos
+pub mod EmptySets
 pub mod Step
 pub mod SingleStep
 pub mod Observed
@@ -23,6 +24,7 @@ pub mod PartnerLaws
 pub mod SingleStepLaws
 pub mod ObservedLaws
 pub mod LassosLaws
+pub mod EmptySetsLaws
 pub mod LevelLaws
 pub mod LinesLaws
 pub mod VerdictLaws

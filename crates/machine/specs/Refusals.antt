@@ -99,6 +99,10 @@ no-start-partner = 16
 abbrev pub misplaced : ℕ
 misplaced = 19
 
+-- Document 02, No. 7: "It refuses with 21, after 11 of the same machine, a set without a state"
+abbrev pub empty-set : ℕ
+empty-set = 21
+
 -- ---- refusals
 -- a refusal with its spot; "0 where unused"
 abbrev pub refusal : ℕ → ℕ → ℕ → ℕ → Refusal

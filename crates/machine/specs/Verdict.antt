@@ -1,5 +1,5 @@
 -- Document 01, "Line check": the answer, as document 01 tells it.
-use mathlib.Core.Bool.{Bool, true, cond}
+use mathlib.Core.Bool.{Bool, true, false, cond}
 use mathlib.Core.List.{List}
 use mathlib.Core.Path.{_≡_}
 use Prim.Native.Nat.{ℕ, _+_, _<_}
@@ -8,9 +8,9 @@ use lib.Dec.{ltb}
 use Rattle.mask.specs.Logic.{not, and}
 use Rattle.mask.specs.Bounded.{first, someIn}
 use Rattle.machine.specs.declared.Pair.{Pair}
-use Rattle.machine.specs.Refusals.{Result, answer, andThen, bufferValidity}
+use Rattle.machine.specs.Refusals.{Result, answer, refused, andThen, bufferValidity}
 use Rattle.machine.specs.Machines.{starts, nC, nA}
-use Rattle.machine.specs.WellFormed.{pairValidity}
+use Rattle.machine.specs.WellFormed.{hasEmptySet, pairValidity}
 use Rattle.machine.specs.Table.{tableRoom, covers, coveredCount}
 use Rattle.machine.specs.Lines.{linesValidity}
 
@@ -52,3 +52,11 @@ linesVerdict p T = andThen (pairValidity p) (andThen (linesValidity p T) (answer
 -- the check's whole answer, of a lent table: 1 before all else
 unfoldable pub checkVerdict : Pair → List ℕ → Result Verdict
 checkVerdict p T = andThen (bufferValidity tableRoom (length T)) (linesVerdict p T)
+
+-- Document 02, No. 7: "the check's answer .. tells whether a rig set is empty", beside Carried and beside NotCarried; beside a refusal it is false
+unfoldable pub emptySetTold : Pair → Result Verdict → Bool
+emptySetTold p (answer v) = hasEmptySet (p .concrete)
+emptySetTold p (refused r) = false
+
+abbrev pub checkEmptySet : Pair → List ℕ → Bool
+checkEmptySet p T = emptySetTold p (checkVerdict p T)

@@ -16,11 +16,11 @@ use Rattle.machine.specs.declared.Refusal.{Refusal}
 use Rattle.machine.specs.Refusals.{valid, answer, refused, refusal, short-buffer}
 use Rattle.machine.specs.RefusalsLaws.{then-of, then-refused, then-answer, answer-is, buffer-valid, buffer-short}
 use Rattle.machine.specs.Machines.{starts, nC}
-use Rattle.machine.specs.WellFormed.{pairValidity}
+use Rattle.machine.specs.WellFormed.{hasEmptySet, pairValidity}
 use Rattle.machine.specs.Table.{tableRoom, coveredCount}
 use Rattle.machine.specs.Lines.{passesEach, linesValidity}
 use Rattle.machine.specs.LinesLaws.{valid-passes}
-use Rattle.machine.specs.Verdict.{HasStarts, Verdict, carried, notCarried, startCovered, lackingStart, startVerdict, linesVerdict, checkVerdict}
+use Rattle.machine.specs.Verdict.{HasStarts, Verdict, carried, notCarried, startCovered, lackingStart, startVerdict, linesVerdict, checkVerdict, emptySetTold, checkEmptySet}
 
 module _ (p : Pair) (T : List ℕ) where
   -- ---- which test tells the answer
@@ -45,6 +45,15 @@ module _ (p : Pair) (T : List ℕ) where
     pub check-passes : pairValidity p ≡ valid → linesValidity p T ≡ valid → checkVerdict p T ≡ answer (startVerdict p T)
     unfolding linesVerdict
     check-passes e f = check-lines ∙ then-of _ _ e ∙ then-of _ _ f
+
+  -- ---- whether a concrete set is empty, beside the answer
+  pub told-refused : {r : Refusal} → checkVerdict p T ≡ refused r → checkEmptySet p T ≡ false
+  unfolding emptySetTold
+  told-refused e = rw e
+
+  pub told-beside : {v : Verdict} → checkVerdict p T ≡ answer v → checkEmptySet p T ≡ hasEmptySet (p .concrete)
+  unfolding emptySetTold
+  told-beside e = rw e
 
   -- ---- what an answer tells of the tests
   pub lines-said : (v : Verdict) → linesVerdict p T ≡ answer v → (pairValidity p ≡ valid) × (linesValidity p T ≡ valid) × (startVerdict p T ≡ v)

@@ -1,7 +1,8 @@
 -- What a well-formed machine and a well-formed pair give, and what makes one.
-use mathlib.Core.Bool.{true, false}
+use mathlib.Core.Bool.{Bool, true, false}
+use mathlib.Core.List.{List}
 use mathlib.Core.Logic.{by-cases}
-use mathlib.Core.Path.{_≡_, refl, _∙_}
+use mathlib.Core.Path.{_≡_, refl, sym, _∙_}
 use Prim.Native.Nat.{ℕ, _+_, _*_, _≤_, _<_, _^_}
 use native.Mathlib.Nat.{le-trans, mul-le-mul-right, mul-le-mul-left, mul-pos}
 use native.Mathlib.Decide.{decLe, decLt}
@@ -22,7 +23,7 @@ use Rattle.machine.specs.Refusals.{Tested, valid, answer, refused, refus
 use Rattle.machine.specs.RefusalsLaws.{valid-next, valid-if, then-answer, then-of, then-refused, RefusesOnly, refuses-none, refuses-at, refuses-cond, refuses-then}
 use Rattle.machine.specs.Machines.{observation, successors, moves, starts, fairSet, inFairSet, nC, nA, setsC, setsA, pairs}
 use Rattle.machine.specs.Table.{tableRoom}
-use Rattle.machine.specs.WellFormed.{countsOk, beyond, stateBeyond, setBeyond, beyondCounts, stuckState, contentValidity, pairValidity, isValid, wellFormed}
+use Rattle.machine.specs.WellFormed.{countsOk, beyond, stateBeyond, setBeyond, beyondCounts, firstEmpty, stuckState, contentValidity, setsValidity, contentTests, pairTests, pairValidity, isValid, wellFormed}
 
 -- ---- validity
 pub is-valid : (v : Tested) → isValid v ≡ true → v ≡ valid
@@ -35,25 +36,52 @@ unfolding isValid
 valid-is v e = rw e
 
 -- ---- a pair, test by test
-module _ (p : Pair) where
-  pub bad-concrete-counts : countsOk 8 (p .concrete .states) (p .concrete .sets) ≡ false → pairValidity p ≡ refused (refusal bad-counts 0 0 0)
-  unfolding pairValidity
+module _ (nonempty : Bool) (p : Pair) where
+  pub bad-concrete-counts : countsOk 8 (p .concrete .states) (p .concrete .sets) ≡ false → pairTests nonempty p ≡ refused (refusal bad-counts 0 0 0)
+  unfolding pairTests
   bad-concrete-counts h = rw (and-false-l _ h)
 
-  pub bad-abstract-counts : countsOk 7 (p .abstraction .states) (p .abstraction .sets) ≡ false → pairValidity p ≡ refused (refusal bad-counts 0 0 0)
-  unfolding pairValidity
+  pub bad-abstract-counts : countsOk 7 (p .abstraction .states) (p .abstraction .sets) ≡ false → pairTests nonempty p ≡ refused (refusal bad-counts 0 0 0)
+  unfolding pairTests
   bad-abstract-counts h = rw (and-false-r _ h)
 
   module _ (c : countsOk 8 (p .concrete .states) (p .concrete .sets) ≡ true) (a : countsOk 7 (p .abstraction .states) (p .abstraction .sets) ≡ true) where
-    contents : pairValidity p ≡ andThen (contentValidity 0 (p .concrete)) (contentValidity 1 (p .abstraction))
-    unfolding pairValidity
+    contents : pairTests nonempty p ≡ andThen (contentTests nonempty 0 (p .concrete)) (contentTests nonempty 1 (p .abstraction))
+    unfolding pairTests
     contents = rw (and-i c a)
 
-    pub bad-concrete : (r : Refusal) → contentValidity 0 (p .concrete) ≡ refused r → pairValidity p ≡ refused r
+    pub bad-concrete : (r : Refusal) → contentTests nonempty 0 (p .concrete) ≡ refused r → pairTests nonempty p ≡ refused r
     bad-concrete r e = contents ∙ then-refused _ _ r e
 
-    pub good-concrete : contentValidity 0 (p .concrete) ≡ valid → pairValidity p ≡ contentValidity 1 (p .abstraction)
+    pub good-concrete : contentTests nonempty 0 (p .concrete) ≡ valid → pairTests nonempty p ≡ contentTests nonempty 1 (p .abstraction)
     good-concrete e = contents ∙ then-of _ _ e
+
+-- 21 stands behind 9 to 11 of the same machine, where it is asked for
+module _ (i : ℕ) (m : Machine) where
+  pub content-only : contentTests false i m ≡ contentValidity i m
+  unfolding contentTests
+  content-only = refl
+
+  pub content-then-sets : contentTests true i m ≡ andThen (contentValidity i m) (setsValidity i m)
+  unfolding contentTests
+  content-then-sets = refl
+
+-- nothing of a pair is refused only where the counts are right and nothing of either machine is refused
+pub record Passed (nonempty : Bool) (p : Pair) : Type 0 where
+  pub concrete-counts : countsOk 8 (p .concrete .states) (p .concrete .sets) ≡ true
+  pub abstract-counts : countsOk 7 (p .abstraction .states) (p .abstraction .sets) ≡ true
+  pub concrete : contentTests nonempty 0 (p .concrete) ≡ valid
+  pub abstraction : contentTests nonempty 1 (p .abstraction) ≡ valid
+
+pub tests-passed : (nonempty : Bool) (p : Pair) → pairTests nonempty p ≡ valid → Passed nonempty p
+unfolding pairTests
+tests-passed nonempty p e =
+    let a = valid-if _ _ _ e in
+    let b = then-answer (contentTests nonempty 0 (p .concrete)) (contentTests nonempty 1 (p .abstraction)) (a .1) in
+    record { concrete-counts = and-l _ _ (a .0); abstract-counts = and-r _ _ (a .0); concrete = b .0; abstraction = b .1 }
+
+pub passed-tests : (nonempty : Bool) (p : Pair) → Passed nonempty p → pairTests nonempty p ≡ valid
+passed-tests nonempty p h = good-concrete nonempty p (h .concrete-counts) (h .abstract-counts) (h .concrete) ∙ h .abstraction
 
 -- ---- bits beyond a count
 pub beyond-none : (n mask : ℕ) → beyond n mask ≡ false → (i : ℕ) → i < 64 → hasBit mask i ≡ true → i < n
@@ -90,6 +118,14 @@ counts-at limit states sets t =
 pub counts-of : (limit states sets : ℕ) → 0 < states → states ≤ 64 → 0 < sets → sets ≤ limit → countsOk limit states sets ≡ true
 unfolding countsOk
 counts-of limit states sets a b c d = and-i (and-i (le-leb 1 states a) (le-leb states 64 b)) (and-i (le-leb 1 sets c) (le-leb sets limit d))
+
+-- where no mask of a list is empty, none is
+pub none-empty : (room count : ℕ) (l : List ℕ) → (firstEmpty room count l < room → ⊥) → (i : ℕ) → i < room → i < count → getD l i 0 ≡ 0 → ⊥
+unfolding firstEmpty
+none-empty room count l h i q k e = clash
+    (first-before room (λ i. and (ltb i count) (eqb (getD l i 0) 0)) i
+    (by-cases (decLt (first room (λ i. and (ltb i count) (eqb (getD l i 0) 0))) room) (λ t. absurd (h t)) (λ t. omega arith)))
+    (and-i (lt-ltb i count k) (eq-eqb _ 0 e))
 
 module _ (limit i : ℕ) (m : Machine) where
   tests : contentValidity i m ≡ valid → (beyondCounts m ≡ false) × (m .start ≡ 0 → ⊥) × (stuckState (m .states) (m .successors) < 64 → ⊥)
@@ -128,11 +164,8 @@ module _ (limit i : ℕ) (m : Machine) where
   set-past k l t = eqb-true _ 0 (not-false _ (rw (le-ltb k (m .sets) l) at t))
 
   not-stuck : (stuckState (m .states) (m .successors) < 64 → ⊥) → (s : ℕ) → s < 64 → s < m .states → successors m s ≡ 0 → ⊥
-  unfolding stuckState successors
-  not-stuck h s q l e = clash
-      (first-before 64 (λ s. and (ltb s (m .states)) (eqb (getD (m .successors) s 0) 0)) s
-      (by-cases (decLt (first 64 (λ s. and (ltb s (m .states)) (eqb (getD (m .successors) s 0) 0))) 64) (λ k. absurd (h k)) (λ k. omega arith)))
-      (and-i (lt-ltb s (m .states) l) (eq-eqb _ 0 e))
+  unfolding successors
+  not-stuck h s q l e = none-empty 64 (m .states) (m .successors) h s q l e
 
   pub well-machine : limit ≤ 8 → countsOk limit (m .states) (m .sets) ≡ true → contentValidity i m ≡ valid → WellMachine limit m
   unfolding starts moves inFairSet
@@ -165,13 +198,11 @@ pub record WellPair (p : Pair) : Type 0 where
   pub abstraction : WellMachine 7 (p .abstraction)
 
 pub well-valid : (p : Pair) → pairValidity p ≡ valid → WellPair p
-unfolding pairValidity
 well-valid p e =
-    let a = valid-if _ _ _ e in
-    let b = then-answer (contentValidity 0 (p .concrete)) (contentValidity 1 (p .abstraction)) (a .1) in
+    let h = tests-passed false p e in
     record {
-      concrete = well-machine 8 0 (p .concrete) (omega arith) (and-l _ _ (a .0)) (b .0);
-      abstraction = well-machine 7 1 (p .abstraction) (omega arith) (and-r _ _ (a .0)) (b .1);
+      concrete = well-machine 8 0 (p .concrete) (omega arith) (h .concrete-counts) (sym (content-only 0 (p .concrete)) ∙ h .concrete);
+      abstraction = well-machine 7 1 (p .abstraction) (omega arith) (h .abstract-counts) (sym (content-only 1 (p .abstraction)) ∙ h .abstraction);
     }
 
 pub well-pair : (p : Pair) → wellFormed p ≡ true → WellPair p
@@ -217,7 +248,7 @@ module _ (F : Refusal → Type 0) (late : (number x y z : ℕ) → 9 ≤ number 
       (λ u. refuses-cond F (ltb s 64) _ _ (λ x. refuses-at F _ (late no-successor i s 0 (omega arith) (omega arith))) (λ x. refuses-none F)))
 
   pub pair-refuses : (p : Pair) → (and (countsOk 8 (nC p) (setsC p)) (countsOk 7 (nA p) (setsA p)) ≡ false → F (refusal bad-counts 0 0 0)) → RefusesOnly F (pairValidity p)
-  unfolding pairValidity
+  unfolding pairTests contentTests
   pair-refuses p wrong =
       refuses-cond F (and (countsOk 8 (nC p) (setsC p)) (countsOk 7 (nA p) (setsA p))) _ _
       (λ t. refuses-then F _ _ (content-refuses 0 (p .concrete)) (λ v. content-refuses 1 (p .abstraction)))

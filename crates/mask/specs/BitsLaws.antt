@@ -94,6 +94,10 @@ has-small (suc v) (suc w) m h b =
     has-small v w (m / 2) (half-small v m h) (λ i l k. sym (has-suc m i) ∙ b (suc i) (omega arith) (omega arith)) in
     rw pow-suc (omega arith)
 
+-- a number of w bits of which none is set is 0
+pub no-bits-zero : (w m : ℕ) → m < 2 ^ w → ((i : ℕ) → i < w → hasBit m i ≡ false) → m ≡ 0
+no-bits-zero w m h b = let z : m < 2 ^ 0 = has-small w 0 m h (λ i l k. b i k) in omega arith
+
 -- ---- the lowest state
 lowest-even : (w m : ℕ) → m % 2 ≡ 0 → lowestOf (suc w) m ≡ suc (lowestOf w (m / 2))
 unfolding lowestOf trailingZeros

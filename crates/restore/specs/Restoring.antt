@@ -9,14 +9,15 @@ use Rattle.machine.specs.Table.{tableRoom}
 use Rattle.codec.specs.Format.{fileOf}
 use Rattle.codec.specs.Reader.{pairOf, readValidity}
 use Rattle.codec.specs.Writer.{fileRoom}
+use Rattle.solver.specs.Solver.{solveValidity}
 
 -- the show of the file f with the solver's table
 unfoldable pub restored : List ℕ → List ℕ
 restored f = let p = pairOf f in fileOf p true (solverTable p)
 
--- all that is tested: 1 of the lent buffer, then all that the reader tests
+-- all that is tested: 1 of the lent buffer, then all that the reader tests, then all that the solver tests, of which 21 is left
 unfoldable pub restoreValidity : List ℕ → ℕ → Tested
-restoreValidity f room = andThen (bufferValidity fileRoom room) (readValidity f tableRoom)
+restoreValidity f room = andThen (bufferValidity fileRoom room) (andThen (readValidity f tableRoom) (solveValidity (pairOf f) tableRoom))
 
 -- the new file's length, or a refusal
 unfoldable pub restoreAnswer : List ℕ → List ℕ → Result ℕ

@@ -1,4 +1,4 @@
--- Laws of a show with the solver's table: by what the reader says, what is answered and what is left in the buffer.
+-- Laws of a show with the solver's table: by what reader and solver say, what is answered and what is left in the buffer.
 use mathlib.Core.Bool.{Bool, true}
 use mathlib.Core.List.{List, _++_}
 use mathlib.Core.Path.{_≡_, sym, ap, _∙_}
@@ -7,9 +7,10 @@ use native.Mathlib.Omega.{arith}
 use lib.ListN.{length, getD, drop, replicate, length-replicate}
 use Rattle.machine.specs.declared.Pair.{Pair}
 use Rattle.machine.specs.declared.Refusal.{Refusal}
-use Rattle.machine.specs.Refusals.{answer, refused, valid, refusal, bufferValidity, short-buffer}
+use Rattle.machine.specs.Refusals.{answer, refused, valid, refusal, andThen, bufferValidity, short-buffer}
 use Rattle.machine.specs.RefusalsLaws.{then-of, then-refused, then-answer, given-at, given-refused, buffer-valid, buffer-short, buffer-room, buffer-made, buffer-kept}
-use Rattle.machine.specs.WellFormedLaws.{well-is-valid}
+use Rattle.machine.specs.WellFormed.{nonemptyValidity, nonemptySets}
+use Rattle.machine.specs.EmptySetsLaws.{nonempty-valid, nonempty-at}
 use Rattle.machine.specs.Ranks.{solverTable}
 use Rattle.machine.specs.Table.{tableRoom}
 use Rattle.codec.specs.declared.Reading.the-variants as reading
@@ -22,7 +23,8 @@ use Rattle.codec.specs.WriterLaws.{with-room, answer-small}
 use Rattle.codec.specs.Answers.{readOf}
 use Rattle.codec.specs.AnswersLaws.{read-taken, read-refused}
 use Rattle.codec.specs.FileLaws.{Was, was-taken, was-long, was-well, write-answers}
-use Rattle.solver.specs.Solver.{solvedTable}
+use Rattle.solver.specs.Solver.{solveValidity, solvedTable}
+use Rattle.solver.specs.SolverLaws.{solve-long}
 use Rattle.solver.specs.SolvedLaws.{solved-same, solved-room}
 use Rattle.restore.specs.Restoring.{restored, restoreValidity, restoreAnswer, restoreBuffer}
 
@@ -43,51 +45,74 @@ module _ (f buffer : List ℕ) where
 
   module _ (room : fileRoom ≤ length buffer) where
     -- the reader is lent a table of exactly the room that it asks for
-    read-tests : restoreValidity f (length buffer) ≡ readValidity f (length (replicate {A = ℕ} tableRoom 0))
+    read-tests : restoreValidity f (length buffer) ≡ andThen (readValidity f (length (replicate {A = ℕ} tableRoom 0))) (solveValidity (pairOf f) tableRoom)
     unfolding restoreValidity
-    read-tests = then-of _ _ (buffer-valid fileRoom (length buffer) room) ∙ ap (readValidity f) (sym (length-replicate {A = ℕ} tableRoom 0))
+    read-tests =
+        then-of _ _ (buffer-valid fileRoom (length buffer) room)
+        ∙ ap (λ (n : ℕ). andThen (readValidity f n) (solveValidity (pairOf f) tableRoom)) (sym (length-replicate {A = ℕ} tableRoom 0))
 
-    -- whatever was lent to a reader that took the file, nothing is refused
-    pub restore-valid : {lent : List ℕ} {p : Pair} {note : Bool} → Was f lent p note → restoreValidity f (length buffer) ≡ valid
+    -- whatever was lent to a reader that took the file, the machines' sets are left to be tested
+    solve-tests : {lent : List ℕ} {p : Pair} {note : Bool} → Was f lent p note → restoreValidity f (length buffer) ≡ nonemptyValidity p
     unfolding restoreValidity readValidity
-    restore-valid w =
-        then-of _ _ (buffer-valid fileRoom (length buffer) room) ∙ then-of _ _ (buffer-valid tableRoom tableRoom (omega arith)) ∙ then-of _ _ (w .start)
-        ∙ then-of _ _ (w .blocks) ∙ w .machines
+    solve-tests w =
+        let read = then-of _ _ (buffer-valid tableRoom tableRoom (omega arith)) ∙ then-of _ _ (w .start) ∙ then-of _ _ (w .blocks) ∙ w .machines in
+        then-of _ _ (buffer-valid fileRoom (length buffer) room) ∙ then-of _ _ read ∙ solve-long (pairOf f) tableRoom (omega arith)
+        ∙ ap nonemptyValidity (w .pair-is)
+
+    -- where they all have a state nothing is refused
+    pub restore-valid : {lent : List ℕ} {p : Pair} {note : Bool} → Was f lent p note → nonemptySets p ≡ true → restoreValidity f (length buffer) ≡ valid
+    restore-valid {p = p} w some = solve-tests w ∙ nonempty-valid p (was-well w) some
+
+    -- and where one has none, that is
+    pub restore-empty : {lent : List ℕ} {p : Pair} {note : Bool} {r : Refusal} → Was f lent p note → nonemptyValidity p ≡ refused r
+        → (restoreAnswer f buffer ≡ refused r) × (restoreBuffer f buffer ≡ buffer)
+    restore-empty w e = stopped _ (solve-tests w ∙ e)
 
     -- ---- by what was read
     module _ (s : Show) (T : List ℕ) (read : readOf s ≡ readAnswer f (replicate tableRoom 0)) (left : T ≡ readTable f (replicate tableRoom 0)) where
       pub restore-refused : (r : Refusal) → s .reading ≡ reading.Refused r → (restoreAnswer f buffer ≡ refused r) × (restoreBuffer f buffer ≡ buffer)
       unfolding readAnswer
-      restore-refused r e = stopped r (read-tests ∙ given-refused _ _ (read-refused s read e))
+      restore-refused r e = stopped r (read-tests ∙ then-refused _ _ r (given-refused _ _ (read-refused s read e)))
 
-      -- the writer, given the solver's table, writes what was promised
-      pub restore-taken : (U : List ℕ) (note : Bool) → s .reading ≡ reading.Taken note → U ≡ solvedTable (s .pair) T
-          → (restoreAnswer f buffer ≡ writeAnswer (s .pair) true U buffer) × (restoreBuffer f buffer ≡ writeBuffer (s .pair) true U buffer)
-      unfolding readAnswer restored writeBuffer
-      restore-taken U note e solved =
-          let p = s .pair in
-          let said = read-taken s read e in
-          let was = was-taken f (replicate tableRoom 0) p note said in
-          let well = was-well was in
-          let long : tableRoom ≤ length T = rw left (was-long was) in
-          let room-U : tableRoom ≤ length U = rw solved (solved-room p T well long) in
-          let file : restored f ≡ fileOf p true U =
-          ap (λ (q : Pair). fileOf q true (solverTable q)) (was .pair-is)
-          ∙ file-cong p true (solverTable p) U (λ t k h. sym (ap (λ (l : List ℕ). getD l k 0) solved ∙ solved-same p T well long k h)) in
-          let both = restore-made (read-tests ∙ given-at _ _ said .0) in (
-            both .0 ∙ ap answer (ap length file ∙ file-length p true U) ∙ sym (write-answers p true U buffer well room-U room),
-            both .1 ∙ ap (λ (l : List ℕ). l ++ drop (length l) buffer) file
-                ∙ sym (buffer-made _ _ buffer (with-room p (length U) (length buffer) room-U room ∙ well-is-valid p well)),
-          )
+      -- of a file that was taken, by what the solver said
+      module _ (note : Bool) (e : s .reading ≡ reading.Taken note) where
+        was : Was f (replicate tableRoom 0) (s .pair) note
+        was = was-taken f (replicate tableRoom 0) (s .pair) note (read-taken s read e)
+
+        long : tableRoom ≤ length T
+        long = rw left (was-long was)
+
+        pub restore-unsolved : (r : Refusal) → solveValidity (s .pair) (length T) ≡ refused r → (restoreAnswer f buffer ≡ refused r) × (restoreBuffer f buffer ≡ buffer)
+        restore-unsolved r told = restore-empty was (sym (solve-long (s .pair) (length T) long) ∙ told)
+
+        -- the writer, given the solver's table, writes what was promised
+        pub restore-taken : (U : List ℕ) → solveValidity (s .pair) (length T) ≡ valid → U ≡ solvedTable (s .pair) T
+            → (restoreAnswer f buffer ≡ writeAnswer (s .pair) true U buffer) × (restoreBuffer f buffer ≡ writeBuffer (s .pair) true U buffer)
+        unfolding restored writeBuffer
+        restore-taken U told solved =
+            let p = s .pair in
+            let well = was-well was in
+            let some = nonempty-at p (sym (solve-long p (length T) long) ∙ told) .1 in
+            let room-U : tableRoom ≤ length U = rw solved (solved-room p T well some long) in
+            let file : restored f ≡ fileOf p true U =
+            ap (λ (q : Pair). fileOf q true (solverTable q)) (was .pair-is)
+            ∙ file-cong p true (solverTable p) U (λ t k h. sym (ap (λ (l : List ℕ). getD l k 0) solved ∙ solved-same p T well some long k h)) in
+            let both = restore-made (restore-valid was some) in (
+              both .0 ∙ ap answer (ap length file ∙ file-length p true U) ∙ sym (write-answers p true U buffer well some room-U room),
+              both .1 ∙ ap (λ (l : List ℕ). l ++ drop (length l) buffer) file
+                  ∙ sym (buffer-made _ _ buffer (with-room p (length U) (length buffer) room-U room ∙ nonempty-valid p well some)),
+            )
 
 -- ---- the new file fits the room that the call asks for
 pub restore-small : (f buffer : List ℕ) {n : ℕ} → restoreAnswer f buffer ≡ answer n → n ≤ fileRoom
 unfolding restoreAnswer restoreValidity readAnswer restored
 restore-small f buffer e =
     let t = given-at (restoreValidity f (length buffer)) (length (restored f)) e in
-    let a = then-answer (bufferValidity fileRoom (length buffer)) (readValidity f tableRoom) (t .0) in
+    let a = then-answer (bufferValidity fileRoom (length buffer)) _ (t .0) in
+    let b = then-answer (readValidity f tableRoom) (solveValidity (pairOf f) tableRoom) (a .1) in
     let p = pairOf f in
     let lent : List ℕ = replicate tableRoom 0 in
-    let was = was-taken f lent p (noteOf f) (then-of _ _ (ap (readValidity f) (length-replicate {A = ℕ} tableRoom 0) ∙ a .1)) in
-    let written = write-answers p true (readTable f lent) buffer (was-well was) (was-long was) (buffer-room fileRoom (length buffer) (a .0)) in
+    let was = was-taken f lent p (noteOf f) (then-of _ _ (ap (readValidity f) (length-replicate {A = ℕ} tableRoom 0) ∙ b .0)) in
+    let some = nonempty-at p (sym (solve-long p tableRoom (omega arith)) ∙ b .1) .1 in
+    let written = write-answers p true (readTable f lent) buffer (was-well was) some (was-long was) (buffer-room fileRoom (length buffer) (a .0)) in
     omega (arith, t .1, file-length p true (solverTable p), answer-small p true (readTable f lent) buffer written)

@@ -5,9 +5,10 @@ ghost use Rattle.codec.specs.Answers.{sizedOf};
 ghost use Rattle.restore.specs.Restoring.{restoreAnswer, restoreBuffer, lengthOf};
 use codec::Reading;
 use codec::Size;
+use machine::Validity;
 
-// Writes the show of a file with the solver's table into the buffer, and gives the new file's length, or where it was stopped. The machines of
-// a file that was taken are well formed, so the solver refuses nothing.
+// Writes the show of a file with the solver's table into the buffer, and gives the new file's length, or where it was stopped: by the reader, or
+// by the solver, which refuses an empty set.
 pub fn solve_bytes(bytes: &[u8], out: &mut [u8]) -> Size
     ensures { λ r. ⌜ sizedOf r ≡ restoreAnswer (now (bytes .entry)) (now (out .entry)) ⌝ }
     ensures { λ _. ⌜ now (out .exit) ≡ restoreBuffer (now (bytes .entry)) (now (out .entry)) ⌝ }
@@ -22,7 +23,10 @@ pub fn solve_bytes(bytes: &[u8], out: &mut [u8]) -> Size
         return Size::Refused(codec::reader::refusal_of(reading));
     };
     let pair = show.pair;
-    solver::solve(pair, &mut table);
+    let solved = solver::solve(pair, &mut table);
+    if let Validity::Refused(r) = solved {
+        return Size::Refused(r);
+    }
     codec::writer::write_file(pair, true, &table, out)
 }
 

@@ -1,4 +1,4 @@
--- What the solver leaves in a lent table with room, of well-formed machines.
+-- What the solver leaves in a lent table with room, of well-formed machines whose sets all have a state.
 use mathlib.Core.Bool.{true}
 use mathlib.Core.List.{List, _++_}
 use mathlib.Core.Path.{_≡_, _∙_}
@@ -8,8 +8,9 @@ use lib.ListN.{length, getD, drop, length-append, length-drop}
 use Rattle.machine.specs.declared.Pair.{Pair}
 use Rattle.machine.specs.Refusals.{valid}
 use Rattle.machine.specs.RefusalsLaws.{buffer-made}
-use Rattle.machine.specs.WellFormed.{wellFormed}
-use Rattle.machine.specs.WellFormedLaws.{well-pair, well-is-valid, entries-small}
+use Rattle.machine.specs.WellFormed.{wellFormed, nonemptySets}
+use Rattle.machine.specs.WellFormedLaws.{well-pair, entries-small}
+use Rattle.machine.specs.EmptySetsLaws.{nonempty-valid}
 use Rattle.machine.specs.Ranks.{solverTable}
 use Rattle.machine.specs.Table.{tableRoom, entries}
 use Rattle.machine.specs.EntriesLaws.{front-same}
@@ -17,10 +18,10 @@ use Rattle.theory.specs.RankLaws.{table-entries}
 use Rattle.solver.specs.Solver.{solveValidity, solvedTable}
 use Rattle.solver.specs.SolverLaws.{solve-long}
 
-module _ (p : Pair) (T : List ℕ) (well : wellFormed p ≡ true) (room : tableRoom ≤ length T) where
+module _ (p : Pair) (T : List ℕ) (well : wellFormed p ≡ true) (some : nonemptySets p ≡ true) (room : tableRoom ≤ length T) where
   -- nothing is refused
   pub solve-takes : solveValidity p (length T) ≡ valid
-  solve-takes = solve-long p (length T) room ∙ well-is-valid p well
+  solve-takes = solve-long p (length T) room ∙ nonempty-valid p well some
 
   -- the solver's own entries, and then what was there
   pub solved-is : solvedTable p T ≡ solverTable p ++ drop (length (solverTable p)) T

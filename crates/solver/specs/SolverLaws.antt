@@ -7,7 +7,7 @@ use Rattle.machine.specs.declared.Pair.{Pair}
 use Rattle.machine.specs.declared.Refusal.{Refusal}
 use Rattle.machine.specs.Refusals.{valid, refused, bufferValidity}
 use Rattle.machine.specs.RefusalsLaws.{then-of, then-refused, buffer-valid, buffer-made, buffer-kept}
-use Rattle.machine.specs.WellFormed.{pairValidity}
+use Rattle.machine.specs.WellFormed.{nonemptyValidity}
 use Rattle.machine.specs.Table.{tableRoom}
 use Rattle.machine.specs.Ranks.{solverTable}
 use Rattle.solver.specs.Solver.{solveValidity, solvedTable}
@@ -18,7 +18,7 @@ module _ (p : Pair) where
   unfolding solveValidity
   solve-short len e = then-refused _ _ _ e
 
-  pub solve-long : (len : ℕ) → tableRoom ≤ len → solveValidity p len ≡ pairValidity p
+  pub solve-long : (len : ℕ) → tableRoom ≤ len → solveValidity p len ≡ nonemptyValidity p
   unfolding solveValidity
   solve-long len h = then-of _ _ (buffer-valid tableRoom len h)
 

@@ -291,7 +291,7 @@ pub fn solve(p: Pair, table: &mut [u16]) -> Validity
     if table.len() < machine::TABLE_ROOM {
         return Validity::Refused(machine::refuse(machine::SHORT_BUFFER, 0, 0, 0));
     }
-    let valid = validity::pair_validity(p);
+    let valid = validity::pair_validity(p, validity::NONEMPTY_SETS);
     match valid {
         Validity::Refused(r) => Validity::Refused(r),
         Validity::Valid => {

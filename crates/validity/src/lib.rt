@@ -1,11 +1,13 @@
-// Tests of machines: whether one machine, or a pair, is well formed, and if not where the first refusal of document 01 stops it.
+// Tests of machines: whether one machine, or a pair, is well formed, and if not where the first refusal of document 01 stops it; and for the calls
+// that take no empty set, refusal 21 of document 02 behind these.
 ghost use mathlib.Core.Path.{_≡_};
 ghost use mathlib.Core.Bool.{cond};
 ghost use lib.Dec.{ltb, eqb};
+ghost use lib.ListN.{length};
 ghost use Rattle.mask.specs.Logic.{not, or};
 ghost use Rattle.mask.specs.Bounded.{some};
 ghost use Rattle.machine.specs.Refusals.{testedOf};
-ghost use Rattle.machine.specs.WellFormed.{countsOk, beyond, stateBeyond, setBeyond, beyondCounts, stuckState, contentValidity, machineValidity, pairValidity};
+ghost use Rattle.machine.specs.WellFormed.{countsOk, beyond, stateBeyond, setBeyond, beyondCounts, firstEmpty, emptySet, hasEmptySet, contentValidity, contentTests, machineValidity, pairTests};
 use machine::Machine;
 use machine::Pair;
 use machine::Validity;
@@ -80,18 +82,18 @@ fn sets_beyond(states: usize, sets: usize, fairness: &[u64; 8]) -> bool
     false
 }
 
-// The lowest state without a successor, 64 where there is none.
-fn stuck_state(states: usize, successors: &[u64; 64]) -> usize
-    ensures { λ r. ⌜ r ≡ stuckState states (now (successors .entry)) ⌝ }
+// The lowest of the first `count` masks that has no state; the number of masks where there is none.
+fn first_empty(count: usize, masks: &[u64]) -> usize
+    ensures { λ r. ⌜ r ≡ firstEmpty (length (now (masks .entry))) count (now (masks .entry)) ⌝ }
 {
-    for s in 0..64 {
-        if s < states {
-            if successors[s] == 0 {
-                return s;
+    for i in 0..masks.len() {
+        if i < count {
+            if masks[i] == 0 {
+                return i;
             }
         }
     }
-    64
+    masks.len()
 }
 
 // Whether a bit or an entry of a machine lies beyond its counts.
@@ -121,9 +123,41 @@ fn content_validity(index: usize, m: Machine) -> Validity
         return Validity::Refused(machine::refuse(machine::NO_START, index, 0, 0));
     }
     let successors = m.successors;
-    let s = stuck_state(m.states, &successors);
+    let s = first_empty(m.states, &successors);
     if s < 64 {
         return Validity::Refused(machine::refuse(machine::NO_SUCCESSOR, index, s, 0));
+    }
+    Validity::Valid
+}
+
+// The lowest set without a state, counted from 0; 8 where there is none.
+fn empty_set(m: Machine) -> usize
+    ensures { λ r. ⌜ r ≡ emptySet (m .sets) (m .fairness) ⌝ }
+{
+    let fairness = m.fairness;
+    first_empty(m.sets, &fairness)
+}
+
+// Whether a machine has a set without a state.
+pub fn has_empty_set(m: Machine) -> bool
+    ensures { λ r. ⌜ r ≡ hasEmptySet m ⌝ }
+{
+    empty_set(m) < 8
+}
+
+// Refusals 9 to 11 of machine number `index`, and 21 behind them where its sets shall be nonempty.
+fn content_tests(nonempty: bool, index: usize, m: Machine) -> Validity
+    ensures { λ r. ⌜ testedOf r ≡ contentTests nonempty index m ⌝ }
+{
+    let content = content_validity(index, m);
+    if let Validity::Refused(r) = content {
+        return Validity::Refused(r);
+    }
+    if nonempty {
+        let k = empty_set(m);
+        if k < 8 {
+            return Validity::Refused(machine::refuse(machine::EMPTY_SET, index, k + 1, 0));
+        }
     }
     Validity::Valid
 }
@@ -138,9 +172,15 @@ pub fn machine_validity(limit: usize, m: Machine) -> Validity
     content_validity(0, m)
 }
 
-// Whether a pair is well formed: the counts of both, then the whole concrete machine, then the whole abstract one.
-pub fn pair_validity(p: Pair) -> Validity
-    ensures { λ r. ⌜ testedOf r ≡ pairValidity p ⌝ }
+// What `pair_validity` asks of the fairness sets: any, or that each has a state.
+pub const ANY_SETS: bool = false;
+
+pub const NONEMPTY_SETS: bool = true;
+
+// Whether a pair is well formed, and every set nonempty if that is asked: the counts of both, then the whole concrete machine, then the whole
+// abstract one.
+pub fn pair_validity(p: Pair, nonempty: bool) -> Validity
+    ensures { λ r. ⌜ testedOf r ≡ pairTests nonempty p ⌝ }
 {
     let c = p.concrete;
     let a = p.abstraction;
@@ -150,9 +190,9 @@ pub fn pair_validity(p: Pair) -> Validity
     if !counts_ok(7, a.states, a.sets) {
         return Validity::Refused(machine::refuse(machine::BAD_COUNTS, 0, 0, 0));
     }
-    let concrete = content_validity(0, c);
+    let concrete = content_tests(nonempty, 0, c);
     match concrete {
         Validity::Refused(r) => Validity::Refused(r),
-        Validity::Valid => content_validity(1, a),
+        Validity::Valid => content_tests(nonempty, 1, a),
     }
 }

@@ -29,8 +29,8 @@ pub fn file_verdict(bytes: &[u8]) -> FileVerdict
     let pair = show.pair;
     let checked = linecheck::check_table(pair, &table);
     match checked {
-        Checked::Carried(n) => FileVerdict::Carried(n),
-        Checked::NotCarried(c, n) => FileVerdict::NotCarried(c, n),
+        Checked::Carried(n, _) => FileVerdict::Carried(n),
+        Checked::NotCarried(c, n, _) => FileVerdict::NotCarried(c, n),
         Checked::Refused(r) => FileVerdict::Refused(r),
     }
 }

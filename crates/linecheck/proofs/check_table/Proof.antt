@@ -8,10 +8,10 @@ use borrow.Author.Needs.{needs}
 use Rattle.machine.specs.Refusals.{valid, refused}
 use Rattle.machine.specs.RefusalsLaws.{tested-valid, tested-refused}
 use Rattle.machine.specs.Table.{tableRoom}
-use Rattle.machine.specs.VerdictLaws.{check-short, check-invalid, check-fails, check-passes}
+use Rattle.machine.specs.VerdictLaws.{check-short, check-invalid, check-fails, check-passes, told-refused, told-beside}
 use Rattle.machine.specs.WellFormed.{pairValidity, wellFormed}
 use Rattle.machine.specs.WellFormedLaws.{valid-is-well}
-use Rattle.linecheck.specs.Answers.{verdictOf}
+use Rattle.linecheck.specs.Answers.{verdictOf, emptySetOf}
 use Rattle.linecheck.proofs.check_table.Statement.{statement}
 use Rattle.linecheck.proofs.check_table.Tie as tie
 
@@ -28,8 +28,11 @@ refuse-requires : tie.Need-refuse-requires
 refuse-requires c κs = search needs
 
 returns : tie.Need-returns
-unfolding verdictOf
-returns c = let x = c .before .before .before .args in ap refused (c .refuse .ensures) ∙ sym (check-short (x .p) (x .table .now) (c .before .if1 .taken))
+unfolding verdictOf emptySetOf
+returns c =
+    let x = c .before .before .before .args in
+    let said = check-short (x .p) (x .table .now) (c .before .if1 .taken) in
+    (ap refused (c .refuse .ensures) ∙ sym said, sym (told-refused (x .p) (x .table .now) said))
 
 pair-validity-requires : tie.Need-pair-validity-requires
 pair-validity-requires c κs = search needs
@@ -38,11 +41,12 @@ enum-known-valid : tie.Need-enum-known-valid
 enum-known-valid c = search needs
 
 returns-2 : tie.Need-returns-2
-unfolding verdictOf
+unfolding verdictOf emptySetOf
 returns-2 c =
     let v = c .before .before .before in
     let x = v .before .before .before .args in
-    sym (check-invalid (x .p) (x .table .now) (room (v .before)) _ (tested-refused (v .pair-validity .ensures) (c .before .valid .given .1)))
+    let said = check-invalid (x .p) (x .table .now) (room (v .before)) _ (tested-refused (v .pair-validity .ensures) (c .before .valid .given .1)) in
+    (sym said, sym (told-refused (x .p) (x .table .now) said))
 
 enum-told : tie.Need-enum-told
 enum-told c = search needs
@@ -57,13 +61,14 @@ enum-known-lines : tie.Need-enum-known-lines
 enum-known-lines c = search needs
 
 returns-3 : tie.Need-returns-3
-unfolding verdictOf
+unfolding verdictOf emptySetOf
 returns-3 c =
     let l = c .before .before .before in
     let v = l .before .before in
     let e = v .before .before .before in
     let x = e .before .before .args in
-    sym (check-fails (x .p) (x .table .now) (room e) _ (pair-valid v) (tested-refused (l .lines-validity .ensures) (c .before .lines .given .1)))
+    let said = check-fails (x .p) (x .table .now) (room e) _ (pair-valid v) (tested-refused (l .lines-validity .ensures) (c .before .lines .given .1)) in
+    (sym said, sym (told-refused (x .p) (x .table .now) said))
 
 enum-told-2 : tie.Need-enum-told-2
 enum-told-2 c = search needs
@@ -77,8 +82,9 @@ returns-4 c =
     let v = l .before .before in
     let e = v .before .before .before in
     let x = e .before .before .args in
-    c .verdict-of-starts .ensures
-    ∙ sym (check-passes (x .p) (x .table .now) (room e) (pair-valid v) (tested-valid (l .lines-validity .ensures) (c .before .enum-told2 .given .1)))
+    let made = c .verdict-of-starts .ensures in
+    let said = check-passes (x .p) (x .table .now) (room e) (pair-valid v) (tested-valid (l .lines-validity .ensures) (c .before .enum-told2 .given .1)) in
+    (made .0 ∙ sym said, made .1 ∙ sym (told-beside (x .p) (x .table .now) said))
 
 pub check-table-spec : {M : Type 1} → statement M
 check-table-spec =

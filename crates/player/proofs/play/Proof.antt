@@ -58,20 +58,20 @@ returns-2 c =
     let r = c .before .checked .given .0 .0 in
     stopped-by (x .p) (x .table .now) (lasso d) (x .run .now) r
     (check-stops (x .p) (x .table .now) (lasso d) (x .run .now) (d .if1 .left) r
-    (sym (c .before .before .before .check-table .ensures) ∙ ap verdictOf (c .before .checked .given .1)))
+    (sym (c .before .before .before .check-table .ensures .0) ∙ ap verdictOf (c .before .checked .given .1)))
 
 -- the check has refused nothing
 taken : (a : Checked) → OneOf (0 ∷ 1 ∷ []) (tagOf said.the-type a) → (v : Verdict) × (verdictOf a ≡ answer v)
 unfolding verdictOf
-taken (Carried n) k = (carried n, refl)
-taken (NotCarried c n) k = (notCarried c n, refl)
+taken (Carried n empty) k = (carried n, refl)
+taken (NotCarried c n empty) k = (notCarried c n, refl)
 taken (Refused s) k = absurd (miss (0 ∷ 1 ∷ []) 2 tt k)
 
 passes : (c : tie.At-match-keys2) → let d = c .before .before in Passes (top d .args .p) (top d .args .table .now)
 passes c =
     let d = c .before .before in
     check-tells (top d .args .p) (top d .args .table .now)
-    (sym (c .before .check-table .ensures) ∙ taken (c .before .check-table .result) (c .match .keys2) .1)
+    (sym (c .before .check-table .ensures .0) ∙ taken (c .before .check-table .result) (c .match .keys2) .1)
 
 well : (c : tie.At-match-keys2) → WellPair (top (c .before .before) .args .p)
 well c = well-valid (top (c .before .before) .args .p) (passes c .pair)

@@ -5,6 +5,7 @@ use borrow.Author.Needs.{needs}
 use Rattle.machine.specs.Refusals.{refused, testedOf}
 use Rattle.machine.specs.RefusalsLaws.{buffer-short, tested-valid, tested-refused}
 use Rattle.machine.specs.WellFormedLaws.{valid-is-well}
+use Rattle.machine.specs.EmptySetsLaws.{nonempty-at}
 use Rattle.solver.specs.SolverLaws.{solve-short, solve-long, solved-refused, solved-valid}
 use Rattle.solver.proofs.solve.Statement.{statement}
 use Rattle.solver.proofs.solve.Tie as tie
@@ -32,7 +33,8 @@ enum-told c = search needs
 rank-all-requires : tie.Need-rank-all-requires
 rank-all-requires c κs =
     let v = c .before .before .before in
-    (valid-is-well (v .before .before .before .args .p) (tested-valid (v .pair-validity .ensures) (c .before .enum-told .given .1)), v .before .if1 .left)
+    let p = v .before .before .before .args .p in
+    (valid-is-well p (nonempty-at p (tested-valid (v .pair-validity .ensures) (c .before .enum-told .given .1)) .0), v .before .if1 .left)
 
 returns-2 : tie.Need-returns-2
 unfolding testedOf

@@ -24,7 +24,7 @@ refuse-requires c κs = search needs
 
 returns : tie.Need-returns
 unfolding testedOf
-returns c = ap refused (c .refuse .ensures) ∙ sym (bad-concrete-counts _ (sym (c .before .before .counts-ok .ensures) ∙ not-true _ (c .before .if1 .taken)))
+returns c = ap refused (c .refuse .ensures) ∙ sym (bad-concrete-counts _ _ (sym (c .before .before .counts-ok .ensures) ∙ not-true _ (c .before .if1 .taken)))
 
 counts-ok-requires-2 : tie.Need-counts-ok-requires-2
 counts-ok-requires-2 c κs = search needs
@@ -34,10 +34,10 @@ refuse-requires-2 c κs = search needs
 
 returns-2 : tie.Need-returns-2
 unfolding testedOf
-returns-2 c = ap refused (c .refuse2 .ensures) ∙ sym (bad-abstract-counts _ (sym (c .before .before .counts-ok2 .ensures) ∙ not-true _ (c .before .if2 .taken)))
+returns-2 c = ap refused (c .refuse2 .ensures) ∙ sym (bad-abstract-counts _ _ (sym (c .before .before .counts-ok2 .ensures) ∙ not-true _ (c .before .if2 .taken)))
 
-content-validity-requires : tie.Need-content-validity-requires
-content-validity-requires c κs = search needs
+content-tests-requires : tie.Need-content-tests-requires
+content-tests-requires c κs = search needs
 
 enum-known-concrete : tie.Need-enum-known-concrete
 enum-known-concrete c = search needs
@@ -45,19 +45,19 @@ enum-known-concrete c = search needs
 enum-told : tie.Need-enum-told
 enum-told c = search needs
 
-content-validity-requires-2 : tie.Need-content-validity-requires-2
-content-validity-requires-2 c κs = search needs
+content-tests-requires-2 : tie.Need-content-tests-requires-2
+content-tests-requires-2 c κs = search needs
 
 returns-3 : tie.Need-returns-3
 unfolding testedOf
 returns-3 c =
     let e = c .before .before .before in
-    sym (bad-concrete _ (concrete-counts (e .before .before .before)) (abstract-counts (e .before)) _ (tested-refused (e .content-validity .ensures) (c .before .concrete .given .1)))
+    sym (bad-concrete _ _ (concrete-counts (e .before .before .before)) (abstract-counts (e .before)) _ (tested-refused (e .content-tests .ensures) (c .before .concrete .given .1)))
 
 returns-4 : tie.Need-returns-4
 returns-4 c =
     let e = c .before .before .before in
-    c .content-validity2 .ensures ∙ sym (good-concrete _ (concrete-counts (e .before .before .before)) (abstract-counts (e .before)) (tested-valid (e .content-validity .ensures) (c .before .enum-told .given .1)))
+    c .content-tests2 .ensures ∙ sym (good-concrete _ _ (concrete-counts (e .before .before .before)) (abstract-counts (e .before)) (tested-valid (e .content-tests .ensures) (c .before .enum-told .given .1)))
 
 pub pair-validity-spec : {M : Type 1} → statement M
 pair-validity-spec =
@@ -69,9 +69,9 @@ pair-validity-spec =
     counts-ok-requires-2
     refuse-requires-2
     returns-2
-    content-validity-requires
+    content-tests-requires
     enum-known-concrete
     enum-told
-    content-validity-requires-2
+    content-tests-requires-2
     returns-3
     returns-4)

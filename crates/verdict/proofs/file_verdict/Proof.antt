@@ -63,7 +63,7 @@ checked : (c : tie.After-check-table) → fileOutcome (now (c .before .before .b
 checked c =
     let r = c .before .before .before .before .before .before .before .before .read-file .ensures in
     let told = c .before .before .before .before .before .reading .given .1 ∙ ap Taken (not-false _ (c .before .before .before .if1 .left)) in
-    outcome-taken checkVerdict _ (read-taken _ (r .0) told) (r .1 .1) (c .check-table .ensures)
+    outcome-taken checkVerdict _ (read-taken _ (r .0) told) (r .1 .1) (c .check-table .ensures .0)
 
 returns-3 : tie.Need-returns-3
 unfolding outcomeOf verdictOf passOn

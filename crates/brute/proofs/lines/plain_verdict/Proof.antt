@@ -3,10 +3,10 @@ use mathlib.Core.Path.{_∙_, _≡_, ap, sym}
 use borrow.Author.Needs.{needs}
 use Rattle.machine.specs.Refusals.{refused, valid}
 use Rattle.machine.specs.RefusalsLaws.{tested-refused, tested-valid}
-use Rattle.machine.specs.VerdictLaws.{check-fails, check-invalid, check-passes, check-short}
+use Rattle.machine.specs.VerdictLaws.{check-fails, check-invalid, check-passes, check-short, told-beside, told-refused}
 use Rattle.machine.specs.WellFormed.{pairValidity}
 use Rattle.machine.specs.WellFormedLaws.{valid-is-well}
-use Rattle.brute.specs.Lines.{verdictOf}
+use Rattle.brute.specs.Lines.{verdictOf, emptySetOf}
 use Rattle.brute.proofs.lines.plain_verdict.Statement.{statement}
 use Rattle.brute.proofs.lines.plain_verdict.Tie as tie
 
@@ -17,8 +17,11 @@ refuse-requires : tie.Need-refuse-requires
 refuse-requires c κs = search needs
 
 returns : tie.Need-returns
-unfolding verdictOf
-returns c = let x = c .before .before .before .args in ap refused (c .refuse .ensures) ∙ sym (check-short (x .p) (x .table .now) (c .before .if1 .taken))
+unfolding verdictOf emptySetOf
+returns c =
+    let x = c .before .before .before .args in
+    let said = check-short (x .p) (x .table .now) (c .before .if1 .taken) in
+    (ap refused (c .refuse .ensures) ∙ sym said, sym (told-refused (x .p) (x .table .now) said))
 
 validity-requires : tie.Need-validity-requires
 validity-requires c κs = search needs
@@ -27,11 +30,12 @@ enum-known-valid : tie.Need-enum-known-valid
 enum-known-valid c = search needs
 
 returns-2 : tie.Need-returns-2
-unfolding verdictOf
+unfolding verdictOf emptySetOf
 returns-2 c =
     let e = c .before .before .before in
     let x = e .before .before .before .args in
-    sym (check-invalid (x .p) (x .table .now) (e .before .if1 .left) _ (tested-refused (e .validity .ensures) (c .before .valid .given .1)))
+    let said = check-invalid (x .p) (x .table .now) (e .before .if1 .left) _ (tested-refused (e .validity .ensures) (c .before .valid .given .1)) in
+    (sym said, sym (told-refused (x .p) (x .table .now) said))
 
 enum-told : tie.Need-enum-told
 enum-told c = search needs
@@ -43,12 +47,13 @@ enum-known-passed : tie.Need-enum-known-passed
 enum-known-passed c = search needs
 
 returns-3 : tie.Need-returns-3
-unfolding verdictOf
+unfolding verdictOf emptySetOf
 returns-3 c =
     let e = c .before .before .before in
     let f = e .before in
     let x = f .before .before .before .before .before .args in
-    sym (check-fails (x .p) (x .table .now) (f .before .before .before .if1 .left) _ (formed f) (tested-refused (e .lines .ensures) (c .before .passed .given .1)))
+    let said = check-fails (x .p) (x .table .now) (f .before .before .before .if1 .left) _ (formed f) (tested-refused (e .lines .ensures) (c .before .passed .given .1)) in
+    (sym said, sym (told-refused (x .p) (x .table .now) said))
 
 enum-told-2 : tie.Need-enum-told-2
 enum-told-2 c = search needs
@@ -61,8 +66,9 @@ returns-4 c =
     let e = c .before .before .before in
     let f = e .before in
     let x = f .before .before .before .before .before .args in
-    c .start-verdict .ensures
-    ∙ sym (check-passes (x .p) (x .table .now) (f .before .before .before .if1 .left) (formed f) (tested-valid (e .lines .ensures) (c .before .enum-told2 .given .1)))
+    let made = c .start-verdict .ensures in
+    let said = check-passes (x .p) (x .table .now) (f .before .before .before .if1 .left) (formed f) (tested-valid (e .lines .ensures) (c .before .enum-told2 .given .1)) in
+    (made .0 ∙ sym said, made .1 ∙ sym (told-beside (x .p) (x .table .now) said))
 
 pub plain-verdict-spec : {M : Type 1} → statement M
 plain-verdict-spec =

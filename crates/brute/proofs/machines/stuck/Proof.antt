@@ -5,7 +5,7 @@ use Prim.Native.Nat.{_-_, _<_, _≤_, ℕ}
 use native.Mathlib.Omega.{arith}
 use borrow.Author.Count.{below-more, below-none}
 use borrow.Author.Needs.{needs}
-use Rattle.machine.specs.BeyondLaws.{stuck-at, stuck-none}
+use Rattle.machine.specs.BeyondLaws.{empty-at, empty-none}
 use Rattle.machine.specs.Machines.{successors}
 use Rattle.brute.proofs.machines.stuck.Statement.{statement}
 use Rattle.brute.proofs.machines.stuck.Tie as tie
@@ -26,7 +26,7 @@ returns : tie.Need-returns Inv-loop μ-loop
 unfolding successors
 returns c =
     let m = c .before .before .before .before .before .before .args .m in
-    sym (stuck-at (m .states) (m .successors) (c .before .before .before .before .before .loop .s) (omega arith) (omega arith) (sym (c .before .successors-of .ensures) ∙ c .if2 .taken) (c .before .before .before .before .before .loop .inv .1))
+    sym (empty-at 64 (m .states) (m .successors) (c .before .before .before .before .before .loop .s) (omega arith) (omega arith) (sym (c .before .successors-of .ensures) ∙ c .if2 .taken) (c .before .before .before .before .before .loop .inv .1))
 
 add-s : tie.Need-add-s Inv-loop μ-loop
 add-s c = search needs
@@ -45,7 +45,7 @@ returns-2 : tie.Need-returns-2 Inv-loop μ-loop
 unfolding successors
 returns-2 c =
     let m = c .before .before .args .m in
-    sym (stuck-none (m .states) (m .successors) (λ k h. c .before .loop .inv .1 k (omega arith)))
+    sym (empty-none 64 (m .states) (m .successors) (λ k h. c .before .loop .inv .1 k (omega arith)))
 
 pub stuck-spec : {M : Type 1} → statement M
 stuck-spec =

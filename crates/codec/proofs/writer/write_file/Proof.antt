@@ -5,8 +5,9 @@ use lib.ListN.{length}
 use borrow.Author.Needs.{needs}
 use Rattle.machine.specs.Refusals.{valid}
 use Rattle.machine.specs.RefusalsLaws.{tested-valid, tested-refused}
-use Rattle.machine.specs.WellFormed.{pairValidity}
+use Rattle.machine.specs.WellFormed.{nonemptyValidity}
 use Rattle.machine.specs.WellFormedLaws.{valid-is-well}
+use Rattle.machine.specs.EmptySetsLaws.{nonempty-at}
 use Rattle.codec.specs.WriterLaws.{short-table, short-file, with-room, write-refused, write-valid}
 use Rattle.codec.proofs.writer.write_file.Statement.{statement}
 use Rattle.codec.proofs.writer.write_file.Tie as tie
@@ -37,11 +38,11 @@ enum-known-r c = search needs
 enum-told : tie.Need-enum-told
 enum-told c = search needs
 
-right : (c : tie.After-enum-told) → pairValidity (c .before .before .before .before .before .before .before .args .p) ≡ valid
+right : (c : tie.After-enum-told) → nonemptyValidity (c .before .before .before .before .before .before .before .args .p) ≡ valid
 right c = tested-valid (c .before .before .pair-validity .ensures) (c .enum-told .given .1)
 
 put-file-requires : tie.Need-put-file-requires
-put-file-requires c κs = (valid-is-well _ (right (c .before)), omega arith)
+put-file-requires c κs = (valid-is-well _ (nonempty-at _ (right (c .before)) .0), omega arith)
 
 returns-3 : tie.Need-returns-3
 returns-3 c =

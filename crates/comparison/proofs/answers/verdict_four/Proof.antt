@@ -1,5 +1,5 @@
 -- Each case of the enum gives the four numbers that the definition gives for its result.
-use Rattle.linecheck.specs.Answers.{verdictOf}
+use Rattle.linecheck.specs.Answers.{verdictOf, emptySetOf}
 use Rattle.comparison.specs.Answers.{fourOf, verdictNumbers}
 use borrow.Author.Needs.{needs}
 use Rattle.comparison.proofs.answers.verdict_four.Statement.{statement}
@@ -21,15 +21,15 @@ enum-known-v-3 : tie.Need-enum-known-v-3
 enum-known-v-3 c = search needs
 
 returns : tie.Need-returns
-unfolding verdictOf fourOf verdictNumbers
+unfolding verdictOf emptySetOf fourOf verdictNumbers
 returns c = rw (c .before .before .v .given .1) (c .refuse .ensures)
 
 returns-2 : tie.Need-returns-2
-unfolding verdictOf fourOf verdictNumbers
+unfolding verdictOf emptySetOf fourOf verdictNumbers
 returns-2 c = rw (c .before .before .v2 .given .1) (c .refuse2 .ensures)
 
 returns-3 : tie.Need-returns-3
-unfolding verdictOf fourOf verdictNumbers
+unfolding verdictOf emptySetOf fourOf verdictNumbers
 returns-3 c = rw (c .before .v3 .given .1)
 
 pub verdict-four-spec : {M : Type 1} → statement M

@@ -1,7 +1,6 @@
 -- Both answers are that of the definition, by the contracts of check and plain reading.
-use mathlib.Core.Path.{_∙_, ap}
+use mathlib.Core.Path.{_∙_}
 use borrow.Author.Needs.{needs}
-use Rattle.comparison.specs.Answers.{verdictFour}
 use Rattle.comparison.specs.TablesLaws.{table-tally-is}
 use Rattle.comparison.proofs.tables.compare_table.Statement.{statement}
 use Rattle.comparison.proofs.tables.compare_table.Tie as tie
@@ -21,6 +20,9 @@ as-checked-requires c κs = search needs
 verdict-four-requires-2 : tie.Need-verdict-four-requires-2
 verdict-four-requires-2 c κs = search needs
 
+says-empty-requires : tie.Need-says-empty-requires
+says-empty-requires c κs = search needs
+
 table-agrees-requires : tie.Need-table-agrees-requires
 table-agrees-requires c κs = search needs
 
@@ -29,11 +31,15 @@ of-table-requires c κs = search needs
 
 returns : tie.Need-returns
 returns c =
-    let plain = c .before .before .before .before in
+    let told = c .before .before in
+    let plain = told .before .before .before in
     let rule = plain .before .before in
     let answer = rule .before in
-    table-tally-is _ _ _ _ _ _ _ _ (answer .verdict-four .ensures ∙ ap verdictFour (answer .before .check-table .ensures))
-    (plain .verdict-four2 .ensures ∙ ap verdictFour (plain .before .as-checked .ensures ∙ rule .plain-verdict .ensures)) (c .before .table-agrees .ensures) (c .of-table .ensures)
+    let own = answer .before .check-table .ensures in
+    let form = plain .before .as-checked .ensures in
+    let other = rule .plain-verdict .ensures in
+    table-tally-is _ _ _ _ _ _ _ _ _ _ _ _ _ (own .0) (own .1) (answer .verdict-four .ensures) (form .0 ∙ other .0) (form .1 ∙ other .1) (plain .verdict-four2 .ensures)
+    (told .says-empty .ensures) (c .before .table-agrees .ensures) (c .of-table .ensures)
 
 pub compare-table-spec : {M : Type 1} → statement M
 compare-table-spec =
@@ -44,6 +50,7 @@ compare-table-spec =
     plain-verdict-requires
     as-checked-requires
     verdict-four-requires-2
+    says-empty-requires
     table-agrees-requires
     of-table-requires
     returns)

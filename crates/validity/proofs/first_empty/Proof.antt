@@ -1,20 +1,20 @@
--- Every state that the loop has passed has a successor, so the first without one is the lowest.
+-- Every mask that the loop has passed has a state, so the first without one is the lowest.
 use mathlib.Core.Logic.{⊎-elim}
 use mathlib.Core.Path.{_≡_, sym}
 use Prim.Native.Nat.{ℕ, _-_, _≤_, _<_}
 use native.Mathlib.Omega.{arith}
-use lib.ListN.{getD}
+use lib.ListN.{length, getD}
 use borrow.Author.Count.{below-none, below-more}
 use borrow.Author.Needs.{needs}
-use Rattle.machine.specs.BeyondLaws.{stuck-at, stuck-none}
-use Rattle.validity.proofs.stuck_state.Statement.{statement}
-use Rattle.validity.proofs.stuck_state.Tie as tie
+use Rattle.machine.specs.BeyondLaws.{empty-at, empty-none}
+use Rattle.validity.proofs.first_empty.Statement.{statement}
+use Rattle.validity.proofs.first_empty.Tie as tie
 
 abbrev Inv-loop : tie.InvT-loop
-Inv-loop states successors s₀ s = (s ≤ 64) × ((k : ℕ) → k < s → k < states → getD successors k 0 ≡ 0 → ⊥)
+Inv-loop count masks i₀ i-end i = (i ≤ i-end) × ((k : ℕ) → k < i → k < count → getD masks k 0 ≡ 0 → ⊥)
 
 abbrev μ-loop : tie.MeasureT-loop
-μ-loop states successors s₀ s = 64 - s
+μ-loop count masks i₀ i-end i = i-end - i
 
 loop-holds : tie.Need-loop-holds Inv-loop μ-loop
 loop-holds c = (search needs, below-none _)
@@ -22,17 +22,17 @@ loop-holds c = (search needs, below-none _)
 mul-if2 : tie.Need-mul-if2 Inv-loop μ-loop
 mul-if2 c = search needs
 
-element-copy-out-if2 : tie.Need-element-copy-out-if2 Inv-loop μ-loop
-element-copy-out-if2 c = search needs
+shared-slice-read-if2 : tie.Need-shared-slice-read-if2 Inv-loop μ-loop
+shared-slice-read-if2 c = search needs
 
 returns : tie.Need-returns Inv-loop μ-loop
 returns c =
     let l = c .before .before .before .before .loop in
     let x = c .before .before .before .before .before .args in
-    sym (stuck-at (x .states) (x .successors .now) (l .s) (omega arith) (omega arith) (c .if2 .taken) (l .inv .1))
+    sym (empty-at (length (x .masks .now)) (x .count) (x .masks .now) (l .i) (omega arith) (omega arith) (c .if2 .taken) (l .inv .1))
 
-add-s : tie.Need-add-s Inv-loop μ-loop
-add-s c = search needs
+add-i : tie.Need-add-i Inv-loop μ-loop
+add-i c = search needs
 
 loop-less : tie.Need-loop-less Inv-loop μ-loop
 loop-less c = search needs
@@ -46,19 +46,19 @@ loop-again c = (
 returns-2 : tie.Need-returns-2 Inv-loop μ-loop
 returns-2 c =
     let x = c .before .before .args in
-    sym (stuck-none (x .states) (x .successors .now) (λ k h. c .before .loop .inv .1 k (omega arith)))
+    sym (empty-none (length (x .masks .now)) (x .count) (x .masks .now) (λ k h. c .before .loop .inv .1 k (omega arith)))
 
-pub stuck-state-spec : {M : Type 1} → statement M
-stuck-state-spec =
+pub first-empty-spec : {M : Type 1} → statement M
+first-empty-spec =
     tie.close
     (tie.spec
     Inv-loop
     μ-loop
     loop-holds
     mul-if2
-    element-copy-out-if2
+    shared-slice-read-if2
     returns
-    add-s
+    add-i
     loop-less
     loop-again
     returns-2)
