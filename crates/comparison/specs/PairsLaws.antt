@@ -83,7 +83,7 @@ module _ (t : Trial) (p : Pair) (solved : Bool) (S : List ℕ) where
   formed-is tables solution lassos first r et es el ef er = rw (er, ef, el, es, et)
 
 -- what is counted of the solver's table, or in its place
-module _ (solved : Bool) {r x y : Tally} where
+module _ (solved : Bool) (r x y : Tally) where
   pub solution-tried : solved ≡ true → r ≡ x → r ≡ cond solved x y
   solution-tried t e = rw t e
 

@@ -1,5 +1,6 @@
 // Each answer as four numbers, so that answers can be compared: a refusal's number and spot; 0 for Valid; 0 and two lengths for a run; 100 and
 // the count for Carried; 200, c and the count for NotCarried, both with 1 as the last number where a concrete set is empty.
+ghost use mathlib.Core.Bool.{cond};
 ghost use mathlib.Core.Path.{_≡_};
 ghost use Rattle.machine.specs.Refusals.{testedOf};
 ghost use Rattle.linecheck.specs.Answers.{verdictOf, emptySetOf};
@@ -44,13 +45,20 @@ pub fn tested_four(v: Validity) -> Refusal
     }
 }
 
+// 1 where a concrete set is empty.
+fn empty_number(e: bool) -> usize
+    ensures { λ r. ⌜ r ≡ cond e 1 0 ⌝ }
+{
+    if e { 1 } else { 0 }
+}
+
 // The four numbers of what the check says.
 pub fn verdict_four(v: Checked) -> Refusal
     ensures { λ r. ⌜ r ≡ verdictFour (verdictOf v) (emptySetOf v) ⌝ }
 {
     match v {
-        Checked::Carried(n, e) => machine::refuse(100, n, 0, e as usize),
-        Checked::NotCarried(c, n, e) => machine::refuse(200, c, n, e as usize),
+        Checked::Carried(n, e) => machine::refuse(100, n, 0, empty_number(e)),
+        Checked::NotCarried(c, n, e) => machine::refuse(200, c, n, empty_number(e)),
         Checked::Refused(r) => r,
     }
 }

@@ -1,7 +1,8 @@
 // All that is compared of a pair, and of a series of pairs.
-ghost use mathlib.Core.Bool.{true};
+ghost use mathlib.Core.Bool.{true, cond};
 ghost use mathlib.Core.Path.{_≡_};
 ghost use Rattle.machine.specs.WellFormed.{wellFormed};
+ghost use Rattle.comparison.specs.Tallies.{ofUnsolved};
 ghost use Rattle.comparison.specs.Pairs.{verdictFits, solutionAgrees, solutionTally, formedTally, unsolvedTally, pairTally, rowTally, seriesTally};
 use crate::answers::same_four;
 use crate::answers::tested_four;
@@ -89,6 +90,23 @@ fn compare_solution(p: Pair, n: usize, every: bool, carrying: u64, solved: &[u16
     of_solution(own.carrying, agrees)
 }
 
+// The same where the pair was solved; otherwise it is only counted.
+fn compare_solved(
+    p: Pair,
+    n: usize,
+    every: bool,
+    carrying: u64,
+    solved: bool,
+    table: &[u16],
+) -> Tally
+    ensures { λ r. ⌜ r ≡ cond solved (solutionTally p n every carrying (now (table .entry))) ofUnsolved ⌝ }
+{
+    if solved {
+        return compare_solution(p, n, every, carrying, table);
+    }
+    of_unsolved()
+}
+
 // A well-formed pair with a table: if it was solved, the solver's.
 fn compare_formed(p: Pair, t: Trial, solved: bool, table: &[u16]) -> Tally
     requires { ⌜ wellFormed p ≡ true ⌝ }
@@ -100,11 +118,7 @@ fn compare_formed(p: Pair, t: Trial, solved: bool, table: &[u16]) -> Tally
     let n = abstraction.sets * pairs;
     let top = concrete.sets * pairs + 2;
     let tables = compare_tables(p, t.every, top as u16, n, t.tables, table);
-    let solution = if solved {
-        compare_solution(p, n, t.every, tables.carrying, table)
-    } else {
-        of_unsolved()
-    };
+    let solution = compare_solved(p, n, t.every, tables.carrying, solved, table);
     let lassos = compare_lassos(p, table, concrete.states as u8, t.stem);
     add(add(tables, solution), lassos)
 }

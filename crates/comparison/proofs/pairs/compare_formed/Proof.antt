@@ -27,8 +27,8 @@ cast-compare-tables c = omega (arith, ranks-small _ (well (c .before .before .be
 compare-tables-requires : tie.Need-compare-tables-requires
 compare-tables-requires c κs = search needs
 
-compare-solution-requires : tie.Need-compare-solution-requires
-compare-solution-requires c κs = search needs
+compare-solved-requires : tie.Need-compare-solved-requires
+compare-solved-requires c κs = search needs
 
 cast-compare-lassos : tie.Need-cast-compare-lassos
 cast-compare-lassos c = omega (arith, well (c .before .before .before .before .before .before .before .before .before .before) .concrete .states-high)
@@ -43,7 +43,7 @@ add-requires-2 : tie.Need-add-requires-2
 add-requires-2 c κs = search needs
 
 returns : tie.Need-returns
-returns c = formed-is _ _ _ _ _ _ _ _ (c .before .before .before .before .before .compare-tables .ensures) (c .before .before .before .before .compare-solution .ensures) (c .before .before .compare-lassos .ensures) (c .before .add .ensures) (c .add2 .ensures)
+returns c = formed-is _ _ _ _ _ _ _ _ _ (c .before .before .before .before .before .compare-tables .ensures) (c .before .before .before .before .compare-solved .ensures) (c .before .before .compare-lassos .ensures) (c .before .add .ensures) (c .add2 .ensures)
 
 pub compare-formed-spec : {M : Type 1} → statement M
 compare-formed-spec =
@@ -55,7 +55,7 @@ compare-formed-spec =
     add-top
     cast-compare-tables
     compare-tables-requires
-    compare-solution-requires
+    compare-solved-requires
     cast-compare-lassos
     compare-lassos-requires
     add-requires

@@ -31,19 +31,27 @@ wrapping-add-u64-requires-8 c κs = search needs
 wrapping-add-u64-requires-9 : tie.Need-wrapping-add-u64-requires-9
 wrapping-add-u64-requires-9 c κs = search needs
 
+wrapping-add-u64-requires-10 : tie.Need-wrapping-add-u64-requires-10
+wrapping-add-u64-requires-10 c κs = search needs
+
+wrapping-add-u64-requires-11 : tie.Need-wrapping-add-u64-requires-11
+wrapping-add-u64-requires-11 c κs = search needs
+
 returns : tie.Need-returns
 unfolding plus sum64
 returns c =
     rw (
-      c .before .before .before .before .before .before .before .before .wrapping-add-u64 .ensures,
-      c .before .before .before .before .before .before .before .wrapping-add-u642 .ensures,
-      c .before .before .before .before .before .before .wrapping-add-u643 .ensures,
-      c .before .before .before .before .before .wrapping-add-u644 .ensures,
-      c .before .before .before .before .wrapping-add-u645 .ensures,
-      c .before .before .before .wrapping-add-u646 .ensures,
-      c .before .before .wrapping-add-u647 .ensures,
-      c .before .wrapping-add-u648 .ensures,
-      c .wrapping-add-u649 .ensures,
+      c .before .before .before .before .before .before .before .before .before .before .wrapping-add-u64 .ensures,
+      c .before .before .before .before .before .before .before .before .before .wrapping-add-u642 .ensures,
+      c .before .before .before .before .before .before .before .before .wrapping-add-u643 .ensures,
+      c .before .before .before .before .before .before .before .wrapping-add-u644 .ensures,
+      c .before .before .before .before .before .before .wrapping-add-u645 .ensures,
+      c .before .before .before .before .before .wrapping-add-u646 .ensures,
+      c .before .before .before .before .wrapping-add-u647 .ensures,
+      c .before .before .before .wrapping-add-u648 .ensures,
+      c .before .before .wrapping-add-u649 .ensures,
+      c .before .wrapping-add-u6410 .ensures,
+      c .wrapping-add-u6411 .ensures,
     )
 
 pub add-spec : {M : Type 1} → statement M
@@ -59,4 +67,6 @@ add-spec =
     wrapping-add-u64-requires-7
     wrapping-add-u64-requires-8
     wrapping-add-u64-requires-9
+    wrapping-add-u64-requires-10
+    wrapping-add-u64-requires-11
     returns)
