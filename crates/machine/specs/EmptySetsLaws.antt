@@ -55,9 +55,10 @@ module _ (i : ℕ) (m : Machine) where
   tests-any nonempty t e = rw t (content-only i m ∙ e)
 
   module _ (nonempty : Bool) (t : nonempty ≡ true) (e : contentValidity i m ≡ valid) (k : ℕ) (lowest : k ≡ emptySet (m .sets) (m .fairness)) where
-    pub tests-empty : k < 8 → contentTests nonempty i m ≡ refused (refusal empty-set i (suc k) 0)
+    -- n is the set counted from 1
+    pub tests-empty : (n : ℕ) → k < 8 → n ≡ suc k → contentTests nonempty i m ≡ refused (refusal empty-set i n 0)
     unfolding hasEmptySet
-    tests-empty h = rw (t, lowest) (stopped-of e (ap (λ (x : ℕ). ltb x 8) (sym lowest) ∙ lt-ltb k 8 h))
+    tests-empty n h one = rw (t, one, lowest) (stopped-of e (ap (λ (x : ℕ). ltb x 8) (sym lowest) ∙ lt-ltb k 8 h))
 
     pub tests-nonempty : 8 ≤ k → contentTests nonempty i m ≡ valid
     unfolding hasEmptySet

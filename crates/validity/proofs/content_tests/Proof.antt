@@ -1,9 +1,8 @@
 -- 9 to 11 come first; behind them, where nonempty sets are asked for, the lowest empty set is refused.
 use mathlib.Core.Path.{_≡_, sym, ap, _∙_}
-use Prim.Native.Nat.{ℕ}
-use native.Mathlib.Numerals.{add-one}
+use native.Mathlib.Omega.{arith}
 use borrow.Author.Needs.{needs}
-use Rattle.machine.specs.Refusals.{Tested, valid, refused, refusal, testedOf, empty-set}
+use Rattle.machine.specs.Refusals.{valid, refused, testedOf}
 use Rattle.machine.specs.RefusalsLaws.{tested-valid, tested-refused}
 use Rattle.machine.specs.WellFormed.{contentValidity}
 use Rattle.machine.specs.EmptySetsLaws.{tests-stopped, tests-any, tests-empty, tests-nonempty}
@@ -44,8 +43,8 @@ returns-2 c =
     let k = c .before .before in
     let v = k .before .before in
     let x = v .before .before .before .args in
-    ap refused (c .refuse .ensures) ∙ ap (λ (n : ℕ). refused (refusal empty-set (x .index) n 0)) (add-one (k .empty-set .result))
-    ∙ sym (tests-empty (x .index) (x .m) (x .nonempty) (k .before .if1 .taken) (content-valid v) (k .empty-set .result) (k .empty-set .ensures) (c .before .if2 .taken))
+    ap refused (c .refuse .ensures)
+    ∙ sym (tests-empty (x .index) (x .m) (x .nonempty) (k .before .if1 .taken) (content-valid v) (k .empty-set .result) (k .empty-set .ensures) _ (c .before .if2 .taken) (omega arith))
 
 returns-3 : tie.Need-returns-3
 unfolding testedOf

@@ -3,9 +3,9 @@ use mathlib.Core.Bool.{true}
 use mathlib.Core.Path.{_≡_, sym, ap, _∙_}
 use borrow.Author.Needs.{needs}
 use borrow.Author.Tests.{not-true, not-false}
-use Rattle.machine.specs.WellFormed.{countsOk}
+use Rattle.machine.specs.WellFormed.{countsOk, contentTests}
 use Rattle.machine.specs.WellFormedLaws.{bad-concrete-counts, bad-abstract-counts, bad-concrete, good-concrete}
-use Rattle.machine.specs.Refusals.{refused, testedOf}
+use Rattle.machine.specs.Refusals.{valid, refused, testedOf}
 use Rattle.machine.specs.RefusalsLaws.{tested-valid, tested-refused}
 use Rattle.validity.proofs.pair_validity.Statement.{statement}
 use Rattle.validity.proofs.pair_validity.Tie as tie
@@ -48,16 +48,18 @@ enum-told c = search needs
 content-tests-requires-2 : tie.Need-content-tests-requires-2
 content-tests-requires-2 c κs = search needs
 
+returns-4 : tie.Need-returns-4
+returns-4 c =
+    let e = c .before .before .before in
+    let x = e .before .before .before .before .before .before .before .args in
+    let passed : contentTests (x .nonempty) 0 (x .p .concrete) ≡ valid = tested-valid (e .content-tests .ensures) (c .before .enum-told .given .1) in
+    c .content-tests2 .ensures ∙ sym (good-concrete _ _ (concrete-counts (e .before .before .before)) (abstract-counts (e .before)) passed)
+
 returns-3 : tie.Need-returns-3
 unfolding testedOf
 returns-3 c =
     let e = c .before .before .before in
     sym (bad-concrete _ _ (concrete-counts (e .before .before .before)) (abstract-counts (e .before)) _ (tested-refused (e .content-tests .ensures) (c .before .concrete .given .1)))
-
-returns-4 : tie.Need-returns-4
-returns-4 c =
-    let e = c .before .before .before in
-    c .content-tests2 .ensures ∙ sym (good-concrete _ _ (concrete-counts (e .before .before .before)) (abstract-counts (e .before)) (tested-valid (e .content-tests .ensures) (c .before .enum-told .given .1)))
 
 pub pair-validity-spec : {M : Type 1} → statement M
 pair-validity-spec =

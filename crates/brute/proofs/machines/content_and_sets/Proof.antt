@@ -1,10 +1,9 @@
 -- 9 to 11 come first; behind them, where nonempty sets are asked for, the lowest empty set is refused.
 use mathlib.Core.Path.{_≡_, sym, ap, _∙_}
-use Prim.Native.Nat.{ℕ}
-use native.Mathlib.Numerals.{add-one}
+use native.Mathlib.Omega.{arith}
 use borrow.Author.Needs.{needs}
 use borrow.Author.Tests.{not-true, not-false}
-use Rattle.machine.specs.Refusals.{valid, refused, refusal, testedOf, empty-set}
+use Rattle.machine.specs.Refusals.{valid, refused, testedOf}
 use Rattle.machine.specs.RefusalsLaws.{tested-valid, tested-refused}
 use Rattle.machine.specs.WellFormed.{contentValidity}
 use Rattle.machine.specs.EmptySetsLaws.{tests-stopped, tests-any, tests-empty, tests-nonempty}
@@ -52,8 +51,8 @@ returns-3 c =
     let k = c .before .before in
     let v = k .before .before in
     let x = v .before .before .before .args in
-    ap refused (c .refuse .ensures) ∙ ap (λ (n : ℕ). refused (refusal empty-set (x .i) n 0)) (add-one (k .empty-set .result))
-    ∙ sym (tests-empty (x .i) (x .m) (x .nonempty) (not-false _ (k .before .if1 .left)) (content-valid v) (k .empty-set .result) (k .empty-set .ensures) (c .before .if2 .taken))
+    ap refused (c .refuse .ensures)
+    ∙ sym (tests-empty (x .i) (x .m) (x .nonempty) (not-false _ (k .before .if1 .left)) (content-valid v) (k .empty-set .result) (k .empty-set .ensures) _ (c .before .if2 .taken) (omega arith))
 
 returns-4 : tie.Need-returns-4
 unfolding testedOf
