@@ -1,7 +1,7 @@
 #!/bin/sh
 # Builds the programs in C from the archives. Holds `console` to the number of each sample and of damaged copies, `restore` to the samples whose
 # table is the solver's and to what `shelf` says of a hard show and of altered ones, `play` to runs and refusals, and all of them and the programs
-# for the shell to the refusals of badly joined copies. Looks for divide instructions in the archives that have the check.
+# for the shell to the refusals of badly joined copies and to shows with an empty set. Looks for divide instructions in the archives that have the check.
 set -eu
 cd "$(dirname "$0")/.."
 work=$(mktemp -d)

@@ -1,7 +1,7 @@
 -- Demands 2 and 3 of the tender, what change requests 4 and 5 add to files, and what request 7 says of empty sets, over the very definitions that the contracts of reader, writer, check and solver cite. Each statement is a type with
 -- its hypotheses in it, and Theorems.antt gives a proof of each: what is shown of well-formed machines, of machines whose sets all have a state, or of
 -- a lent table with room only has `wellFormed p ≡ true`, `nonemptySets p ≡ true`, or `tableRoom ≤ length T`. `readAnswer` and `readTable` are what the reader says and leaves in the lent table, `fileOf`
--- is what the writer writes, `checkVerdict` what the check says, `solveValidity` and `solvedTable` what the solver says and leaves in the lent table, `restoreAnswer` and
+-- is the format's bytes of a show, `writeAnswer` and `writeBuffer` what the writer says and leaves in the lent buffer, `checkVerdict` what the check says, `solveValidity` and `solvedTable` what the solver says and leaves in the lent table, `restoreAnswer` and
 -- `restoreBuffer` what the file solver says and leaves in the lent buffer.
 use mathlib.Core.Bool.{Bool, true, false}
 use mathlib.Core.List.{List, _++_}
@@ -112,7 +112,7 @@ FileSolverRefusesEmpty = (f first : List ℕ) (p : Pair) (note : Bool) → readA
 abbrev pub EmptySetsAreRefused : Type 0
 EmptySetsAreRefused = SolverRefusesEmpty × WriterRefusesEmpty × FileSolverRefusesEmpty
 
--- what the check tells of a concrete machine with an empty set: "no play of it counts"
+-- what an empty set means, "no play of it counts", and what it means that there is none
 abbrev pub EmptySetMeans : Type 0
 EmptySetMeans = EmptySetIsUnfair × NonemptyHasState
 

@@ -224,6 +224,13 @@ fn main() {
     );
     small(
         shape(2, 2, 3),
+        numbers(128, 31),
+        shape(2, 2, 3),
+        numbers(128, 29),
+        88,
+    );
+    small(
+        shape(2, 2, 3),
         numbers(32, 119),
         shape(3, 2, 7),
         numbers(32, 60811),

@@ -14,7 +14,7 @@ use Rattle.machine.specs.declared.Machine.{Machine}
 use Rattle.machine.specs.declared.Pair.{Pair}
 use Rattle.machine.specs.Machines.{observation, successors, moves, starts, fairSet, inFairSet, sameObservation, pairUnder, matched, next}
 use Rattle.machine.specs.Refusals.{Result, answer, refused, refusal, andThen, passOn}
-use Rattle.machine.specs.WellFormed.{countsOk, beyond, stateBeyond, setBeyond, beyondCounts, firstEmpty, hasEmptySet, contentValidity, setsValidity, contentTests, pairTests, pairValidity, nonemptyValidity}
+use Rattle.machine.specs.WellFormed.{countsOk, beyond, stateBeyond, setBeyond, beyondCounts, firstEmpty, hasEmptySet, contentValidity, setsValidity, contentTests, pairTests, nonemptyValidity}
 use Rattle.machine.specs.Lassos.{Lasso, moment}
 use Rattle.machine.specs.Step.{steps, better, least, partner, staying, singleStep, found, stateOf}
 use Rattle.machine.specs.Iteration.{iterate, settle}
@@ -149,8 +149,8 @@ Others : Machine
 Others = machineOf (0 ∷ 0 ∷ 0 ∷ []) (6 ∷ 5 ∷ 3 ∷ []) (7 ∷ [])
 
 -- cases with two concrete states, or with more than one set; what check and player say of the machines of case 2 and of case 3, where NotCarried and a
--- failing entry stand beside an empty concrete set too; the order of 21: the concrete machine's before 11 of the abstract one, and 11 before 21 of
--- the same machine; then case 4 with bit 0 hidden and with bit 1 hidden, a lamp that is compared and one
+-- failing entry stand beside an empty concrete set too; the order of 21: the concrete machine's before 11 of the abstract one, 11 before 21 of the
+-- same machine, and the lowest set first; then case 4 with bit 0 hidden and with bit 1 hidden, a lamp that is compared and one
 -- that is hidden, and a play in which the hidden lamp leaves the lowest state to be taken; then plays that stay in the present state, 1, though the
 -- lower state 0 is as good; that leave it for a lower entry; and that leave it since it has no move to itself
 askedMore : List Reply

@@ -1,21 +1,17 @@
--- Laws of "beyond" as numbers, and of the search for a mask without a state: what the code of well-formedness leans on.
+-- Laws of "beyond" as numbers: what the code of well-formedness leans on.
 use mathlib.Core.Bool as B
 use mathlib.Core.Bool.{true, false}
 use mathlib.Core.Path.{_≡_}
 use mathlib.Core.Logic.{⊎-elim}
-use mathlib.Core.List.{List}
 use Prim.Native.Nat.{ℕ, _/_, _^_, _≤_, _<_}
 use native.Mathlib.Nat.{div-eq-of-lt, div-lt-iff-lt-mul}
 use native.Mathlib.Omega.{arith}
-use lib.Dec.{eqb, ltb}
+use lib.Dec.{eqb}
 use lib.Pow.{pow-pos}
-use lib.ListN.{getD}
-use borrow.Author.Tests.{ltb-true, lt-ltb, eqb-true, eqb-false, eq-eqb, not-true, not-false}
-use Rattle.mask.specs.Logic.{and}
-use Rattle.mask.specs.LogicLaws.{dec, clash, refute, both, and-l, and-r, and-i}
+use borrow.Author.Tests.{eqb-true, eqb-false, not-true, not-false}
+use Rattle.mask.specs.LogicLaws.{dec, clash, both}
 use Rattle.mask.specs.BitsLaws.{has-lt}
-use Rattle.mask.specs.BoundedLaws.{first-is, first-none}
-use Rattle.machine.specs.WellFormed.{beyond, firstEmpty}
+use Rattle.machine.specs.WellFormed.{beyond}
 use Rattle.machine.specs.WellFormedLaws.{beyond-none, none-beyond, bits-small}
 
 -- a mask has no state at or past n exactly if it is a number of n bits
@@ -42,17 +38,3 @@ beyond-shift n m h = both _ _ fwd bwd
         (λ t. let z : m / 2 ^ n ≡ 0 = eqb-true _ _ (not-false _ t) in
         absurd (clash (low-beyond n m (omega (arith, div-lt-iff-lt-mul {k = 2 ^ n} {x = m} {y = 1} (pow-pos n) .0 (omega arith)))) e))
         (dec (B.not (eqb (m / 2 ^ n) 0)))
-
-empty-not : (count : ℕ) (l : List ℕ) (i : ℕ) → (i < count → getD l i 0 ≡ 0 → ⊥) → and (ltb i count) (eqb (getD l i 0) 0) ≡ false
-empty-not count l i f = refute _ (λ t. f (ltb-true i count (and-l _ _ t)) (eqb-true (getD l i 0) 0 (and-r _ _ t)))
-
--- the search for a mask without a state, as a loop goes
-pub empty-at : (room count : ℕ) (l : List ℕ) (i : ℕ) → i < room → i < count → getD l i 0 ≡ 0
-    → ((k : ℕ) → k < i → k < count → getD l k 0 ≡ 0 → ⊥) → firstEmpty room count l ≡ i
-unfolding firstEmpty
-empty-at room count l i h k e b =
-    first-is room _ i h (and-i (lt-ltb i count k) (eq-eqb (getD l i 0) 0 e)) (λ j q. empty-not count l j (b j q))
-
-pub empty-none : (room count : ℕ) (l : List ℕ) → ((k : ℕ) → k < room → k < count → getD l k 0 ≡ 0 → ⊥) → firstEmpty room count l ≡ room
-unfolding firstEmpty
-empty-none room count l b = first-none room _ (λ i q. empty-not count l i (b i q))

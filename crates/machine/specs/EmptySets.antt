@@ -9,7 +9,6 @@ use Rattle.machine.specs.declared.Refusal.{Refusal}
 use Rattle.machine.specs.Refusals.{refused, refusal, empty-set}
 use Rattle.machine.specs.Machines.{fairSet, inFairSet}
 use Rattle.machine.specs.WellFormed.{hasEmptySet, nonemptySets, nonemptyValidity, wellFormed}
-use Rattle.machine.specs.WellFormedLaws.{WellMachine}
 use Rattle.machine.specs.Lassos.{Lasso, isFair}
 
 -- set k of a machine, counted from 0, has no state, and each lower set is no empty mask
@@ -28,10 +27,13 @@ TellsEmptySet p r =
 abbrev pub EmptySetTold : Type 0
 EmptySetTold = (p : Pair) → wellFormed p ≡ true → nonemptySets p ≡ false → (r : Refusal) × (nonemptyValidity p ≡ refused r) × TellsEmptySet p r
 
--- "machines whose sets all have a state": the test says so, of a well-formed machine whose masks have 64 bits
+-- each set of a machine has a state; masks have 64 bits
+abbrev pub SetsHaveStates : Machine → Type 0
+SetsHaveStates m = (k : ℕ) → k < m .sets → fairSet m k < 2 ^ 64 → (s : ℕ) × (s < m .states) × (inFairSet m k s ≡ true)
+
+-- "machines whose sets all have a state": what the test means
 abbrev pub NonemptyHasState : Type 0
-NonemptyHasState = (limit : ℕ) (m : Machine) → WellMachine limit m → limit < 9 → hasEmptySet m ≡ false
-    → (k : ℕ) → k < m .sets → fairSet m k < 2 ^ 64 → (s : ℕ) × (s < m .states) × (inFairSet m k s ≡ true)
+NonemptyHasState = (p : Pair) → wellFormed p ≡ true → nonemptySets p ≡ true → SetsHaveStates (p .concrete) × SetsHaveStates (p .abstraction)
 
 -- "no play of it counts": a machine with an empty set has no fair lasso
 abbrev pub EmptySetIsUnfair : Type 0

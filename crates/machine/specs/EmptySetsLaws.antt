@@ -1,35 +1,35 @@
--- Laws of empty sets: a pair passes with 21 asked for exactly if it is well formed and no set is empty.
+-- Laws of empty sets: a pair passes with 21 asked for exactly if it is well formed and no set is empty; what 21 tells; what an empty set means.
 use mathlib.Core.Bool.{Bool, true, false}
 use mathlib.Core.Logic.{inl, inr, ⊎-elim}
 use mathlib.Core.Path.{_≡_, refl, sym, ap, _∙_}
-use Prim.Native.Nat.{ℕ, suc, _≤_, _<_, _^_}
+use Prim.Native.Nat.{ℕ, suc, _≤_, _<_}
 use native.Mathlib.Omega.{arith}
-use lib.Dec.{eqb, ltb}
+use lib.Dec.{ltb}
 use lib.ListN.{getD}
-use borrow.Author.Tests.{eqb-true, eq-eqb, ltb-true, lt-ltb, le-ltb, ltb-false}
-use Rattle.mask.specs.Logic.{not, and}
+use borrow.Author.Tests.{ltb-true, lt-ltb, le-ltb, ltb-false}
 use Rattle.mask.specs.LogicLaws.{dec, clash, refute, and-l, and-r, and-i, not-e, not-i}
 use Rattle.mask.specs.Bits.{hasBit}
 use Rattle.mask.specs.BitsLaws.{has-none, no-bits-zero}
-use Rattle.mask.specs.BoundedLaws.{find, first-has, first-before, every-at, some-at}
+use Rattle.mask.specs.BoundedLaws.{find, every-at, some-at}
 use Rattle.machine.specs.declared.Machine.{Machine}
 use Rattle.machine.specs.declared.Pair.{Pair}
 use Rattle.machine.specs.declared.Refusal.{Refusal}
 use Rattle.machine.specs.Refusals.{valid, refused, refusal, empty-set}
 use Rattle.machine.specs.RefusalsLaws.{valid-next, then-of, then-answer, then-refused}
 use Rattle.machine.specs.Machines.{fairSet, inFairSet}
-use Rattle.machine.specs.WellFormed.{firstEmpty, emptySet, hasEmptySet, contentValidity, setsValidity, contentTests, pairValidity, nonemptyValidity, nonemptySets, wellFormed}
-use Rattle.machine.specs.WellFormedLaws.{WellMachine, Passed, tests-passed, passed-tests, bad-concrete, good-concrete, content-only, content-then-sets, none-empty, well-is-valid}
-use Rattle.machine.specs.Lassos.{Lasso, isFair}
-use Rattle.machine.specs.EmptySets.{LowestEmpty, TellsEmptySet, EmptySetTold, NonemptyHasState, EmptySetIsUnfair}
+use Rattle.machine.specs.WellFormed.{emptySet, hasEmptySet, contentValidity, setsValidity, contentTests, pairValidity, nonemptyValidity, nonemptySets, wellFormed}
+use Rattle.machine.specs.FirstEmptyLaws.{found-empty, none-empty}
+use Rattle.machine.specs.WellFormedLaws.{WellMachine, tests-passed, passed-tests, bad-concrete, good-concrete, content-only, content-then-sets, well-is-valid, well-pair}
+use Rattle.machine.specs.Lassos.{isFair}
+use Rattle.machine.specs.EmptySets.{LowestEmpty, EmptySetTold, SetsHaveStates, NonemptyHasState, EmptySetIsUnfair}
 
 -- ---- 21 of one machine
 module _ (i : ℕ) (m : Machine) where
-  pub sets-valid : hasEmptySet m ≡ false → setsValidity i m ≡ valid
+  sets-valid : hasEmptySet m ≡ false → setsValidity i m ≡ valid
   unfolding setsValidity
   sets-valid e = rw e
 
-  pub sets-refused : hasEmptySet m ≡ true → setsValidity i m ≡ refused (refusal empty-set i (suc (emptySet (m .sets) (m .fairness))) 0)
+  sets-refused : hasEmptySet m ≡ true → setsValidity i m ≡ refused (refusal empty-set i (suc (emptySet (m .sets) (m .fairness))) 0)
   unfolding setsValidity
   sets-refused e = rw e
 
@@ -101,18 +101,10 @@ module _ (p : Pair) where
 
 -- ---- what 21 tells
 lowest-empty : (m : Machine) → hasEmptySet m ≡ true → LowestEmpty m (emptySet (m .sets) (m .fairness))
-unfolding hasEmptySet firstEmpty inFairSet fairSet
+unfolding hasEmptySet inFairSet fairSet
 lowest-empty m t =
-    let k = emptySet (m .sets) (m .fairness) in
-    let empty : ℕ → Bool = λ i. and (ltb i (m .sets)) (eqb (getD (m .fairness) i 0) 0) in
-    let has = first-has 8 empty (ltb-true k 8 t) in
-    let within : k < m .sets = ltb-true k (m .sets) (and-l _ _ has) in
-    let zero : getD (m .fairness) k 0 ≡ 0 = eqb-true _ 0 (and-r _ _ has) in
-    record {
-      within = within;
-      no-state = λ s. ap (λ (x : ℕ). hasBit x s) zero ∙ has-none s;
-      lower = λ i l e. clash (first-before 8 empty i l) (and-i (lt-ltb i (m .sets) (omega (arith, within))) (eq-eqb _ 0 e));
-    }
+    let e = found-empty 8 (m .sets) (m .fairness) (ltb-true (emptySet (m .sets) (m .fairness)) 8 t) in
+    record { within = e .within; no-state = λ s. ap (λ (x : ℕ). hasBit x s) (e .zero) ∙ has-none s; lower = e .lower }
 
 pub empty-set-told : EmptySetTold
 empty-set-told p well t =
@@ -129,15 +121,19 @@ empty-set-told p well t =
     (dec (hasEmptySet (p .concrete)))
 
 -- ---- what an empty set means
-pub nonempty-has-state : NonemptyHasState
+sets-have-states : (limit : ℕ) (m : Machine) → WellMachine limit m → limit ≤ 8 → hasEmptySet m ≡ false → SetsHaveStates m
 unfolding hasEmptySet inFairSet fairSet
-nonempty-has-state limit m w small t k l wide = ⊎-elim
+sets-have-states limit m w small t k l wide = ⊎-elim
     (λ q. (q .0, w .set-bits k (q .0) l (q .1) (q .2), q .2))
-    (λ q. absurd (none-empty 8 (m .sets) (m .fairness) (λ h. omega (arith, h, ltb-false (emptySet (m .sets) (m .fairness)) 8 t)) k (omega (arith, w .sets-high)) l (zero q)))
+    (λ q. absurd (none-empty 8 (m .sets) (m .fairness) (λ h. omega (arith, h, ltb-false (emptySet (m .sets) (m .fairness)) 8 t)) k (omega (arith, w .sets-high)) l
+    (no-bits-zero 64 (fairSet m k) wide q)))
     (find 64 (λ s. hasBit (fairSet m k) s))
-  where
-    zero : ((s : ℕ) → s < 64 → hasBit (fairSet m k) s ≡ false) → getD (m .fairness) k 0 ≡ 0
-    zero q = no-bits-zero 64 (fairSet m k) wide q
+
+pub nonempty-has-state : NonemptyHasState
+nonempty-has-state p well t =
+    let w = well-pair p well in
+    let s = sets-of p t in
+    (sets-have-states 8 (p .concrete) (w .concrete) (omega arith) (s .0), sets-have-states 7 (p .abstraction) (w .abstraction) (omega arith) (s .1))
 
 pub empty-set-is-unfair : EmptySetIsUnfair
 unfolding isFair

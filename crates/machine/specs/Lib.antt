@@ -18,6 +18,7 @@ pub mod Player
 pub mod HiddenLaws
 pub mod StepLaws
 pub mod RefusalsLaws
+pub mod FirstEmptyLaws
 pub mod WellFormedLaws
 pub mod BeyondLaws
 pub mod PartnerLaws

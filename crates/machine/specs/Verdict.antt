@@ -1,4 +1,4 @@
--- Document 01, "Line check": the answer, as document 01 tells it.
+-- Document 01, "Line check": the answer, as document 01 tells it; and beside it what document 02, No. 7, adds.
 use mathlib.Core.Bool.{Bool, true, false, cond}
 use mathlib.Core.List.{List}
 use mathlib.Core.Path.{_≡_}

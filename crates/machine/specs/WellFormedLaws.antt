@@ -1,21 +1,18 @@
 -- What a well-formed machine and a well-formed pair give, and what makes one.
 use mathlib.Core.Bool.{Bool, true, false}
-use mathlib.Core.List.{List}
 use mathlib.Core.Logic.{by-cases}
 use mathlib.Core.Path.{_≡_, refl, sym, _∙_}
 use Prim.Native.Nat.{ℕ, _+_, _*_, _≤_, _<_, _^_}
 use native.Mathlib.Nat.{le-trans, mul-le-mul-right, mul-le-mul-left, mul-pos}
-use native.Mathlib.Decide.{decLe, decLt}
+use native.Mathlib.Decide.{decLe}
 use native.Mathlib.Omega.{arith}
-use lib.ListN.{getD}
 use lib.Dec.{eqb, leb, ltb}
-use borrow.Author.Tests.{eqb-true, eqb-false, eq-eqb, leb-true, le-leb, lt-ltb, le-ltb}
+use borrow.Author.Tests.{eqb-true, eqb-false, leb-true, le-leb, lt-ltb, le-ltb}
 use Rattle.mask.specs.Logic.{and}
 use Rattle.mask.specs.LogicLaws.{clash, refute, and-l, and-r, and-i, and-false-l, and-false-r, or-none, not-false}
 use Rattle.mask.specs.Bits.{hasBit}
 use Rattle.mask.specs.BitsLaws.{has-small}
-use Rattle.mask.specs.Bounded.{first}
-use Rattle.mask.specs.BoundedLaws.{none-at, someIn-of, someIn-at, first-before}
+use Rattle.mask.specs.BoundedLaws.{none-at, someIn-of, someIn-at}
 use Rattle.machine.specs.declared.Machine.{Machine}
 use Rattle.machine.specs.declared.Pair.{Pair}
 use Rattle.machine.specs.declared.Refusal.{Refusal}
@@ -23,7 +20,8 @@ use Rattle.machine.specs.Refusals.{Tested, valid, answer, refused, refus
 use Rattle.machine.specs.RefusalsLaws.{valid-next, valid-if, then-answer, then-of, then-refused, RefusesOnly, refuses-none, refuses-at, refuses-cond, refuses-then}
 use Rattle.machine.specs.Machines.{observation, successors, moves, starts, fairSet, inFairSet, nC, nA, setsC, setsA, pairs}
 use Rattle.machine.specs.Table.{tableRoom}
-use Rattle.machine.specs.WellFormed.{countsOk, beyond, stateBeyond, setBeyond, beyondCounts, firstEmpty, stuckState, contentValidity, setsValidity, contentTests, pairTests, pairValidity, isValid, wellFormed}
+use Rattle.machine.specs.WellFormed.{countsOk, beyond, stateBeyond, setBeyond, beyondCounts, stuckState, contentValidity, setsValidity, contentTests, pairTests, pairValidity, isValid, wellFormed}
+use Rattle.machine.specs.FirstEmptyLaws.{none-empty}
 
 -- ---- validity
 pub is-valid : (v : Tested) → isValid v ≡ true → v ≡ valid
@@ -118,14 +116,6 @@ counts-at limit states sets t =
 pub counts-of : (limit states sets : ℕ) → 0 < states → states ≤ 64 → 0 < sets → sets ≤ limit → countsOk limit states sets ≡ true
 unfolding countsOk
 counts-of limit states sets a b c d = and-i (and-i (le-leb 1 states a) (le-leb states 64 b)) (and-i (le-leb 1 sets c) (le-leb sets limit d))
-
--- where no mask of a list is empty, none is
-pub none-empty : (room count : ℕ) (l : List ℕ) → (firstEmpty room count l < room → ⊥) → (i : ℕ) → i < room → i < count → getD l i 0 ≡ 0 → ⊥
-unfolding firstEmpty
-none-empty room count l h i q k e = clash
-    (first-before room (λ i. and (ltb i count) (eqb (getD l i 0) 0)) i
-    (by-cases (decLt (first room (λ i. and (ltb i count) (eqb (getD l i 0) 0))) room) (λ t. absurd (h t)) (λ t. omega arith)))
-    (and-i (lt-ltb i count k) (eq-eqb _ 0 e))
 
 module _ (limit i : ℕ) (m : Machine) where
   tests : contentValidity i m ≡ valid → (beyondCounts m ≡ false) × (m .start ≡ 0 → ⊥) × (stuckState (m .states) (m .successors) < 64 → ⊥)

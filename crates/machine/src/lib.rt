@@ -85,7 +85,7 @@ pub const EMPTY_SET: u32 = 21;
 // What is said of a file without a table, where other numbers are refusals'.
 pub const NO_TABLE: u32 = 101;
 
-// Whether something is well formed, and if not where it was stopped.
+// Whether the tests of a call pass, and if not where the first stopped it.
 pub enum Validity {
     Valid,
     Refused(Refusal),

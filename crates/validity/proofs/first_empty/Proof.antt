@@ -6,7 +6,7 @@ use native.Mathlib.Omega.{arith}
 use lib.ListN.{length, getD}
 use borrow.Author.Count.{below-none, below-more}
 use borrow.Author.Needs.{needs}
-use Rattle.machine.specs.BeyondLaws.{empty-at, empty-none}
+use Rattle.machine.specs.FirstEmptyLaws.{empty-at, empty-none}
 use Rattle.validity.proofs.first_empty.Statement.{statement}
 use Rattle.validity.proofs.first_empty.Tie as tie
 

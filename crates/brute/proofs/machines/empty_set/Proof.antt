@@ -1,12 +1,12 @@
 -- The sets are looked at in order, so that the first without a state is the lowest.
 use mathlib.Core.Logic.{⊎-elim}
-use mathlib.Core.Path.{_∙_, _≡_, ap, sym}
+use mathlib.Core.Path.{_∙_, _≡_, sym}
 use Prim.Native.Nat.{_-_, _<_, _≤_, ℕ}
 use native.Mathlib.Omega.{arith}
 use borrow.Author.Count.{below-more, below-none}
 use borrow.Author.Needs.{needs}
 use borrow.Author.Tests.{not-true, not-false}
-use Rattle.machine.specs.BeyondLaws.{empty-at, empty-none}
+use Rattle.machine.specs.FirstEmptyLaws.{empty-at, empty-none}
 use Rattle.machine.specs.Machines.{fairSet}
 use Rattle.brute.specs.MachineLaws.{stateless-zero, state-some}
 use Rattle.brute.proofs.machines.empty_set.Statement.{statement}

@@ -1,6 +1,6 @@
 -- No state passed is in the set; a set of 64 bits of which none is one is 0.
 use mathlib.Core.Bool.{false}
-use mathlib.Core.Path.{_∙_, _≡_, ap, sym}
+use mathlib.Core.Path.{_∙_, _≡_, sym}
 use Prim.Native.Nat.{_-_, _<_, _≤_, ℕ}
 use native.Mathlib.Omega.{arith}
 use borrow.Author.Count.{below-more, below-none}

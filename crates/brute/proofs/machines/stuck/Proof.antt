@@ -5,7 +5,7 @@ use Prim.Native.Nat.{_-_, _<_, _≤_, ℕ}
 use native.Mathlib.Omega.{arith}
 use borrow.Author.Count.{below-more, below-none}
 use borrow.Author.Needs.{needs}
-use Rattle.machine.specs.BeyondLaws.{empty-at, empty-none}
+use Rattle.machine.specs.FirstEmptyLaws.{empty-at, empty-none}
 use Rattle.machine.specs.Machines.{successors}
 use Rattle.brute.proofs.machines.stuck.Statement.{statement}
 use Rattle.brute.proofs.machines.stuck.Tie as tie
