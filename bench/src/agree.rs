@@ -181,7 +181,7 @@ fn put(f: &mut [u8], i: usize, from: &[u8], k: usize) {
 pub fn on_blocks(r: &mut Random) {
     let mut counts = [0usize; 4];
     let mut misplaced = 0;
-    let mut other = file(&r.shaped_pair(64, 64), None);
+    let mut other = file(&r.shaped_pair(64, 64).filled(), None);
     for _ in 0..1000 {
         let (nc, na) = (12 + r.below(53), 12 + r.below(53));
         let p = r.shaped_pair(nc, na).filled();

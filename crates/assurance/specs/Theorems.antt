@@ -77,9 +77,9 @@ bad-copies-are-told = (damaged-told, misplaced-told, joined-told, exchanged-told
 -- the new file is that of the same machines with the solver's table, and what is written reads back
 pub lost-table-is-replaced : LostTableIsReplaced
 unfolding restored
-lost-table-is-replaced f first p note bytes e some buffer lent room long =
+lost-table-is-replaced f first p note bytes e nonempty buffer lent room long =
     let w = was-taken f first p note e in
-    let made = restore-made f buffer (restore-valid f buffer room w some) in
+    let made = restore-made f buffer (restore-valid f buffer room w nonempty) in
     let size = length (restored f) in
     let back = write-read p true (solverTable p) lent (taken-representable f first p note bytes e) (was-well w) (table-is p (well-pair p (was-well w)) .1) long in
     let cut : take size (restoreBuffer f buffer) ≡ fileOf p true (solverTable p) =
@@ -97,7 +97,7 @@ lost-table-is-replaced f first p note bytes e some buffer lent room long =
     file w = ap (λ (q : Pair). fileOf q true (solverTable q)) (w .pair-is)
 
 pub solver-takes-machines : (p : Pair) (T : List ℕ) → SolverTakesMachines p T
-solver-takes-machines p T well some room = solve-takes p T well some room
+solver-takes-machines p T well nonempty room = solve-takes p T well nonempty room
 
 -- ---- empty sets
 solver-refuses-empty : SolverRefusesEmpty
@@ -127,34 +127,34 @@ pub empty-set-means : EmptySetMeans
 empty-set-means = (empty-set-is-unfair, nonempty-has-state)
 
 -- ---- what the solver leaves in a table with room, of well-formed machines whose sets all have a state
-module _ (p : Pair) (T : List ℕ) (well : wellFormed p ≡ true) (some : nonemptySets p ≡ true) (room : tableRoom ≤ length T) where
+module _ (p : Pair) (T : List ℕ) (well : wellFormed p ≡ true) (nonempty : nonemptySets p ≡ true) (room : tableRoom ≤ length T) where
   said-same : checkVerdict p (solvedTable p T) ≡ linesVerdict p (solverTable p)
-  said-same = check-lines p _ (solved-room p T well some room) ∙ verdict-same p _ _ (solved-same p T well some room)
+  said-same = check-lines p _ (solved-room p T well nonempty room) ∙ verdict-same p _ _ (solved-same p T well nonempty room)
 
   entry-rank : (j c a : ℕ) → j < setsA p → c < nC p → a < nA p → entry p (solvedTable p T) j c a ≡ rank p j c a
-  entry-rank j c a hj hc ha = entry-same p _ _ (solved-same p T well some room) j c a hj hc ha ∙ table-holds-ranks p j c a hj hc ha
+  entry-rank j c a hj hc ha = entry-same p _ _ (solved-same p T well nonempty room) j c a hj hc ha ∙ table-holds-ranks p j c a hj hc ha
 
 module _ (p : Pair) (T : List ℕ) where
   pub solved-passes : SolvedPasses p T
-  solved-passes well some room = each-same p _ _ (solved-same p T well some room) ∙ solver-table-passes p well
+  solved-passes well nonempty room = each-same p _ _ (solved-same p T well nonempty room) ∙ solver-table-passes p well
 
   pub solved-covers : SolvedCovers p T
-  solved-covers well some room R t j c a hj hc ha u = covers-same p _ _ (solved-same p T well some room) j c a hj hc ha ∙ solver-table-covers p well R t j c a hj hc ha u
+  solved-covers well nonempty room R t j c a hj hc ha u = covers-same p _ _ (solved-same p T well nonempty room) j c a hj hc ha ∙ solver-table-covers p well R t j c a hj hc ha u
 
   pub solved-is-carried : SolvedIsCarried p T
-  solved-is-carried well some room = rw (said-same p T well some room) (carried-exactly p well)
+  solved-is-carried well nonempty room = rw (said-same p T well nonempty room) (carried-exactly p well)
 
   pub solved-is-figure2 : SolvedIsFigure2 p T
-  solved-is-figure2 well some room j c a hj hc ha =
+  solved-is-figure2 well nonempty room j c a hj hc ha =
       let f = rank-is-figure2 p well j c a hj hc ha .0 in
-      let e = entry-rank p T well some room j c a hj hc ha in
+      let e = entry-rank p T well nonempty room j c a hj hc ha in
       (λ t. f .0 (λ b. covers-at p (solvedTable p T) j c a t (e ∙ b)), λ t. covers-of p (solvedTable p T) j c a (λ b. f .1 t (sym e ∙ b)))
 
   pub solved-goals : SolvedGoals p T
-  solved-goals well some room j c a hj hc ha = rw (entry-rank p T well some room j c a hj hc ha) (rank-is-goal p j c a hj hc ha)
+  solved-goals well nonempty room j c a hj hc ha = rw (entry-rank p T well nonempty room j c a hj hc ha) (rank-is-goal p j c a hj hc ha)
 
   pub solved-ranks : SolvedRanks p T
-  solved-ranks well some room j c a hj hc ha t g = rw (entry-rank p T well some room j c a hj hc ha) (rank-is-least p j c a hj hc ha t g)
+  solved-ranks well nonempty room j c a hj hc ha t g = rw (entry-rank p T well nonempty room j c a hj hc ha) (rank-is-least p j c a hj hc ha t g)
 
   pub solved-rest : SolvedRest p T
   unfolding solvedTable bufferAfter

@@ -154,11 +154,11 @@ written-reads p note T buffer lent n r b room e =
 
 pub read-writes : ReadWrites
 unfolding writeAnswer writeBuffer
-read-writes f lent buffer p note b room e some =
+read-writes f lent buffer p note b room e nonempty =
     let w = was-taken f lent p note e in
     let T = readTable f lent in
     let long = was-long w in
-    let v : writeValidity p (length T) (length buffer) ≡ valid = with-room p (length T) (length buffer) long room ∙ nonempty-valid p (was-well w) some in
+    let v : writeValidity p (length T) (length buffer) ≡ valid = with-room p (length T) (length buffer) long room ∙ nonempty-valid p (was-well w) nonempty in
     let same = read-write f lent p note b e .1 in (
       then-of _ _ v ∙ ap answer (sym (file-length p note T) ∙ ap length (sym same)),
       buffer-made _ _ buffer v ∙ ap (λ (l : List ℕ). l ++ drop (length l) buffer) (sym same),

@@ -220,7 +220,7 @@ module _ (p : Pair) (note : Bool) (T buffer : List ℕ) where
   pub write-answers : wellFormed p ≡ true → nonemptySets p ≡ true → tableRoom ≤ length T → fileRoom ≤ length buffer
       → writeAnswer p note T buffer ≡ answer (fileLength (nC p) (nA p) (setsC p) (setsA p) note)
   unfolding writeAnswer
-  write-answers t some h k = then-of _ _ (with-room p (length T) (length buffer) h k ∙ nonempty-valid p t some)
+  write-answers t nonempty h k = then-of _ _ (with-room p (length T) (length buffer) h k ∙ nonempty-valid p t nonempty)
 
   -- and only there
   pub answer-valid : {n : ℕ} → writeAnswer p note T buffer ≡ answer n

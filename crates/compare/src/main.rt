@@ -86,7 +86,8 @@ fn every_table(tables: u64) -> Trial
     }
 }
 
-// The solver's table and all that differ from it in one entry, and lassos with a stem of at most one state.
+// The solver's table, or the lifted one of a pair that the solver refuses, and all that differ from it in one entry, and lassos with a stem of at
+// most one state.
 fn altered_tables(tables: u64) -> Trial
     ensures { λ r. ⌜ r ≡ record { every = false; tables = tables; stem = 1 } ⌝ }
 {
@@ -114,7 +115,7 @@ fn tiny(c: Shape, x: Numbers, a: Shape, y: Numbers, tables: u64) {
     under(0, c, x, a, y, every_table(tables));
 }
 
-// Other pairs, with the solver's table and all that differ from it in one entry.
+// Other pairs, with the solver's table, or the lifted one, and all that differ from it in one entry.
 fn small(c: Shape, x: Numbers, a: Shape, y: Numbers, tables: u64) {
     under(0, c, x, a, y, altered_tables(tables));
 }

@@ -128,7 +128,7 @@ cases = refl
 Two : List ℕ → Machine
 Two sets = machineOf (0 ∷ 0 ∷ []) (1 ∷ 1 ∷ []) sets
 
--- a machine of one state that has no successor, and an empty set
+-- a machine of one state, which has no successor, and of one set, which is empty
 Stuck : Machine
 Stuck = machineOf (0 ∷ []) (0 ∷ []) (0 ∷ [])
 

@@ -1,6 +1,6 @@
 -- Document 02, No. 7: what refusal 21 tells, and what an empty set means for plays. The proofs are in EmptySetsLaws.antt.
 use mathlib.Core.Bool.{true, false}
-use mathlib.Core.Logic.{_⊎_}
+use mathlib.Core.Logic.{_⊎_, _↔_}
 use mathlib.Core.Path.{_≡_}
 use Prim.Native.Nat.{ℕ, suc, _<_, _^_}
 use Rattle.machine.specs.declared.Machine.{Machine}
@@ -33,7 +33,7 @@ SetsHaveStates m = (k : ℕ) → k < m .sets → fairSet m k < 2 ^ 64 → (s : �
 
 -- "machines whose sets all have a state": what the test means
 abbrev pub NonemptyHasState : Type 0
-NonemptyHasState = (p : Pair) → wellFormed p ≡ true → nonemptySets p ≡ true → SetsHaveStates (p .concrete) × SetsHaveStates (p .abstraction)
+NonemptyHasState = (p : Pair) → wellFormed p ≡ true → (nonemptySets p ≡ true) ↔ (SetsHaveStates (p .concrete) × SetsHaveStates (p .abstraction))
 
 -- "no play of it counts": a machine with an empty set has no fair lasso
 abbrev pub EmptySetIsUnfair : Type 0

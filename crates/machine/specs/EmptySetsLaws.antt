@@ -6,6 +6,7 @@ use Prim.Native.Nat.{ℕ, suc, _≤_, _<_}
 use native.Mathlib.Omega.{arith}
 use lib.Dec.{ltb}
 use lib.ListN.{getD}
+use lib.Pow.{pow-pos}
 use borrow.Author.Tests.{ltb-true, lt-ltb, le-ltb, ltb-false}
 use Rattle.mask.specs.LogicLaws.{dec, clash, refute, and-l, and-r, and-i, not-e, not-i}
 use Rattle.mask.specs.Bits.{hasBit}
@@ -18,7 +19,7 @@ use Rattle.machine.specs.Refusals.{valid, refused, refusal, empty-set}
 use Rattle.machine.specs.RefusalsLaws.{valid-next, then-of, then-answer, then-refused}
 use Rattle.machine.specs.Machines.{fairSet, inFairSet}
 use Rattle.machine.specs.WellFormed.{emptySet, hasEmptySet, contentValidity, setsValidity, contentTests, pairValidity, nonemptyValidity, nonemptySets, wellFormed}
-use Rattle.machine.specs.FirstEmptyLaws.{found-empty, none-empty}
+use Rattle.machine.specs.FirstEmptyLaws.{found-empty, none-is-empty}
 use Rattle.machine.specs.WellFormedLaws.{WellMachine, tests-passed, passed-tests, bad-concrete, good-concrete, content-only, content-then-sets, well-is-valid, well-pair}
 use Rattle.machine.specs.Lassos.{isFair}
 use Rattle.machine.specs.EmptySets.{LowestEmpty, EmptySetTold, SetsHaveStates, NonemptyHasState, EmptySetIsUnfair}
@@ -125,15 +126,25 @@ sets-have-states : (limit : ℕ) (m : Machine) → WellMachine limit m → limit
 unfolding hasEmptySet inFairSet fairSet
 sets-have-states limit m w small t k l wide = ⊎-elim
     (λ q. (q .0, w .set-bits k (q .0) l (q .1) (q .2), q .2))
-    (λ q. absurd (none-empty 8 (m .sets) (m .fairness) (λ h. omega (arith, h, ltb-false (emptySet (m .sets) (m .fairness)) 8 t)) k (omega (arith, w .sets-high)) l
+    (λ q. absurd (none-is-empty 8 (m .sets) (m .fairness) (λ h. omega (arith, h, ltb-false (emptySet (m .sets) (m .fairness)) 8 t)) k (omega (arith, w .sets-high)) l
     (no-bits-zero 64 (fairSet m k) wide q)))
     (find 64 (λ s. hasBit (fairSet m k) s))
 
+states-nonempty : (m : Machine) → SetsHaveStates m → hasEmptySet m ≡ false
+unfolding hasEmptySet inFairSet fairSet
+states-nonempty m h = refute _ (λ t.
+    let k = emptySet (m .sets) (m .fairness) in
+    let e = found-empty 8 (m .sets) (m .fairness) (ltb-true k 8 t) in
+    let q = h k (e .within) (rw (e .zero) (pow-pos 64)) in
+    clash (ap (λ (x : ℕ). hasBit x (q .0)) (e .zero) ∙ has-none (q .0)) (q .2))
+
 pub nonempty-has-state : NonemptyHasState
-nonempty-has-state p well t =
-    let w = well-pair p well in
-    let s = sets-of p t in
-    (sets-have-states 8 (p .concrete) (w .concrete) (omega arith) (s .0), sets-have-states 7 (p .abstraction) (w .abstraction) (omega arith) (s .1))
+nonempty-has-state p well =
+    let w = well-pair p well in (
+      λ t. let s = sets-of p t in
+          (sets-have-states 8 (p .concrete) (w .concrete) (omega arith) (s .0), sets-have-states 7 (p .abstraction) (w .abstraction) (omega arith) (s .1)),
+      λ h. of-sets p (states-nonempty (p .concrete) (h .0)) (states-nonempty (p .abstraction) (h .1)),
+    )
 
 pub empty-set-is-unfair : EmptySetIsUnfair
 unfolding isFair

@@ -38,9 +38,9 @@ module _ (room count : ℕ) (l : List ℕ) where
       }
 
   -- where nothing is found, each of the first `count` masks has a state
-  pub none-empty : (firstEmpty room count l < room → ⊥) → (i : ℕ) → i < room → i < count → getD l i 0 ≡ 0 → ⊥
+  pub none-is-empty : (firstEmpty room count l < room → ⊥) → (i : ℕ) → i < room → i < count → getD l i 0 ≡ 0 → ⊥
   unfolding firstEmpty
-  none-empty h i q k e =
+  none-is-empty h i q k e =
       clash (first-before room empty i (by-cases (decLt (first room empty) room) (λ t. absurd (h t)) (λ t. omega arith))) (and-i (lt-ltb i count k) (eq-eqb _ 0 e))
 
   empty-not : (i : ℕ) → (i < count → getD l i 0 ≡ 0 → ⊥) → empty i ≡ false

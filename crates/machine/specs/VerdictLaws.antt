@@ -47,13 +47,13 @@ module _ (p : Pair) (T : List ℕ) where
     check-passes e f = check-lines ∙ then-of _ _ e ∙ then-of _ _ f
 
   -- ---- whether a concrete set is empty, beside the answer
-  pub told-refused : {r : Refusal} → checkVerdict p T ≡ refused r → checkEmptySet p T ≡ false
+  pub empty-told-refused : {r : Refusal} → checkVerdict p T ≡ refused r → checkEmptySet p T ≡ false
   unfolding emptySetTold
-  told-refused e = rw e
+  empty-told-refused e = rw e
 
-  pub told-beside : {v : Verdict} → checkVerdict p T ≡ answer v → checkEmptySet p T ≡ hasEmptySet (p .concrete)
+  pub empty-told-beside : {v : Verdict} → checkVerdict p T ≡ answer v → checkEmptySet p T ≡ hasEmptySet (p .concrete)
   unfolding emptySetTold
-  told-beside e = rw e
+  empty-told-beside e = rw e
 
   -- ---- what an answer tells of the tests
   pub lines-said : (v : Verdict) → linesVerdict p T ≡ answer v → (pairValidity p ≡ valid) × (linesValidity p T ≡ valid) × (startVerdict p T ≡ v)

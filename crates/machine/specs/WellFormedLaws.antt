@@ -21,7 +21,7 @@ use Rattle.machine.specs.RefusalsLaws.{valid-next, valid-if, then-answer
 use Rattle.machine.specs.Machines.{observation, successors, moves, starts, fairSet, inFairSet, nC, nA, setsC, setsA, pairs}
 use Rattle.machine.specs.Table.{tableRoom}
 use Rattle.machine.specs.WellFormed.{countsOk, beyond, stateBeyond, setBeyond, beyondCounts, stuckState, contentValidity, setsValidity, contentTests, pairTests, pairValidity, isValid, wellFormed}
-use Rattle.machine.specs.FirstEmptyLaws.{none-empty}
+use Rattle.machine.specs.FirstEmptyLaws.{none-is-empty}
 
 -- ---- validity
 pub is-valid : (v : Tested) → isValid v ≡ true → v ≡ valid
@@ -64,21 +64,21 @@ module _ (i : ℕ) (m : Machine) where
   unfolding contentTests
   content-then-sets = refl
 
--- nothing of a pair is refused only where the counts are right and nothing of either machine is refused
-pub record Passed (nonempty : Bool) (p : Pair) : Type 0 where
+-- nothing of a pair is refused exactly where the counts are right and nothing of either machine is refused
+pub record PairPasses (nonempty : Bool) (p : Pair) : Type 0 where
   pub concrete-counts : countsOk 8 (p .concrete .states) (p .concrete .sets) ≡ true
   pub abstract-counts : countsOk 7 (p .abstraction .states) (p .abstraction .sets) ≡ true
   pub concrete : contentTests nonempty 0 (p .concrete) ≡ valid
   pub abstraction : contentTests nonempty 1 (p .abstraction) ≡ valid
 
-pub tests-passed : (nonempty : Bool) (p : Pair) → pairTests nonempty p ≡ valid → Passed nonempty p
+pub tests-passed : (nonempty : Bool) (p : Pair) → pairTests nonempty p ≡ valid → PairPasses nonempty p
 unfolding pairTests
 tests-passed nonempty p e =
     let a = valid-if _ _ _ e in
     let b = then-answer (contentTests nonempty 0 (p .concrete)) (contentTests nonempty 1 (p .abstraction)) (a .1) in
     record { concrete-counts = and-l _ _ (a .0); abstract-counts = and-r _ _ (a .0); concrete = b .0; abstraction = b .1 }
 
-pub passed-tests : (nonempty : Bool) (p : Pair) → Passed nonempty p → pairTests nonempty p ≡ valid
+pub passed-tests : (nonempty : Bool) (p : Pair) → PairPasses nonempty p → pairTests nonempty p ≡ valid
 passed-tests nonempty p h = good-concrete nonempty p (h .concrete-counts) (h .abstract-counts) (h .concrete) ∙ h .abstraction
 
 -- ---- bits beyond a count
@@ -155,7 +155,7 @@ module _ (limit i : ℕ) (m : Machine) where
 
   not-stuck : (stuckState (m .states) (m .successors) < 64 → ⊥) → (s : ℕ) → s < 64 → s < m .states → successors m s ≡ 0 → ⊥
   unfolding successors
-  not-stuck h s q l e = none-empty 64 (m .states) (m .successors) h s q l e
+  not-stuck h s q l e = none-is-empty 64 (m .states) (m .successors) h s q l e
 
   pub well-machine : limit ≤ 8 → countsOk limit (m .states) (m .sets) ≡ true → contentValidity i m ≡ valid → WellMachine limit m
   unfolding starts moves inFairSet

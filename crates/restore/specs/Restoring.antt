@@ -15,7 +15,7 @@ use Rattle.solver.specs.Solver.{solveValidity}
 unfoldable pub restored : List ℕ → List ℕ
 restored f = let p = pairOf f in fileOf p true (solverTable p)
 
--- all that is tested: 1 of the lent buffer, then all that the reader tests, then all that the solver tests, of which 21 is left
+-- all that is tested: 1 of the lent buffer, then all that the reader tests, then all that the solver tests, of which only 21 can still fail
 unfoldable pub restoreValidity : List ℕ → ℕ → Tested
 restoreValidity f room = andThen (bufferValidity fileRoom room) (andThen (readValidity f tableRoom) (solveValidity (pairOf f) tableRoom))
 

@@ -61,9 +61,9 @@ module _ (f buffer : List ℕ) where
 
     -- where they all have a state nothing is refused
     pub restore-valid : {lent : List ℕ} {p : Pair} {note : Bool} → Was f lent p note → nonemptySets p ≡ true → restoreValidity f (length buffer) ≡ valid
-    restore-valid {p = p} w some = solve-tests w ∙ nonempty-valid p (was-well w) some
+    restore-valid {p = p} w nonempty = solve-tests w ∙ nonempty-valid p (was-well w) nonempty
 
-    -- and where one has none, that is
+    -- and what is refused of the machines is what the file solver says
     pub restore-empty : {lent : List ℕ} {p : Pair} {note : Bool} {r : Refusal} → Was f lent p note → nonemptyValidity p ≡ refused r
         → (restoreAnswer f buffer ≡ refused r) × (restoreBuffer f buffer ≡ buffer)
     restore-empty w e = stopped _ (solve-tests w ∙ e)
@@ -92,15 +92,15 @@ module _ (f buffer : List ℕ) where
         restore-taken U told solved =
             let p = s .pair in
             let well = was-well was in
-            let some = nonempty-at p (sym (solve-long p (length T) long) ∙ told) .1 in
-            let room-U : tableRoom ≤ length U = rw solved (solved-room p T well some long) in
+            let nonempty = nonempty-at p (sym (solve-long p (length T) long) ∙ told) .1 in
+            let room-U : tableRoom ≤ length U = rw solved (solved-room p T well nonempty long) in
             let file : restored f ≡ fileOf p true U =
             ap (λ (q : Pair). fileOf q true (solverTable q)) (was .pair-is)
-            ∙ file-cong p true (solverTable p) U (λ t k h. sym (ap (λ (l : List ℕ). getD l k 0) solved ∙ solved-same p T well some long k h)) in
-            let both = restore-made (restore-valid was some) in (
-              both .0 ∙ ap answer (ap length file ∙ file-length p true U) ∙ sym (write-answers p true U buffer well some room-U room),
+            ∙ file-cong p true (solverTable p) U (λ t k h. sym (ap (λ (l : List ℕ). getD l k 0) solved ∙ solved-same p T well nonempty long k h)) in
+            let both = restore-made (restore-valid was nonempty) in (
+              both .0 ∙ ap answer (ap length file ∙ file-length p true U) ∙ sym (write-answers p true U buffer well nonempty room-U room),
               both .1 ∙ ap (λ (l : List ℕ). l ++ drop (length l) buffer) file
-                  ∙ sym (buffer-made _ _ buffer (with-room p (length U) (length buffer) room-U room ∙ nonempty-valid p well some)),
+                  ∙ sym (buffer-made _ _ buffer (with-room p (length U) (length buffer) room-U room ∙ nonempty-valid p well nonempty)),
             )
 
 -- ---- the new file fits the room that the call asks for
@@ -113,6 +113,6 @@ restore-small f buffer e =
     let p = pairOf f in
     let lent : List ℕ = replicate tableRoom 0 in
     let was = was-taken f lent p (noteOf f) (then-of _ _ (ap (readValidity f) (length-replicate {A = ℕ} tableRoom 0) ∙ b .0)) in
-    let some = nonempty-at p (sym (solve-long p tableRoom (omega arith)) ∙ b .1) .1 in
-    let written = write-answers p true (readTable f lent) buffer (was-well was) some (was-long was) (buffer-room fileRoom (length buffer) (a .0)) in
+    let nonempty = nonempty-at p (sym (solve-long p tableRoom (omega arith)) ∙ b .1) .1 in
+    let written = write-answers p true (readTable f lent) buffer (was-well was) nonempty (was-long was) (buffer-room fileRoom (length buffer) (a .0)) in
     omega (arith, t .1, file-length p true (solverTable p), answer-small p true (readTable f lent) buffer written)

@@ -18,10 +18,10 @@ use Rattle.theory.specs.RankLaws.{table-entries}
 use Rattle.solver.specs.Solver.{solveValidity, solvedTable}
 use Rattle.solver.specs.SolverLaws.{solve-long}
 
-module _ (p : Pair) (T : List ℕ) (well : wellFormed p ≡ true) (some : nonemptySets p ≡ true) (room : tableRoom ≤ length T) where
+module _ (p : Pair) (T : List ℕ) (well : wellFormed p ≡ true) (nonempty : nonemptySets p ≡ true) (room : tableRoom ≤ length T) where
   -- nothing is refused
   pub solve-takes : solveValidity p (length T) ≡ valid
-  solve-takes = solve-long p (length T) room ∙ nonempty-valid p well some
+  solve-takes = solve-long p (length T) room ∙ nonempty-valid p well nonempty
 
   -- the solver's own entries, and then what was there
   pub solved-is : solvedTable p T ≡ solverTable p ++ drop (length (solverTable p)) T

@@ -8,7 +8,7 @@ use borrow.Author.Needs.{needs}
 use Rattle.machine.specs.Refusals.{valid, refused}
 use Rattle.machine.specs.RefusalsLaws.{tested-valid, tested-refused}
 use Rattle.machine.specs.Table.{tableRoom}
-use Rattle.machine.specs.VerdictLaws.{check-short, check-invalid, check-fails, check-passes, told-refused, told-beside}
+use Rattle.machine.specs.VerdictLaws.{check-short, check-invalid, check-fails, check-passes, empty-told-refused, empty-told-beside}
 use Rattle.machine.specs.WellFormed.{pairValidity, wellFormed}
 use Rattle.machine.specs.WellFormedLaws.{valid-is-well}
 use Rattle.linecheck.specs.Answers.{verdictOf, emptySetOf}
@@ -32,7 +32,7 @@ unfolding verdictOf emptySetOf
 returns c =
     let x = c .before .before .before .args in
     let said = check-short (x .p) (x .table .now) (c .before .if1 .taken) in
-    (ap refused (c .refuse .ensures) ∙ sym said, sym (told-refused (x .p) (x .table .now) said))
+    (ap refused (c .refuse .ensures) ∙ sym said, sym (empty-told-refused (x .p) (x .table .now) said))
 
 pair-validity-requires : tie.Need-pair-validity-requires
 pair-validity-requires c κs = search needs
@@ -46,7 +46,7 @@ returns-2 c =
     let v = c .before .before .before in
     let x = v .before .before .before .args in
     let said = check-invalid (x .p) (x .table .now) (room (v .before)) _ (tested-refused (v .pair-validity .ensures) (c .before .valid .given .1)) in
-    (sym said, sym (told-refused (x .p) (x .table .now) said))
+    (sym said, sym (empty-told-refused (x .p) (x .table .now) said))
 
 enum-told : tie.Need-enum-told
 enum-told c = search needs
@@ -68,7 +68,7 @@ returns-3 c =
     let e = v .before .before .before in
     let x = e .before .before .args in
     let said = check-fails (x .p) (x .table .now) (room e) _ (pair-valid v) (tested-refused (l .lines-validity .ensures) (c .before .lines .given .1)) in
-    (sym said, sym (told-refused (x .p) (x .table .now) said))
+    (sym said, sym (empty-told-refused (x .p) (x .table .now) said))
 
 enum-told-2 : tie.Need-enum-told-2
 enum-told-2 c = search needs
@@ -84,7 +84,7 @@ returns-4 c =
     let x = e .before .before .args in
     let made = c .verdict-of-starts .ensures in
     let said = check-passes (x .p) (x .table .now) (room e) (pair-valid v) (tested-valid (l .lines-validity .ensures) (c .before .enum-told2 .given .1)) in
-    (made .0 ∙ sym said, made .1 ∙ sym (told-beside (x .p) (x .table .now) said))
+    (made .0 ∙ sym said, made .1 ∙ sym (empty-told-beside (x .p) (x .table .now) said))
 
 pub check-table-spec : {M : Type 1} → statement M
 check-table-spec =

@@ -1,5 +1,5 @@
 -- The counts of both machines are tested first; then the concrete machine, and where nothing of it is refused, the abstract one. That case stands
--- first: there a concrete machine whose sets are not tested is told.
+-- first: there an edit that leaves the concrete machine's sets untested is refused.
 use mathlib.Core.Bool.{true}
 use mathlib.Core.Path.{_≡_, sym, ap, _∙_}
 use borrow.Author.Needs.{needs}

@@ -3,7 +3,7 @@ use mathlib.Core.Path.{_∙_, _≡_, ap, sym}
 use borrow.Author.Needs.{needs}
 use Rattle.machine.specs.Refusals.{refused, valid}
 use Rattle.machine.specs.RefusalsLaws.{tested-refused, tested-valid}
-use Rattle.machine.specs.VerdictLaws.{check-fails, check-invalid, check-passes, check-short, told-beside, told-refused}
+use Rattle.machine.specs.VerdictLaws.{check-fails, check-invalid, check-passes, check-short, empty-told-beside, empty-told-refused}
 use Rattle.machine.specs.WellFormed.{pairValidity}
 use Rattle.machine.specs.WellFormedLaws.{valid-is-well}
 use Rattle.brute.specs.Lines.{verdictOf, emptySetOf}
@@ -21,7 +21,7 @@ unfolding verdictOf emptySetOf
 returns c =
     let x = c .before .before .before .args in
     let said = check-short (x .p) (x .table .now) (c .before .if1 .taken) in
-    (ap refused (c .refuse .ensures) ∙ sym said, sym (told-refused (x .p) (x .table .now) said))
+    (ap refused (c .refuse .ensures) ∙ sym said, sym (empty-told-refused (x .p) (x .table .now) said))
 
 validity-requires : tie.Need-validity-requires
 validity-requires c κs = search needs
@@ -35,7 +35,7 @@ returns-2 c =
     let e = c .before .before .before in
     let x = e .before .before .before .args in
     let said = check-invalid (x .p) (x .table .now) (e .before .if1 .left) _ (tested-refused (e .validity .ensures) (c .before .valid .given .1)) in
-    (sym said, sym (told-refused (x .p) (x .table .now) said))
+    (sym said, sym (empty-told-refused (x .p) (x .table .now) said))
 
 enum-told : tie.Need-enum-told
 enum-told c = search needs
@@ -53,7 +53,7 @@ returns-3 c =
     let f = e .before in
     let x = f .before .before .before .before .before .args in
     let said = check-fails (x .p) (x .table .now) (f .before .before .before .if1 .left) _ (formed f) (tested-refused (e .lines .ensures) (c .before .passed .given .1)) in
-    (sym said, sym (told-refused (x .p) (x .table .now) said))
+    (sym said, sym (empty-told-refused (x .p) (x .table .now) said))
 
 enum-told-2 : tie.Need-enum-told-2
 enum-told-2 c = search needs
@@ -68,7 +68,7 @@ returns-4 c =
     let x = f .before .before .before .before .before .args in
     let made = c .start-verdict .ensures in
     let said = check-passes (x .p) (x .table .now) (f .before .before .before .if1 .left) (formed f) (tested-valid (e .lines .ensures) (c .before .enum-told2 .given .1)) in
-    (made .0 ∙ sym said, made .1 ∙ sym (told-beside (x .p) (x .table .now) said))
+    (made .0 ∙ sym said, made .1 ∙ sym (empty-told-beside (x .p) (x .table .now) said))
 
 pub plain-verdict-spec : {M : Type 1} → statement M
 plain-verdict-spec =
