@@ -93,7 +93,7 @@ fn main() {
     println!("goals");
     at_most("proved / plain, 64 by 64, random", full_ratio, 1.3);
     at_most("proved / plain, 8 by 8, random", eight_ratio, 1.5);
-    at_least("nested / proved, 64 by 64, random", full_times, 5.0);
+    at_least("nested / proved, 64 by 64, random", full_times, 10.0);
     at_least("nested / proved, 64 by 64, least of the chains", chain_times, 100.0);
     at_least("nested / proved, 8 by 8, random", eight_times, 1.0);
 }
