@@ -19,7 +19,7 @@ use Rattle.machine.specs.Lassos.{Lasso, moment}
 use Rattle.machine.specs.Step.{steps, better, least, partner, staying, singleStep, found, stateOf}
 use Rattle.machine.specs.Iteration.{iterate, settle}
 use Rattle.machine.specs.Game.{pairSet, mem, sameSet, none, allMatched, goals, inX, roundX, xOver, xsOver, union, levelOver, levels, turn, firstFamily, sameFamily, family}
-use Rattle.machine.specs.Ranks.{levelOf, setOf, towerOver, tower, rankIn, solverTable}
+use Rattle.machine.specs.Ranks.{levelOf, setOf, towerOver, tower, rankIn, rankTable, solverTable}
 use Rattle.machine.specs.Table.{blank, entryIndex, entry, covers, coveredCount}
 use Rattle.machine.specs.Lines.{nonBlank, lower, atMost, goalLine, rankLine, passes, linesValidity}
 use Rattle.machine.specs.Verdict.{Verdict, carried, notCarried, startCovered, lackingStart, startVerdict, linesVerdict, emptySetTold}
@@ -121,7 +121,7 @@ answered =
     ∷ []
 
 cases : asked ≡ answered
-unfolding machineOf _by_ K S Late Early solve check solveAndCheck play asked answered not and or hasBit every some first sum count everyIn someIn maskOf table observation successors moves starts fairSet inFairSet sameObservation matched next andThen passOn countsOk beyond stateBeyond setBeyond beyondCounts firstEmpty hasEmptySet contentValidity setsValidity contentTests pairTests moment steps better least partner staying singleStep found stateOf iterate settle pairSet mem sameSet none allMatched goals inX roundX xOver xsOver union levelOver levels turn firstFamily sameFamily family levelOf setOf towerOver tower rankIn solverTable entryIndex entry covers coveredCount nonBlank lower atMost goalLine rankLine passes linesValidity startCovered lackingStart startVerdict linesVerdict emptySetTold badLength badStep missedSet lassoValidity startPartner startValidity sectionAfter follow stepTo placeAt samePlace lastRound earlierRound stemLength loopLength run playValidity playAnswer
+unfolding machineOf _by_ K S Late Early solve check solveAndCheck play asked answered not and or hasBit every some first sum count everyIn someIn maskOf table observation successors moves starts fairSet inFairSet sameObservation matched next andThen passOn countsOk beyond stateBeyond setBeyond beyondCounts firstEmpty hasEmptySet contentValidity setsValidity contentTests pairTests moment steps better least partner staying singleStep found stateOf iterate settle pairSet mem sameSet none allMatched goals inX roundX xOver xsOver union levelOver levels turn firstFamily sameFamily family levelOf setOf towerOver tower rankIn rankTable solverTable entryIndex entry covers coveredCount nonBlank lower atMost goalLine rankLine passes linesValidity startCovered lackingStart startVerdict linesVerdict emptySetTold badLength badStep missedSet lassoValidity startPartner startValidity sectionAfter follow stepTo placeAt samePlace lastRound earlierRound stemLength loopLength run playValidity playAnswer
 cases = refl
 
 -- a concrete machine of two states, 0 to 0 and 1 to 0, one observation
@@ -230,5 +230,5 @@ answeredMore =
     ∷ []
 
 casesMore : askedMore ≡ answeredMore
-unfolding machineOf _by_ K S Late Early solve rankAll check solveAndCheck play stop askedMore answeredMore Two Stuck under Lamp Choice Back Others not and or hasBit every some first sum count everyIn someIn maskOf table observation successors moves starts fairSet inFairSet sameObservation matched next andThen passOn countsOk beyond stateBeyond setBeyond beyondCounts firstEmpty hasEmptySet contentValidity setsValidity contentTests pairTests moment steps better least partner staying singleStep found stateOf iterate settle pairSet mem sameSet none allMatched goals inX roundX xOver xsOver union levelOver levels turn firstFamily sameFamily family levelOf setOf towerOver tower rankIn solverTable entryIndex entry covers coveredCount nonBlank lower atMost goalLine rankLine passes linesValidity startCovered lackingStart startVerdict linesVerdict emptySetTold badLength badStep missedSet lassoValidity startPartner startValidity sectionAfter follow stepTo placeAt samePlace lastRound earlierRound stemLength loopLength run playValidity playAnswer
+unfolding machineOf _by_ K S Late Early solve rankAll check solveAndCheck play stop askedMore answeredMore Two Stuck under Lamp Choice Back Others not and or hasBit every some first sum count everyIn someIn maskOf table observation successors moves starts fairSet inFairSet sameObservation matched next andThen passOn countsOk beyond stateBeyond setBeyond beyondCounts firstEmpty hasEmptySet contentValidity setsValidity contentTests pairTests moment steps better least partner staying singleStep found stateOf iterate settle pairSet mem sameSet none allMatched goals inX roundX xOver xsOver union levelOver levels turn firstFamily sameFamily family levelOf setOf towerOver tower rankIn rankTable solverTable entryIndex entry covers coveredCount nonBlank lower atMost goalLine rankLine passes linesValidity startCovered lackingStart startVerdict linesVerdict emptySetTold badLength badStep missedSet lassoValidity startPartner startValidity sectionAfter follow stepTo placeAt samePlace lastRound earlierRound stemLength loopLength run playValidity playAnswer
 casesMore = refl

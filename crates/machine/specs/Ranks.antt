@@ -40,10 +40,13 @@ module _ (p : Pair) where
   unfoldable pub rank : ℕ → ℕ → ℕ → ℕ
   rank j c a = let G = goals p (family p) j in rankIn G (tower G) c a
 
-  -- the solver's table: "A table holds section, then c, then a"
-  unfoldable pub solverTable : List ℕ
-  solverTable =
-      let Z = family p in
+  -- the ranks over a family of sets, as a table: "A table holds section, then c, then a"
+  unfoldable pub rankTable : List (List ℕ) → List ℕ
+  rankTable Z =
       let Gs = table (setsA p) (goals p Z) in
       let Ts = table (setsA p) (λ j. tower (getD Gs j [])) in
       table (entries p) (λ e. let j = e / pairs p in rankIn (getD Gs j []) (getD Ts j []) (e % pairs p / nA p) (e % nA p))
+
+  -- the solver's table: the ranks over the largest family
+  unfoldable pub solverTable : List ℕ
+  solverTable = let Z = family p in rankTable Z

@@ -46,6 +46,11 @@ unfoldable pub bufferAfter : {A : Type 0} → Result A → List ℕ → List ℕ
 bufferAfter (answer a) made buffer = made ++ drop (length made) buffer
 bufferAfter (refused r) made buffer = buffer
 
+-- "a state handed in comes back unchanged" beside a refusal, and else what was made of it comes back
+unfoldable pub stateAfter : {A S : Type 0} → Result A → S → S → S
+stateAfter (answer a) made given = made
+stateAfter (refused r) made given = given
+
 -- ---- the numbers
 abbrev pub short-buffer : ℕ
 short-buffer = 1
@@ -98,6 +103,10 @@ no-start-partner = 16
 -- Document 02, No. 5: "It refuses with 19 a block whose check holds and whose number isn't its place"
 abbrev pub misplaced : ℕ
 misplaced = 19
+
+-- Document 02, No. 6: "It refuses with 20, after all else, a look-up whose section or state is out of range."
+abbrev pub out-of-range : ℕ
+out-of-range = 20
 
 -- Document 02, No. 7: "It refuses with 21, after 11 of the same machine, a set without a state"
 abbrev pub empty-set : ℕ

@@ -13,7 +13,7 @@ use borrow.Author.Tests.{lt-ltb, le-ltb, ltb-false}
 use Rattle.machine.specs.declared.Refusal.{Refusal}
 use Rattle.machine.specs.declared.Validity.{Validity}
 use Rattle.machine.specs.declared.Validity.the-variants.{Valid, Refused}
-use Rattle.machine.specs.Refusals.{Result, answer, refused, Tested, valid, testedOf, andThen, passOn, each, bufferAfter, fourNumbers, spotAfter, bufferValidity, refusal, short-buffer}
+use Rattle.machine.specs.Refusals.{Result, answer, refused, Tested, valid, testedOf, andThen, passOn, each, bufferAfter, stateAfter, fourNumbers, spotAfter, bufferValidity, refusal, short-buffer}
 
 -- ---- answers and refusals
 module _ {A : Type 0} where
@@ -176,6 +176,16 @@ module _ {A : Type 0} where
   unfolding bufferAfter
   buffer-length (answer a) made buffer h = omega (arith, length-append made (drop (length made) buffer), length-drop (length made) buffer)
   buffer-length (refused r) made buffer h = refl
+
+-- ---- a state that is handed in
+module _ {A S : Type 0} where
+  pub state-made : (v : Result A) {a : A} (made given : S) → v ≡ answer a → stateAfter v made given ≡ made
+  unfolding stateAfter
+  state-made v made given e = rw e
+
+  pub state-kept : (v : Result A) {r : Refusal} (made given : S) → v ≡ refused r → stateAfter v made given ≡ given
+  unfolding stateAfter
+  state-kept v made given e = rw e
 
 -- ---- C's list of four
 module _ {A : Type 0} where

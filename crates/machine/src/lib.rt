@@ -80,6 +80,8 @@ pub const NO_START_PARTNER: u32 = 16;
 
 pub const MISPLACED: u32 = 19;
 
+pub const OUT_OF_RANGE: u32 = 20;
+
 pub const EMPTY_SET: u32 = 21;
 
 // What is said of a file without a table, where other numbers are refusals'.

@@ -1,7 +1,7 @@
 -- Rows of a well-formed pair are the game's sets: one step to all pairs, goals, and the union of sets.
 use mathlib.Core.Bool.{Bool, true, false, cond}
 use mathlib.Core.List.{List, []}
-use mathlib.Core.Logic.{by-cases}
+use mathlib.Core.Logic.{⊎-elim, by-cases}
 use mathlib.Core.Path.{_≡_, refl, sym, ap, ap₂, _∙_}
 use Prim.Native.Nat.{ℕ, _^_, _≤_, _<_}
 use native.Mathlib.Decide.{decLt}
@@ -12,7 +12,7 @@ use lib.Bits.{bitAnd, and-le-l}
 use lib.Pow.{pow-pos}
 use borrow.Author.Tests.{lt-ltb}
 use Rattle.mask.specs.Logic.{and, or}
-use Rattle.mask.specs.LogicLaws.{both, clash, and-true-l, and-true-r, and-false-r}
+use Rattle.mask.specs.LogicLaws.{both, clash, and-true-l, and-true-r, and-false-r, or-l, or-e}
 use Rattle.mask.specs.Bits.{hasBit}
 use Rattle.mask.specs.BitsLaws.{has-and, has-or, has-none}
 use Rattle.mask.specs.Bounded.{everyIn, someIn}
@@ -188,6 +188,11 @@ module _ (p : Pair) where
         (λ c l. omega (arith, and-le-l (getD M c 0) (h c), matched-small p w c l))
         (λ c a hc ha. has-and a (getD M c 0) (h c) ∙ ap₂ and (has-matched-at p w c hc a ha) (bits c a hc ha))
         (λ c l k. omega (arith, and-le-l (getD M c 0) (h c), M-past c l k))
+
+    -- the matched pairs of any rows
+    pub held-is : (rows : List ℕ) → joinRows M rows rows ≡ rowsOf (pairSet p (mem p rows))
+    unfolding joinRows mem
+    held-is rows = met-is _ _ (λ c a hc ha. has-or a (getD rows c 0) (getD rows c 0) ∙ both _ _ (λ t. ⊎-elim (λ u. u) (λ u. u) (or-e t)) (λ t. or-l _ t))
 
     pub goals-is : (Z : List (List ℕ)) (j : ℕ) (rows : List ℕ) → pairsIn p rows ≡ getD Z (next (setsA p) j) []
         → goalRows M (fairSet (p .abstraction) j) (stepsOf p rows) ≡ rowsOf (goals p Z j)

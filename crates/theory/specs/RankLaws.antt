@@ -20,7 +20,7 @@ use Rattle.machine.specs.declared.Pair.{Pair}
 use Rattle.machine.specs.Machines.{matched, nC, nA, setsC, setsA, pairs}
 use Rattle.machine.specs.WellFormedLaws.{WellPair, ranks-small}
 use Rattle.machine.specs.Game.{mem, goals, level, xSet, levels, family}
-use Rattle.machine.specs.Ranks.{tower, rankIn, rank, solverTable}
+use Rattle.machine.specs.Ranks.{tower, rankIn, rank, rankTable, solverTable}
 use Rattle.machine.specs.Table.{blank, entryIndex, entry, entries, IsTable}
 use Rattle.theory.specs.Statements.{IsFirst, IsPlace, TableHoldsRanks}
 use Rattle.theory.specs.GameLaws.{goal, none-empty, level-zero}
@@ -191,30 +191,46 @@ module _ (p : Pair) where
   unfolding entryIndex
   column j c a ha = digits-mod (j * nC p + c) ha
 
-  pub table-rank : TableHoldsRanks p
-  unfolding entry solverTable rank
-  table-rank j c a hj hc ha =
-      let e : ℕ = entryIndex (nC p) (nA p) j c a in
-      let hq : c * nA p + a < pairs p = digits-lt hc ha in
-      let split : e ≡ j * pairs p + (c * nA p + a) = index-split j c a in
-      let sec : e / pairs p ≡ j = rw split (digits-div j hq) in
-      let row : e % pairs p / nA p ≡ c = rw (split, digits-mod j hq) (digits-div c ha) in
-      let Gs : List (List ℕ) = table (setsA p) (goals p (family p)) in
-      let G : getD Gs j [] ≡ goals p (family p) j = table-at (setsA p) (goals p (family p)) j [] hj in
-      table-at (entries p) _ e 0 (rw split (digits-lt hj hq))
-      ∙ rw (sec, row, column j c a ha, table-at (setsA p) (λ i. tower p (getD Gs i [])) j [] hj, G)
+  -- the ranks over any family of sets, as a table: n × P entries, each blank or at most m × P
+  module _ (Z : List (List ℕ)) where
+    pub ranks-at : (j c a : ℕ) → j < setsA p → c < nC p → a < nA p
+        → entry p (rankTable p Z) j c a ≡ rankIn p (goals p Z j) (tower p (goals p Z j)) c a
+    unfolding entry rankTable
+    ranks-at j c a hj hc ha =
+        let e : ℕ = entryIndex (nC p) (nA p) j c a in
+        let hq : c * nA p + a < pairs p = digits-lt hc ha in
+        let split : e ≡ j * pairs p + (c * nA p + a) = index-split j c a in
+        let sec : e / pairs p ≡ j = rw split (digits-div j hq) in
+        let row : e % pairs p / nA p ≡ c = rw (split, digits-mod j hq) (digits-div c ha) in
+        let Gs : List (List ℕ) = table (setsA p) (goals p Z) in
+        let G : getD Gs j [] ≡ goals p Z j = table-at (setsA p) (goals p Z) j [] hj in
+        table-at (entries p) _ e 0 (rw split (digits-lt hj hq))
+        ∙ rw (sec, row, column j c a ha, table-at (setsA p) (λ i. tower p (getD Gs i [])) j [] hj, G)
 
-  -- the solver's table is a table of its machines: n × P entries, each blank or at most m × P
+    pub ranks-entries : length (rankTable p Z) ≡ entries p
+    unfolding rankTable
+    ranks-entries = table-length (entries p) _
+
+    ranks-bounded : (e : ℕ) → e < entries p → (getD (rankTable p Z) e 0 ≡ blank) ⊎ (getD (rankTable p Z) e 0 ≤ setsC p * pairs p)
+    unfolding rankTable
+    ranks-bounded e l =
+        let sec : e / pairs p < setsA p = div-lt-iff-lt-mul (factor-low _ _ e l) .1 l in
+        rw (table-at {A = ℕ} (entries p) _ e 0 l, table-at {A = List (List ℕ)} (setsA p) _ (e / pairs p) [] sec) (rank-bounded (ranked _ _ _))
+
+  -- the solver's table is the case of the largest family
+  pub table-rank : TableHoldsRanks p
+  unfolding solverTable rank
+  table-rank = ranks-at (family p)
+
   pub table-entries : length (solverTable p) ≡ entries p
   unfolding solverTable
-  table-entries = table-length (entries p) _
+  table-entries = ranks-entries (family p)
 
   table-bounded : (e : ℕ) → e < entries p → (getD (solverTable p) e 0 ≡ blank) ⊎ (getD (solverTable p) e 0 ≤ setsC p * pairs p)
   unfolding solverTable
-  table-bounded e l =
-      let sec : e / pairs p < setsA p = div-lt-iff-lt-mul (factor-low _ _ e l) .1 l in
-      rw (table-at {A = ℕ} (entries p) _ e 0 l, table-at {A = List (List ℕ)} (setsA p) _ (e / pairs p) [] sec) (rank-bounded (ranked _ _ _))
+  table-bounded = ranks-bounded (family p)
 
+  -- it is a table of its machines
   pub table-is : WellPair p → IsTable p (solverTable p)
   table-is w = (
     table-entries,
