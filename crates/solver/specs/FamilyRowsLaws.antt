@@ -16,13 +16,13 @@ use Rattle.machine.specs.Machines.{fairSet, next, nC, setsA}
 use Rattle.machine.specs.StepLaws.{next-lt}
 use Rattle.machine.specs.WellFormedLaws.{WellPair}
 use Rattle.machine.specs.Observed.{matchedMasks}
-use Rattle.machine.specs.Game.{goals, levels, turn}
+use Rattle.machine.specs.Game.{pairSet, mem, goals, levels, turn}
 use Rattle.theory.specs.GameLaws.{set-canonical}
-use Rattle.rows.specs.Rows.{rowsOf, pairsIn, goalRows, stepRows, abstractPredecessors}
-use Rattle.rows.specs.SetRowsLaws.{rows-at, set-back, goals-is}
+use Rattle.rows.specs.Rows.{rowsOf, pairsIn, goalRows, joinRows, stepRows, abstractPredecessors}
+use Rattle.rows.specs.SetRowsLaws.{rows-at, set-back, held-is, goals-is}
 use Rattle.solver.specs.Ranking.{Holds}
 use Rattle.solver.specs.XLaws.{holds-set}
-use Rattle.solver.specs.Families.{flatOf, sectionOf, familyIn, putSection}
+use Rattle.solver.specs.Families.{flatOf, sectionOf, familyIn, turnRows, putSection}
 
 -- ---- a set is put into section j, row by row
 pub record Put (F : List ℕ) (j : ℕ) (S : List ℕ) (c : ℕ) (l : List ℕ) : Type 0 where
@@ -76,29 +76,36 @@ module _ (p : Pair) (w : WellPair p) where
   few : (j : ℕ) → j < setsA p → j < 7
   few j h = omega (arith, w .abstraction .sets-high)
 
-  pub section-in : (F : List ℕ) (j : ℕ) → j < setsA p → pairsIn p (sectionOf F j) ≡ getD (familyIn p F) j []
+  pub family-at : (F : List ℕ) (j : ℕ) → j < setsA p → getD (familyIn p F) j [] ≡ pairSet p (mem p (sectionOf F j))
   unfolding familyIn
-  section-in F j h = sym (table-at (setsA p) (λ i. pairsIn p (sectionOf F i)) j [] h)
+  family-at F j h = table-at (setsA p) (λ i. pairSet p (mem p (sectionOf F i))) j [] h
+
+  -- the rows of a section, met with the matched pairs, hold what the family has there
+  pub section-in : (F : List ℕ) (j : ℕ) → j < setsA p → pairsIn p (joinRows (matchedMasks p) (sectionOf F j) (sectionOf F j)) ≡ getD (familyIn p F) j []
+  section-in F j h =
+      ap (pairsIn p) (held-is p w (sectionOf F j)) ∙ set-back p w (pairSet p (mem p (sectionOf F j))) (set-canonical p (mem p (sectionOf F j)))
+      ∙ sym (family-at F j h)
 
   -- ---- a turn, section by section
   module _ (F : List ℕ) where
-    pub goals-done : {matched predecessors set g : List ℕ} {i : ℕ} (j : ℕ) → j < setsA p → matched ≡ matchedMasks p → predecessors ≡ abstractPredecessors p
-        → i ≡ next (setsA p) j → set ≡ sectionOf F i → g ≡ goalRows matched (fairSet (p .abstraction) j) (stepRows (nC p) (p .concrete .successors) predecessors set)
+    pub goals-done : {matched predecessors rows set g : List ℕ} {i : ℕ} (j : ℕ) → j < setsA p → matched ≡ matchedMasks p → predecessors ≡ abstractPredecessors p
+        → i ≡ next (setsA p) j → rows ≡ sectionOf F i → set ≡ joinRows matched rows rows → g ≡ goalRows matched (fairSet (p .abstraction) j) (stepRows (nC p) (p .concrete .successors) predecessors set)
         → g ≡ rowsOf (goals p (familyIn p F) j)
-    goals-done j h em ep ei es eg =
-        eg ∙ rw (em, ep, es, ei) (goals-is p w (familyIn p F) j (sectionOf F (next (setsA p) j)) (section-in F (next (setsA p) j) (next-lt (setsA p) j h)))
+    goals-done j h em ep ei er es eg =
+        eg ∙ rw (ep, es, em, er, ei) (goals-is p w (familyIn p F) j _ (section-in F (next (setsA p) j) (next-lt (setsA p) j h)))
 
     pub goals-hold : {g : List ℕ} (j : ℕ) → g ≡ rowsOf (goals p (familyIn p F) j) → Holds p g
     unfolding goals
     goals-hold j e = holds-set p w (goals p (familyIn p F) j) (set-canonical p _) e
 
-    pub turn-more : {g S : List ℕ} (j : ℕ) → j < setsA p → g ≡ rowsOf (goals p (familyIn p F) j) → S ≡ rowsOf (levels p (pairsIn p g))
-        → putSection (flatOf (table j (λ i. levels p (goals p (familyIn p F) i)))) j S ≡ flatOf (table (j + 1) (λ i. levels p (goals p (familyIn p F) i)))
+    pub goals-back : {g : List ℕ} (j : ℕ) → g ≡ rowsOf (goals p (familyIn p F) j) → pairsIn p g ≡ goals p (familyIn p F) j
     unfolding goals
-    turn-more j h eg es = flat-more _ j _ (few j h) (λ c l.
-        ap (λ (R : List ℕ). getD R c 0) (es ∙ ap (λ (G : List ℕ). rowsOf (levels p G)) (ap (pairsIn p) eg ∙ set-back p w (goals p (familyIn p F) j) (set-canonical p _)))
-        ∙ rows-at _ c l)
+    goals-back j e = ap (pairsIn p) e ∙ set-back p w (goals p (familyIn p F) j) (set-canonical p _)
 
-    pub turn-all : {j : ℕ} → j ≡ setsA p → flatOf (table j (λ i. levels p (goals p (familyIn p F) i))) ≡ flatOf (turn p (familyIn p F))
-    unfolding turn
+    pub turn-more : {out : List ℕ} (j : ℕ) → j < setsA p → out ≡ flatOf (table j (λ i. levels p (goals p (familyIn p F) i)))
+        → putSection out j (rowsOf (levels p (goals p (familyIn p F) j))) ≡ flatOf (table (j + 1) (λ i. levels p (goals p (familyIn p F) i)))
+    turn-more j h e = ap (λ (l : List ℕ). putSection l j (rowsOf (levels p (goals p (familyIn p F) j)))) e ∙ flat-more _ j _ (few j h) (λ c l. rows-at _ c l)
+
+    pub turn-all : {j : ℕ} → j ≡ setsA p → flatOf (table j (λ i. levels p (goals p (familyIn p F) i))) ≡ turnRows p F
+    unfolding turnRows turn
     turn-all e = rw e

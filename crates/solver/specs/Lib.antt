@@ -1,6 +1,6 @@
 -- definitions
-pub mod Solver
 pub mod Families
+pub mod Solver
 pub mod Ranking
 pub mod Sweeps
 -- laws

@@ -32,7 +32,7 @@ use Rattle.machine.specs.Observed.{matchedMasks}
 use Rattle.machine.specs.ObservedLaws.{has-matched-at}
 use Rattle.machine.specs.WellFormedLaws.{WellPair, some-pairs, section-fits, entries-small}
 use Rattle.machine.specs.Game.{pairSet, mem, sameSet, none, allMatched, goals, levels, family}
-use Rattle.machine.specs.Ranks.{rank, solverTable}
+use Rattle.machine.specs.Ranks.{rankTable, solverTable}
 use Rattle.machine.specs.Table.{blank, tableRoom, entryIndex, entry, covers, coveredCount, entries}
 use Rattle.machine.specs.LinesLaws.{covers-at, covers-of, covers-bound}
 use Rattle.machine.specs.EntriesLaws.{index-entries}
@@ -40,12 +40,12 @@ use Rattle.theory.specs.Statements.{Within}
 use Rattle.theory.specs.Fixpoint.{bit-mono, bit-eq}
 use Rattle.theory.specs.GameLaws.{Canonical, mem-pairSet, pairSet-cong, set-canonical, set-ext, same-within, same-holds, same-of, Within-refl, of-allMatched, levels-canonical, levels-mono, levels-matched}
 use Rattle.theory.specs.FamilyLaws.{WithinF, tabled, goals-mono, family-is, family-tabled, family-ext}
-use Rattle.theory.specs.RankLaws.{table-rank, table-entries}
+use Rattle.theory.specs.RankLaws.{ranks-at, ranks-entries, table-entries}
 use Rattle.rows.specs.Rows.{rowsOf, pairsIn, sameRows, goalRows, stepRows, abstractPredecessors}
 use Rattle.rows.specs.SetRowsLaws.{rows-same, set-back, matched-rows, goals-is}
 use Rattle.rows.specs.Entries.{uptoRows, without, writeRows}
 use Rattle.solver.specs.Ranking.{rankOver, entryOf, Holds, Bounded, AreRanks}
-use Rattle.solver.specs.Sweeps.{partOf, coveredFamily, goalsIn, Begun, Renewable, Renewed, Sweeping}
+use Rattle.solver.specs.Sweeps.{partOf, coveredFamily, goalsIn, Begun, Renewable, Renewed, Sweeping, FamilyRanked}
 use Rattle.rows.specs.LargestLaws.{wider}
 use Rattle.rows.specs.WriteLaws.{has-without, patch, patch-length, patch-before, patch-in, patch-after, cut-long}
 use Rattle.solver.specs.XLaws.{holds-set, holds-rows}
@@ -124,6 +124,88 @@ module _ (p : Pair) (w : WellPair p) where
   entry-at : (T : List ℕ) (j e : ℕ) → e < pairs p → entry p T j (e / nA p) (e % nA p) ≡ getD T (j * pairs p + e) 0
   unfolding entry
   entry-at T j e h = ap (λ (n : ℕ). getD T n 0) (place j (e / nA p) (e % nA p) ∙ ap (λ (n : ℕ). j * pairs p + n) (div-add-mod' e (nA p)))
+
+  -- ---- a section's entries are put into the table
+  module _ (T ys : List ℕ) {j a k : ℕ} (room : tableRoom ≤ length T) (hj : j < setsA p) (ea : a ≡ j * pairs p) (ek : k ≡ pairs p) (long : length ys ≡ pairs p) where
+    patch-fits : a + k ≤ length T
+    patch-fits = omega (arith, section-fits p w j hj)
+
+    patched-long : length (patch T a ys k) ≡ length T
+    patched-long = patch-length T ys a k patch-fits (long ∙ sym ek)
+
+    patched-others : (e : ℕ) → (e < j * pairs p) ⊎ (j * pairs p + pairs p ≤ e) → getD (patch T a ys k) e 0 ≡ getD T e 0
+    patched-others e h = ⊎-elim
+        (λ l. patch-before T ys a k patch-fits (long ∙ sym ek) e (omega arith)) (λ l. patch-after T ys a k patch-fits (long ∙ sym ek) e (omega arith)) h
+
+    patched-ranks : {G : List ℕ} → AreRanks p G ys → AreRanks p G (partOf p (patch T a ys k) j)
+    unfolding entry
+    patched-ranks r = record {
+      long = part-long (patch T a ys k) j (rw patched-long room) hj;
+      ranks = λ c b hc hb.
+          part-entry (patch T a ys k) j c b hc hb ∙ ap (λ (n : ℕ). getD (patch T a ys k) n 0) (place j c b ∙ ap (λ (n : ℕ). n + (c * nA p + b)) (sym ea))
+          ∙ patch-in T ys a k patch-fits (long ∙ sym ek) (c * nA p + b) (omega (arith, digits-lt hc hb)) ∙ r .ranks c b hc hb;
+    }
+
+  -- a section has its ranks where its entries are those of another table's that has them
+  same-ranks : (T U : List ℕ) {G : List ℕ} {j : ℕ} → tableRoom ≤ length U → j < setsA p → ((e : ℕ) → j * pairs p ≤ e → e < j * pairs p + pairs p → getD U e 0 ≡ getD T e 0)
+      → AreRanks p G (partOf p T j) → AreRanks p G (partOf p U j)
+  unfolding entry
+  same-ranks T U {j = j} room hj same r = record {
+    long = part-long U j room hj;
+    ranks = λ c a hc ha.
+        part-entry U j c a hc ha ∙ ap (λ (n : ℕ). getD U n 0) (place j c a) ∙ same (j * pairs p + (c * nA p + a)) (omega arith) (omega (arith, digits-lt hc ha))
+        ∙ ap (λ (n : ℕ). getD T n 0) (sym (place j c a)) ∙ sym (part-entry T j c a hc ha) ∙ r .ranks c a hc ha;
+  }
+
+  -- ---- the ranks over a family, section after section
+  module _ {Z : List (List ℕ)} {first : List ℕ} where
+    pub ranked-start : FamilyRanked p Z first 0 first
+    ranked-start = record { long = refl; ranks = λ i h. absurd (omega arith); rest = λ e h. refl }
+
+    pub ranked-more : {l ys : List ℕ} {j a k : ℕ} → tableRoom ≤ length first → j < setsA p → a ≡ j * pairs p → k ≡ pairs p → AreRanks p (goals p Z j) ys
+        → FamilyRanked p Z first j l → FamilyRanked p Z first (j + 1) (patch l a ys k)
+    ranked-more {l} {ys} {j} {a} {k} room hj ea ek r d = record {
+      long = patched-long l ys room-l hj ea ek (r .long) ∙ d .long;
+      ranks = λ i hi. by-cases (ℕ-discrete i j)
+          (λ q. rw q (patched-ranks l ys room-l hj ea ek (r .long) r))
+          (λ n. same-ranks l (patch l a ys k) (rw (patched-long l ys room-l hj ea ek (r .long)) room-l) (omega arith)
+          (λ e lo hi'. patched-others l ys room-l hj ea ek (r .long) e (inl (before i e (omega arith) hi'))) (d .ranks i (omega arith)));
+      rest = λ e h. patched-others l ys room-l hj ea ek (r .long) e (inr (omega arith)) ∙ d .rest e (omega arith);
+    }
+      where
+        room-l : tableRoom ≤ length l
+        room-l = rw (d .long) room
+
+        before : (i e : ℕ) → i < j → e < i * pairs p + pairs p → e < j * pairs p
+        before i e h q = let m : suc i * pairs p ≤ j * pairs p = mul-le-mul-right (pairs p) h in omega arith
+
+    pub ranked-done : {j : ℕ} {T : List ℕ} → j ≡ setsA p → tableRoom ≤ length first → FamilyRanked p Z first j T → T ≡ rankTable p Z ++ drop (length (rankTable p Z)) first
+    unfolding rankOver
+    ranked-done {j} {T} ej room d =
+        let n : ℕ = length (rankTable p Z) in
+        let en : n ≡ setsA p * pairs p = ranks-entries p Z in
+        let small : setsA p * pairs p ≤ tableRoom = entries-small p w in
+        ext-getD 0 T (rankTable p Z ++ drop n first)
+        (d .long ∙ omega (arith, length-append (rankTable p Z) (drop n first), length-drop n first))
+        (λ e h. by-cases (decLt e n)
+        (λ q. value e (omega arith) ∙ sym (List·getD-append (rankTable p Z) (drop n first) 0 e q))
+        (λ q. let y : e ≡ n + (e - n) = omega arith in
+        d .rest e (rw ej (omega arith))
+        ∙ ap (λ (i : ℕ). getD first i 0) y
+        ∙ sym (ap (λ (i : ℕ). getD (rankTable p Z ++ drop n first) i 0) y ∙ getD-append-add (rankTable p Z) (drop n first) (e - n) 0 ∙ getD-drop n first (e - n) 0)))
+      where
+        entry-rank : (s c a : ℕ) → s < setsA p → c < nC p → a < nA p → entry p T s c a ≡ entry p (rankTable p Z) s c a
+        entry-rank s c a hs hc ha = sym (part-entry T s c a hc ha) ∙ d .ranks s (rw ej hs) .ranks c a hc ha ∙ sym (ranks-at p Z s c a hs hc ha)
+
+        value : (e : ℕ) → e < setsA p * pairs p → getD T e 0 ≡ getD (rankTable p Z) e 0
+        value e h =
+            let s : ℕ = e / pairs p in
+            let i : ℕ = e % pairs p in
+            let hi : i < pairs p = mod-lt e (some-pairs p w) in
+            let y : e ≡ s * pairs p + i = sym (div-add-mod' e (pairs p)) in
+            ap (λ (n : ℕ). getD T n 0) y ∙ sym (entry-at T s i hi)
+            ∙ entry-rank s (i / nA p) (i % nA p) (div-lt-iff-lt-mul (some-pairs p w) .1 h) (row-of i hi) (state-of i)
+            ∙ entry-at (rankTable p Z) s i hi ∙ ap (λ (n : ℕ). getD (rankTable p Z) n 0) (sym y)
 
   -- ---- what a table covers
   pub covered-at : (T : List ℕ) (j : ℕ) → j < setsA p → getD (coveredFamily p T) j [] ≡ pairSet p (covers p T j)
@@ -246,30 +328,15 @@ module _ (p : Pair) (w : WellPair p) where
     pub renewed : {ys old y : List ℕ} {a k : ℕ} {changed : Bool} → a ≡ j * pairs p → k ≡ pairs p → AreRanks p G ys
         → old ≡ uptoRows (nC p) (nA p) (partOf p T j) (blank - 1) → y ≡ rowsOf (levels p G) → changed ≡ not (sameRows (nC p) old y)
         → Renewed p j T changed (patch T a ys k)
-    unfolding entry
     renewed {ys} {old} {y} {a} {k} {changed} ea ek r eo ey ec = record {
-      long = patch-length T ys a k fits long;
-      others = λ e h. ⊎-elim (λ l. patch-before T ys a k fits long e (omega arith)) (λ l. patch-after T ys a k fits long e (omega arith)) h;
-      ranks = record {
-        long = part-long (patch T a ys k) j (rw (patch-length T ys a k fits long) (d .room)) (d .section);
-        ranks = λ c b hc hb. inside c b hc hb ∙ r .ranks c b hc hb;
-      };
+      long = patched-long T ys (d .room) (d .section) ea ek (r .long);
+      others = patched-others T ys (d .room) (d .section) ea ek (r .long);
+      ranks = patched-ranks T ys (d .room) (d .section) ea ek (r .long) r;
       same = λ t. set-ext p _ _ (covered-canonical T j (d .section)) (levels-canonical p G)
           (same-within p _ _ (not-false _ (sym told ∙ t))) (same-holds p _ _ (not-false _ (sym told ∙ t)));
       differs = λ t q. clash (not-e _ (sym told ∙ t)) (rw q (same-of p (levels p G) (levels p G) (Within-refl p (levels p G)) (Within-refl p (levels p G))));
     }
       where
-        fits : a + k ≤ length T
-        fits = omega (arith, section-fits p w j (d .section), d .room)
-
-        long : length ys ≡ k
-        long = r .long ∙ sym ek
-
-        inside : (c b : ℕ) → c < nC p → b < nA p → entryOf p (partOf p (patch T a ys k) j) c b ≡ entryOf p ys c b
-        inside c b hc hb =
-            part-entry (patch T a ys k) j c b hc hb ∙ ap (λ (n : ℕ). getD (patch T a ys k) n 0) (place j c b ∙ ap (λ (n : ℕ). n + (c * nA p + b)) (sym ea))
-            ∙ patch-in T ys a k fits long (c * nA p + b) (omega (arith, digits-lt hc hb))
-
         told : changed ≡ not (sameSet p (getD (coveredFamily p T) j []) (levels p G))
         told = ec ∙ ap not (ap₂ (sameRows (nC p)) (eo ∙ covered-rows T j (d .bounded j (d .section)) (d .section)) ey
             ∙ rows-same p w (nC p) (omega arith) (w .concrete .states-high) _ _ (covered-canonical T j (d .section)) (levels-canonical p G))
@@ -470,31 +537,10 @@ module _ (p : Pair) (w : WellPair p) where
     unfolding coveredFamily
     whole = family-ext p _ _ (tabled p _ (λ s hs. set-canonical p (covers p T s))) (family-tabled p) (family-is p .largest _ inside) (d .above)
 
-    entry-rank : (s c a : ℕ) → s < setsA p → c < nC p → a < nA p → entry p T s c a ≡ entry p (solverTable p) s c a
-    unfolding rank rankOver
-    entry-rank s c a hs hc ha =
-        sym (part-entry T s c a hc ha) ∙ all s hs .ranks c a hc ha ∙ ap (λ (Z : List (List ℕ)). rankOver p (goals p Z s) c a) whole ∙ sym (table-rank p s c a hs hc ha)
-
     pub sweeping-done : T ≡ solverTable p ++ drop (length (solverTable p)) first
-    sweeping-done =
-        let n : ℕ = length (solverTable p) in
-        let en : n ≡ setsA p * pairs p = table-entries p in
-        let small : setsA p * pairs p ≤ tableRoom = entries-small p w in
-        ext-getD 0 T (solverTable p ++ drop n first)
-        (d .long ∙ omega (arith, length-append (solverTable p) (drop n first), length-drop n first, d .room, d .long))
-        (λ e h. by-cases (decLt e n)
-        (λ q. value e (omega arith) ∙ sym (List·getD-append (solverTable p) (drop n first) 0 e q))
-        (λ q. let y : e ≡ n + (e - n) = omega arith in
-        d .rest e (omega arith)
-        ∙ ap (λ (i : ℕ). getD first i 0) y
-        ∙ sym (ap (λ (i : ℕ). getD (solverTable p ++ drop n first) i 0) y ∙ getD-append-add (solverTable p) (drop n first) (e - n) 0 ∙ getD-drop n first (e - n) 0)))
-      where
-        value : (e : ℕ) → e < setsA p * pairs p → getD T e 0 ≡ getD (solverTable p) e 0
-        value e h =
-            let s : ℕ = e / pairs p in
-            let i : ℕ = e % pairs p in
-            let hi : i < pairs p = mod-lt e (some-pairs p w) in
-            let y : e ≡ s * pairs p + i = sym (div-add-mod' e (pairs p)) in
-            ap (λ (n : ℕ). getD T n 0) y ∙ sym (entry-at T s i hi)
-            ∙ entry-rank s (i / nA p) (i % nA p) (div-lt-iff-lt-mul (some-pairs p w) .1 h) (row-of i hi) (state-of i)
-            ∙ entry-at (solverTable p) s i hi ∙ ap (λ (n : ℕ). getD (solverTable p) n 0) (sym y)
+    unfolding solverTable
+    sweeping-done = ranked-done refl (omega (arith, d .room, d .long)) (record {
+      long = d .long;
+      ranks = λ s hs. rw whole at (all s hs);
+      rest = d .rest;
+    })

@@ -1,4 +1,5 @@
--- How the solver makes the table: section after section in place, while some section's goals may have changed since it was made.
+-- How the solver makes the table: section after section in place, while some section's goals may have changed since it was made; and a turn, which makes
+-- each section once.
 use mathlib.Core.Bool.{Bool, true, false, cond}
 use mathlib.Core.List.{List, []}
 use mathlib.Core.Logic.{_⊎_}
@@ -58,3 +59,9 @@ module _ (p : Pair) where
     pub bounded : (j : ℕ) → j < setsA p → Bounded p (goalsIn T j) (partOf T j)
     pub above : (j : ℕ) → j < setsA p → Within p (getD (family p) j []) (getD (coveredFamily T) j [])
     pub exact : (j : ℕ) → j < setsA p → hasBit due (setsA p - 1 - j) ≡ false → AreRanks p (goalsIn T j) (partOf T j)
+
+  -- the ranks over a family of sets, in the first j sections of a table; the rest is as it was
+  pub record FamilyRanked (Z : List (List ℕ)) (first : List ℕ) (j : ℕ) (T : List ℕ) : Type 0 where
+    pub long : length T ≡ length first
+    pub ranks : (i : ℕ) → i < j → AreRanks p (goals p Z i) (partOf T i)
+    pub rest : (e : ℕ) → j * pairs p ≤ e → getD T e 0 ≡ getD first e 0

@@ -1,7 +1,7 @@
 // The solver: document 01's ranks of two machines, as a table.
 // A set of pairs is 64 rows, for each concrete state the mask of the abstract states beside it (crate `rows`).
-// The table is made in place. The entries of matched pairs begin at 0, and none is ever above its pair's rank; a section's ranks are made from its entries so far,
-// and a section is made again while the set of the next one changes.
+// `solve` makes the table in place. The entries of matched pairs begin at 0, and none is ever above its pair's rank; a section's ranks are made from its entries so far,
+// and a section is made again while the set of the next one changes. `turn_family` makes every section afresh from a family that it is handed.
 ghost use mathlib.Core.Path.{_≡_};
 ghost use mathlib.Core.Bool.{true};
 ghost use mathlib.Core.List.{_++_};
@@ -12,18 +12,24 @@ ghost use Rattle.mask.specs.Tables.{table};
 ghost use Rattle.machine.specs.Machines.{nC, nA, setsC, setsA, pairs, fairSet};
 ghost use Rattle.machine.specs.Refusals.{testedOf};
 ghost use Rattle.machine.specs.Table.{blank, tableRoom};
-ghost use Rattle.machine.specs.Ranks.{solverTable};
+ghost use Rattle.machine.specs.Ranks.{rankTable, solverTable};
 ghost use Rattle.machine.specs.Observed.{matchedMasks};
 ghost use Rattle.machine.specs.WellFormed.{wellFormed};
-ghost use Rattle.machine.specs.Game.{level, levels, turn};
+ghost use Rattle.machine.specs.Game.{level, levels, goals};
 ghost use Rattle.rows.specs.Rows.{rowsOf, pairsIn, stepRows, goalRows};
 ghost use Rattle.rows.specs.Entries.{uptoRows, writeRows};
-ghost use Rattle.solver.specs.Families.{flatOf, sectionOf, familyIn, putSection};
+ghost use Rattle.solver.specs.Families.{sectionOf, familyIn, turnRows, putSection};
 ghost use Rattle.solver.specs.Ranking.{Prepared, Holds, Bounded, RankedTo, AreRanks};
 ghost use Rattle.solver.specs.Sweeps.{Begun, Renewable, Renewed, Sweeping};
-ghost use Rattle.solver.specs.Solver.{solveValidity, solvedTable};
+ghost use Rattle.solver.specs.Solver.{solveValidity, solvedTable, turnedFamily, turnedTable};
 use machine::Pair;
 use machine::Validity;
+
+// Whether the tests of `turn_family` pass, and the family that it gives.
+pub struct TurnedFamily {
+    pub validity: Validity,
+    pub family: [u64; 448],
+}
 
 // ---- Entries
 
@@ -345,27 +351,110 @@ fn afresh(
     section(p, matched, dependents, predecessors, goals, matched, part)
 }
 
-// A turn: every section's set afresh from a family of any content. `part` is room for one section's entries; what it holds in
-// the end is left open.
-fn turn(
+// Section j of a turn: its set afresh from the family, put beside the sections that are made already; and its ranks over the family.
+fn turn_section(
     p: Pair,
     matched: &[u64; 64],
     dependents: &[u64; 64],
     predecessors: &[u64; 64],
     family: &[u64; 448],
+    made: &[u64; 448],
+    j: usize,
     part: &mut [u16],
 ) -> [u64; 448]
-    requires { ⌜ Prepared p (now matched) (now dependents) (now predecessors) × (length (now part) ≡ pairs p) ⌝ }
-    ensures { λ r. ⌜ r ≡ flatOf (turn p (familyIn p (now (family .entry)))) ⌝ }
+    requires { ⌜ Prepared p (now matched) (now dependents) (now predecessors) × ((j < setsA p) × ((length (now part) ≡ pairs p) × (length (now made) ≡ 448))) ⌝ }
+    ensures { λ r. ⌜ (r ≡ putSection (now (made .entry)) j (rowsOf (levels p (goals p (familyIn p (now (family .entry))) j)))) × AreRanks p (goals p (familyIn p (now (family .entry))) j) (now (part .exit)) ⌝ }
 {
     let abstraction = p.abstraction;
     let n = abstraction.sets;
+    let mut out = *made;
+    let rows = section_rows(family, machine::next_section(n, j));
+    // of the rows only matched pairs count
+    let next = rows::join_rows(matched, &rows, &rows);
+    let g = goals(p, matched, predecessors, &next, j);
+    let set = afresh(p, matched, dependents, predecessors, &g, part);
+    put_section(&mut out, j, &set);
+    out
+}
+
+// A turn: every section's set afresh from a family of any content, and the ranks over the family: exactly n x P entries.
+fn turn(
+    p: Pair,
+    matched: &[u64; 64],
+    dependents: &[u64; 64],
+    predecessors: &[u64; 64],
+    family: [u64; 448],
+    table: &mut [u16],
+) -> [u64; 448]
+    requires { ⌜ Prepared p (now matched) (now dependents) (now predecessors) × (tableRoom ≤ length (now table)) ⌝ }
+    ensures { λ r. ⌜ (r ≡ turnRows p family) × (now (table .exit) ≡ rankTable p (familyIn p family) ++ drop (length (rankTable p (familyIn p family))) (now (table .entry))) ⌝ }
+{
+    let concrete = p.concrete;
+    let abstraction = p.abstraction;
+    let n = abstraction.sets;
+    let pairs = concrete.states * abstraction.states;
     let mut out = [0u64; 448];
     for j in 0..n {
-        let next = section_rows(family, machine::next_section(n, j));
-        let g = goals(p, matched, predecessors, &next, j);
-        let set = afresh(p, matched, dependents, predecessors, &g, part);
-        put_section(&mut out, j, &set);
+        let from = j * pairs;
+        let to = from + pairs;
+        let next = turn_section(
+            p,
+            matched,
+            dependents,
+            predecessors,
+            &family,
+            &out,
+            j,
+            &mut table[from..to],
+        );
+        out = next;
     }
     out
+}
+
+// A turn of well-formed machines.
+fn turn_all(p: Pair, family: [u64; 448], table: &mut [u16]) -> [u64; 448]
+    requires { ⌜ (wellFormed p ≡ true) × (tableRoom ≤ length (now table)) ⌝ }
+    ensures { λ r. ⌜ (r ≡ turnRows p family) × (now (table .exit) ≡ rankTable p (familyIn p family) ++ drop (length (rankTable p (familyIn p family))) (now (table .entry))) ⌝ }
+{
+    let concrete = p.concrete;
+    let abstraction = p.abstraction;
+    let nc = concrete.states;
+    let na = abstraction.states;
+    let concrete_moves = concrete.successors;
+    let abstract_moves = abstraction.successors;
+    let matched = machine::matched_masks(p);
+    let dependents = rows::predecessors(nc, &concrete_moves);
+    let predecessors = rows::predecessors(na, &abstract_moves);
+    turn(p, &matched, &dependents, &predecessors, family, table)
+}
+
+// Of a family of any rows: the family that a turn makes of it, and the ranks over it in a lent table of 28,672 entries or more, exactly n x P of
+// them. Beside a refusal the family comes back as it was, and nothing is written.
+pub fn turn_family(p: Pair, family: [u64; 448], table: &mut [u16]) -> TurnedFamily
+    ensures { λ r. ⌜ testedOf (r .validity) ≡ solveValidity p (length (now (table .entry))) ⌝ }
+    ensures { λ r. ⌜ r .family ≡ turnedFamily p family (length (now (table .entry))) ⌝ }
+    ensures { λ _. ⌜ now (table .exit) ≡ turnedTable p family (now (table .entry)) ⌝ }
+{
+    let room = table.len();
+    if room < machine::TABLE_ROOM {
+        return TurnedFamily {
+            validity: Validity::Refused(machine::refuse(machine::SHORT_BUFFER, 0, 0, 0)),
+            family,
+        };
+    }
+    let valid = validity::pair_validity(p, validity::NONEMPTY_SETS);
+    match valid {
+        Validity::Refused(r) => TurnedFamily {
+            validity: Validity::Refused(r),
+            family,
+        },
+        Validity::Valid => {
+            let next = turn_all(p, family, table);
+            TurnedFamily {
+                validity: Validity::Valid,
+                family: next,
+            }
+        }
+    }
 }
