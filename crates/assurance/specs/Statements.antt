@@ -1,4 +1,4 @@
--- Demands 2 and 3 of the tender, what change requests 4 and 5 add to files, and what request 7 says of empty sets, over the very definitions that the contracts of reader, writer, check and solver cite. Each statement is a type with
+-- Demands 2 and 3 of the tender, what change requests 4 and 5 add to files, what request 6 says of turns, and request 7 of empty sets, over the very definitions that the contracts of reader, writer, check, solver and solver by turns cite. Each statement is a type with
 -- its hypotheses in it, and Theorems.antt gives a proof of each: what is shown of well-formed machines, of machines whose sets all have a state, or of
 -- a lent table with room only has `wellFormed p ≡ true`, `nonemptySets p ≡ true`, or `tableRoom ≤ length T`. `readAnswer` and `readTable` are what the reader says and leaves in the lent table, `fileOf`
 -- is the format's bytes of a show, `writeAnswer` and `writeBuffer` what the writer says and leaves in the lent buffer, `checkVerdict` what the check says, `solveValidity` and `solvedTable` what the solver says and leaves in the lent table, `restoreAnswer` and
@@ -8,12 +8,12 @@ use mathlib.Core.List.{List, _++_}
 use mathlib.Core.Logic.{_↔_}
 use mathlib.Core.Path.{_≡_}
 use Prim.Native.Nat.{ℕ, _≤_, _<_}
-use lib.ListN.{length, getD, take, drop}
+use lib.ListN.{length, getD, take, drop, replicate}
 use Rattle.machine.specs.declared.Pair.{Pair}
 use Rattle.machine.specs.declared.Refusal.{Refusal}
 use Rattle.machine.specs.Refusals.{valid, answer, refused}
 use Rattle.machine.specs.Machines.{observation, nC, nA, setsA}
-use Rattle.machine.specs.WellFormed.{wellFormed, nonemptySets}
+use Rattle.machine.specs.WellFormed.{wellFormed, nonemptySets, nonemptyValidity}
 use Rattle.machine.specs.EmptySets.{TellsEmptySet, EmptySetIsUnfair, NonemptyHasState}
 use Rattle.machine.specs.Lassos.{Lasso, moment, isPlay, SameObservations}
 use Rattle.machine.specs.Table.{tableRoom, entry, covers, entries, IsTable}
@@ -28,6 +28,8 @@ use Rattle.codec.specs.Statements.{AreBytes, WriteRead, ReadWrite, WrittenReads
 use Rattle.soundness.specs.Statements.{CheckUnread, PlayerUnread}
 use Rattle.restore.specs.Restoring.{restoreAnswer, restoreBuffer}
 use Rattle.solver.specs.Solver.{solveValidity, solvedTable}
+use Rattle.progress.specs.Turns.{firstGiven, turnAnswer, turnFamily, turnTable, lookUpAnswer}
+use Rattle.progress.specs.Statements.{TurnsFinish, OnlyFinishedWrites, FinishedSettles, StruckOutIsFinal, FinishedTells, FirstIsMatched, SolverIsTurns}
 
 -- ---- demand 2, files
 -- "The writer's files read back to what was written": the machines, the note and the table's entries
@@ -109,12 +111,22 @@ FileSolverRefusesEmpty = (f first : List ℕ) (p : Pair) (note : Bool) → readA
     → (buffer : List ℕ) → fileRoom ≤ length buffer
     → (r : Refusal) × TellsEmptySet p r × (restoreAnswer f buffer ≡ refused r) × (restoreBuffer f buffer ≡ buffer)
 
+-- and so do the calls of the solver by turns, of any family, section and states: the family comes back as it was, and is zeros from the first call
+abbrev pub TurnsRefuseEmpty : Type 0
+TurnsRefuseEmpty = (p : Pair) (F T : List ℕ) (j c a : ℕ) → wellFormed p ≡ true → nonemptySets p ≡ false → tableRoom ≤ length T
+    → (r : Refusal) × TellsEmptySet p r × ((nonemptyValidity p ≡ refused r) × (firstGiven p ≡ replicate 448 0))
+    × ((turnAnswer p F (length T) ≡ refused r) × (turnFamily p F (length T) ≡ F) × (turnTable p F T ≡ T)) × (lookUpAnswer p F j c a ≡ refused r)
+
 abbrev pub EmptySetsAreRefused : Type 0
-EmptySetsAreRefused = SolverRefusesEmpty × WriterRefusesEmpty × FileSolverRefusesEmpty
+EmptySetsAreRefused = SolverRefusesEmpty × WriterRefusesEmpty × FileSolverRefusesEmpty × TurnsRefuseEmpty
 
 -- what an empty set means, "no play of it counts", and what it means that there is none
 abbrev pub EmptySetMeans : Type 0
 EmptySetMeans = EmptySetIsUnfair × NonemptyHasState
+
+-- ---- Document 02, No. 6: what is said of every list of turns from the first over the same machines, and that the solver is turns until one is finished
+abbrev pub TurnsAreSolver : Type 0
+TurnsAreSolver = (p : Pair) → TurnsFinish p × OnlyFinishedWrites p × FinishedSettles p × StruckOutIsFinal p × FinishedTells p × FirstIsMatched p × SolverIsTurns p
 
 -- ---- demand 3, second part: "any two well-formed machines, from a file or not", by document 02, No. 7, "machines whose sets all have a state", and any
 -- lent table that has room

@@ -34,9 +34,12 @@ use Rattle.codec.specs.PlacesLaws.{blocks-told, first-told, lowest-told, damage
 use Rattle.solver.specs.Solver.{solveValidity, solvedTable}
 use Rattle.solver.specs.SolverLaws.{solve-long, solved-refused}
 use Rattle.solver.specs.SolvedLaws.{solve-takes, solved-same, solved-room}
+use Rattle.progress.specs.Turns.{lookUpAnswer}
+use Rattle.progress.specs.TurnsLaws.{first-refused, turn-refused}
+use Rattle.progress.specs.Theorems.{turns-finish, only-finished-writes, finished-settles, struck-out-is-final, finished-tells, first-is-matched, solver-is-turns}
 use Rattle.restore.specs.Restoring.{restored, restoreBuffer}
 use Rattle.restore.specs.RestoringLaws.{restore-valid, restore-made, restore-empty}
-use Rattle.assurance.specs.Statements.{FilesReadBack, FilesAreWritten, FirstBlockIsEnough, TakenIsNotCut, EntriesAreUnread, FilesAreSound, StoredFilesAreSound, StoredFilesKeepMeaning, BlocksAreTold, BadCopiesAreTold, LostTableIsReplaced, SolverRefusesEmpty, WriterRefusesEmpty, FileSolverRefusesEmpty, EmptySetsAreRefused, EmptySetMeans}
+use Rattle.assurance.specs.Statements.{FilesReadBack, FilesAreWritten, FirstBlockIsEnough, TakenIsNotCut, EntriesAreUnread, FilesAreSound, StoredFilesAreSound, StoredFilesKeepMeaning, BlocksAreTold, BadCopiesAreTold, LostTableIsReplaced, SolverRefusesEmpty, WriterRefusesEmpty, FileSolverRefusesEmpty, TurnsRefuseEmpty, EmptySetsAreRefused, EmptySetMeans, TurnsAreSolver}
 use Rattle.assurance.specs.Statements.{SolverTakesMachines, SolvedPasses, SolvedCovers, SolvedIsCarried, SolvedIsFigure2, SolvedGoals, SolvedRanks, SolvedRest}
 
 pub files-read-back : FilesReadBack
@@ -120,8 +123,20 @@ file-solver-refuses-empty f first p note e empty buffer room =
     let both = restore-empty f buffer room w (told .1) in
     (told .0, told .2, both .0, both .1)
 
+turns-refuse-empty : TurnsRefuseEmpty
+unfolding lookUpAnswer
+turns-refuse-empty p F T j c a well empty room =
+    let told = empty-set-told p well empty in
+    let turn = turn-refused p F T (solve-long p (length T) room ∙ told .1) in
+    (told .0, told .2, (told .1, sym (first-refused p (told .1))), turn, then-refused _ _ _ (told .1))
+
 pub empty-sets-are-refused : EmptySetsAreRefused
-empty-sets-are-refused = (solver-refuses-empty, writer-refuses-empty, file-solver-refuses-empty)
+empty-sets-are-refused = (solver-refuses-empty, writer-refuses-empty, file-solver-refuses-empty, turns-refuse-empty)
+
+-- ---- the solver by turns
+pub turns-are-solver : TurnsAreSolver
+turns-are-solver p =
+    (turns-finish p, only-finished-writes p, finished-settles p, struck-out-is-final p, finished-tells p, first-is-matched p, solver-is-turns p)
 
 pub empty-set-means : EmptySetMeans
 empty-set-means = (empty-set-is-unfair, nonempty-has-state)
