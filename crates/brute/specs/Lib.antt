@@ -4,6 +4,7 @@ pub mod Lines
 pub mod Runs
 pub mod Lifting
 pub mod Ranking
+pub mod Families
 -- laws
 pub mod NumbersLaws
 pub mod MachineLaws
@@ -12,3 +13,4 @@ pub mod RunLaws
 pub mod ScanLaws
 pub mod LiftingLaws
 pub mod RankingLaws
+pub mod FamiliesLaws

@@ -30,6 +30,10 @@ pairRoom = 4096
 abbrev pub unranked : List ℕ
 unranked = replicate pairRoom blank
 
+-- an entry; where it need not be exact, only whether it is blank
+unfoldable pub shownEntry : Bool → ℕ → ℕ
+shownEntry exact e = cond exact e (cond (eqb e blank) blank 0)
+
 module _ (p : Pair) where
   -- the set whose number is x, as a table: 0 for its pairs, and else blank
   unfoldable pub asTable : ℕ → List ℕ
@@ -77,10 +81,12 @@ module _ (p : Pair) where
     unfoldable pub rankOf : List ℕ → ℕ → ℕ
     rankOf R e = cond (and (matched p (e / nA p) (e % nA p)) (goalLine p T j (e / nA p) (e % nA p))) 0 (getD R e 0)
 
-  -- section j of table S has the ranks
-  unfoldable pub sectionRanked : List ℕ → List ℕ → ℕ → Bool
-  sectionRanked T S j = let R = ranked T j (setsC p * pairs p) unranked in every (pairs p) (λ e. eqb (rankOf T j R e) (getD S (j * pairs p + e) 0))
+  -- section j of table S has the ranks; or, where they need not be exact, covers the pairs that have one
+  unfoldable pub sectionRanked : Bool → List ℕ → List ℕ → ℕ → Bool
+  sectionRanked exact T S j =
+      let R = ranked T j (setsC p * pairs p) unranked in
+      every (pairs p) (λ e. eqb (shownEntry exact (rankOf T j R e)) (shownEntry exact (getD S (j * pairs p + e) 0)))
 
-  -- the machines are well formed and table S has the ranks
-  unfoldable pub tableRanked : List ℕ → List ℕ → Bool
-  tableRanked T S = and (wellFormed p) (every (setsA p) (sectionRanked T S))
+  -- the machines are well formed and each section of table S has the ranks, or covers the pairs that have one
+  unfoldable pub tableRanked : Bool → List ℕ → List ℕ → Bool
+  tableRanked exact T S = and (wellFormed p) (every (setsA p) (sectionRanked exact T S))

@@ -24,7 +24,7 @@ use Rattle.machine.specs.declared.Pair.{Pair}
 use Rattle.machine.specs.declared.Refusal.{Refusal}
 use Rattle.brute.specs.Lines.{inTarget}
 use Rattle.brute.specs.Numbers.{numberedTable}
-use Rattle.brute.specs.Ranking.{asTable, closed, keeps, largest, largestSet, marked, pairRoom, rankOf, ranked, sectionRanked, struck, tableRanked, unkept, unranked}
+use Rattle.brute.specs.Ranking.{asTable, closed, keeps, largest, largestSet, marked, pairRoom, rankOf, ranked, sectionRanked, shownEntry, struck, tableRanked, unkept, unranked}
 use Rattle.brute.specs.declared.lines.Target.the-variants.{AtMost, NonBlank}
 
 -- ---- one rank is given to a set
@@ -170,27 +170,41 @@ module _ (p : Pair) (T : List ℕ) (j : ℕ) where
     unfolding rankOf
     rank-entry g = let b : and (matched p (e / nA p) (e % nA p)) (goalLine p T j (e / nA p) (e % nA p)) ≡ false = and-false-r _ g in rw b
 
+-- ---- what counts of an entry
+module _ (exact : Bool) (e : ℕ) where
+  pub shown-all : exact ≡ true → e ≡ shownEntry exact e
+  unfolding shownEntry
+  shown-all t = rw t
+
+  pub shown-blank : exact ≡ false → e ≡ blank → e ≡ shownEntry exact e
+  unfolding shownEntry
+  shown-blank t h = rw (t, eq-eqb e blank h) h
+
+  pub shown-covered : exact ≡ false → (e ≡ blank → ⊥) → 0 ≡ shownEntry exact e
+  unfolding shownEntry
+  shown-covered t h = rw (t, ne-eqb e blank h)
+
 -- ---- the ranks of a section
--- R has the ranks that were found
-module _ (p : Pair) (T S : List ℕ) (j : ℕ) {R : List ℕ} (r : R ≡ ranked p T j (setsC p * pairs p) unranked) where
-  pub section-not : (e : ℕ) → e < pairs p → (rankOf p T j R e ≡ getD S (j * pairs p + e) 0 → ⊥) → sectionRanked p T S j ≡ false
+-- R has the ranks that were found; x and y are what counts of a pair's rank and of its entry
+module _ (p : Pair) (exact : Bool) (T S : List ℕ) (j : ℕ) {R : List ℕ} (r : R ≡ ranked p T j (setsC p * pairs p) unranked) where
+  pub section-not : (e : ℕ) → e < pairs p → (shownEntry exact (rankOf p T j R e) ≡ shownEntry exact (getD S (j * pairs p + e) 0) → ⊥) → sectionRanked p exact T S j ≡ false
   unfolding sectionRanked
   section-not e h n = rw (← r) (every-not (pairs p) _ e h (ne-eqb _ _ n))
 
-  pub section-all : ((e : ℕ) → e < pairs p → rankOf p T j R e ≡ getD S (j * pairs p + e) 0) → sectionRanked p T S j ≡ true
+  pub section-all : ((e : ℕ) → e < pairs p → shownEntry exact (rankOf p T j R e) ≡ shownEntry exact (getD S (j * pairs p + e) 0)) → sectionRanked p exact T S j ≡ true
   unfolding sectionRanked
   section-all h = rw (← r) (every-of (pairs p) _ (λ e l. eq-eqb _ _ (h e l)))
 
 -- ---- the ranks of a table
-module _ (p : Pair) (T S : List ℕ) where
-  pub table-ill : (r : Refusal) → pairValidity p ≡ refused r → tableRanked p T S ≡ false
+module _ (p : Pair) (exact : Bool) (T S : List ℕ) where
+  pub table-ill : (r : Refusal) → pairValidity p ≡ refused r → tableRanked p exact T S ≡ false
   unfolding tableRanked wellFormed isValid
   table-ill r e = and-false-l _ (rw e)
 
-  pub table-not : (j : ℕ) → j < setsA p → sectionRanked p T S j ≡ false → tableRanked p T S ≡ false
+  pub table-not : (j : ℕ) → j < setsA p → sectionRanked p exact T S j ≡ false → tableRanked p exact T S ≡ false
   unfolding tableRanked
   table-not j h t = and-false-r _ (every-not (setsA p) _ j h t)
 
-  pub table-all : wellFormed p ≡ true → ((j : ℕ) → j < setsA p → sectionRanked p T S j ≡ true) → tableRanked p T S ≡ true
+  pub table-all : wellFormed p ≡ true → ((j : ℕ) → j < setsA p → sectionRanked p exact T S j ≡ true) → tableRanked p exact T S ≡ true
   unfolding tableRanked
   table-all w h = and-i w (every-of (setsA p) _ h)

@@ -8,7 +8,7 @@ ghost use lib.ListN.{length};
 ghost use Rattle.mask.specs.Bits.{fullMask};
 ghost use Rattle.machine.specs.Machines.{pairs, setsA, setsC};
 ghost use Rattle.machine.specs.WellFormed.{wellFormed};
-ghost use Rattle.brute.specs.Ranking.{keeps, unkept, closed, largest, struck, largestSet, marked, ranked, rankOf, sectionRanked, tableRanked};
+ghost use Rattle.brute.specs.Ranking.{keeps, unkept, closed, largest, struck, largestSet, marked, ranked, rankOf, shownEntry, sectionRanked, tableRanked};
 use crate::lines::Target;
 use crate::lines::goal_holds;
 use crate::lines::steps_into;
@@ -185,10 +185,20 @@ fn rank_of(p: Pair, lifted: &[u16], j: usize, ranks: &[u16], e: usize) -> u16
     value_at(ranks, e)
 }
 
-// Whether section j of a table has the ranks.
-fn section_ranked(p: Pair, lifted: &[u16], j: usize, table: &[u16]) -> bool
+// An entry; where it need not be exact, 0 for each that is not blank.
+fn shown(exact: bool, e: u16) -> u16
+    ensures { λ r. ⌜ r ≡ shownEntry exact e ⌝ }
+{
+    if exact {
+        return e;
+    }
+    if e == machine::BLANK { e } else { 0 }
+}
+
+// Whether section j of a table has the ranks; or, where they need not be exact, covers the pairs that have one.
+fn section_ranked(p: Pair, exact: bool, lifted: &[u16], j: usize, table: &[u16]) -> bool
     requires { ⌜ (wellFormed p ≡ true) × (j < setsA p) ⌝ }
-    ensures { λ r. ⌜ r ≡ sectionRanked p (now (lifted .entry)) (now (table .entry)) j ⌝ }
+    ensures { λ r. ⌜ r ≡ sectionRanked p exact (now (lifted .entry)) (now (table .entry)) j ⌝ }
 {
     let concrete = p.concrete;
     let abstraction = p.abstraction;
@@ -196,16 +206,24 @@ fn section_ranked(p: Pair, lifted: &[u16], j: usize, table: &[u16]) -> bool
     let mut ranks = [machine::BLANK; PAIR_ROOM];
     rank_pairs(p, lifted, j, &mut ranks);
     for e in 0..pairs {
-        if rank_of(p, lifted, j, &ranks, e) != value_at(table, j * pairs + e) {
+        let rank = shown(exact, rank_of(p, lifted, j, &ranks, e));
+        if rank != shown(exact, value_at(table, j * pairs + e)) {
             return false;
         }
     }
     true
 }
 
-// Whether a table has the ranks of two well-formed machines, where the lifted table tells what is covered.
-pub fn is_ranked(p: Pair, lifted: &[u16], table: &[u16]) -> bool
-    ensures { λ r. ⌜ r ≡ tableRanked p (now (lifted .entry)) (now (table .entry)) ⌝ }
+// The ranks have to be exact.
+pub const RANKS: bool = true;
+
+// Only what has a rank counts: the family that a turn makes.
+pub const COVERED: bool = false;
+
+// Whether a table has the ranks of two well-formed machines, or covers the pairs that have one, where the lifted table tells what is covered. With the
+// table of any other family in its place these are the ranks over that family.
+pub fn is_ranked(p: Pair, exact: bool, lifted: &[u16], table: &[u16]) -> bool
+    ensures { λ r. ⌜ r ≡ tableRanked p exact (now (lifted .entry)) (now (table .entry)) ⌝ }
 {
     let abstraction = p.abstraction;
     let valid = validity(p);
@@ -213,7 +231,7 @@ pub fn is_ranked(p: Pair, lifted: &[u16], table: &[u16]) -> bool
         return false;
     }
     for j in 0..abstraction.sets {
-        if !section_ranked(p, lifted, j, table) {
+        if !section_ranked(p, exact, lifted, j, table) {
             return false;
         }
     }

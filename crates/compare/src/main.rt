@@ -1,4 +1,4 @@
-// Compares solver, check and player with brute force on series of small pairs, and writes a line of counts for each.
+// Compares solver, solver by turns, check and player with brute force on series of small pairs, and writes a line of counts for each.
 ghost use mathlib.Core.Bool.{true, false};
 ghost use mathlib.Core.Path.{_≡_};
 use brute::Shape;
@@ -27,6 +27,10 @@ fn counts(t: Tally) {
     show(b", beside an empty set ", t.empty);
     show(b"; lassos ", t.lassos);
     show(b", runs ", t.runs);
+    show(b"; turns ", t.turns);
+    show(b", finished ", t.finished);
+    show(b"; look-ups ", t.lookups);
+    show(b", still in ", t.held);
     show(b"; differing ", t.differing);
     io::write_all(STDOUT_FILENO, b"\n");
 }
@@ -75,26 +79,31 @@ fn numbers(count: u32, step: u32) -> Numbers
     Numbers { count, step }
 }
 
-// All tables of a tiny pair, and lassos with a stem of at most two states.
-fn every_table(tables: u64) -> Trial
-    ensures { λ r. ⌜ r ≡ record { every = true; tables = tables; stem = 2 } ⌝ }
+// All tables of a tiny pair, lassos with a stem of at most two states, and all families: each row is any set of abstract states and of one number past
+// them, a digit from 0 to `row`. After these come a few with a bit in every row past the sections and concrete states.
+fn every_table(tables: u64, families: u64, row: u32) -> Trial
+    ensures { λ r. ⌜ r ≡ record { every = true; tables = tables; stem = 2; families = families; row = row } ⌝ }
 {
     Trial {
         every: true,
         tables,
         stem: 2,
+        families,
+        row,
     }
 }
 
 // The solver's table, or the lifted one of a pair that the solver refuses, and all that differ from it in one entry, and lassos with a stem of at
 // most one state.
 fn altered_tables(tables: u64) -> Trial
-    ensures { λ r. ⌜ r ≡ record { every = false; tables = tables; stem = 1 } ⌝ }
+    ensures { λ r. ⌜ r ≡ record { every = false; tables = tables; stem = 1; families = 0; row = 0 } ⌝ }
 {
     Trial {
         every: false,
         tables,
         stem: 1,
+        families: 0,
+        row: 0,
     }
 }
 
@@ -110,9 +119,9 @@ fn under(hidden: u8, c: Shape, x: Numbers, a: Shape, y: Numbers, trial: Trial) {
     });
 }
 
-// Tiny pairs, with all the tables that they have.
-fn tiny(c: Shape, x: Numbers, a: Shape, y: Numbers, tables: u64) {
-    under(0, c, x, a, y, every_table(tables));
+// Tiny pairs, with all the tables and families that they have.
+fn tiny(c: Shape, x: Numbers, a: Shape, y: Numbers, trial: Trial) {
+    under(0, c, x, a, y, trial);
 }
 
 // Other pairs, with the solver's table, or the lifted one, and all that differ from it in one entry.
@@ -129,7 +138,7 @@ fn masked(hidden: u8) {
         numbers(16, 1),
         shape_with(2, 1, 3, 2),
         numbers(1024, 1),
-        every_table(25),
+        every_table(25, 16, 7),
     );
     under(
         hidden,
@@ -159,6 +168,8 @@ fn compare_rings(t: Tally, back: bool, entry: u32, c: Rings, a: Rings, tables: u
         every: false,
         tables,
         stem: 2,
+        families: 0,
+        row: 0,
     };
     comparison::add(t, comparison::compare_pair(p, trial))
 }
@@ -190,31 +201,61 @@ fn leading_back() -> Tally {
 fn main() {
     let all1 = numbers(16, 1);
     let all2 = numbers(1024, 1);
-    tiny(shape(1, 1, 1), all1, shape(1, 1, 1), all1, 4);
-    tiny(shape(1, 1, 1), all1, shape(2, 1, 3), all2, 25);
-    tiny(shape(2, 1, 3), all2, shape(1, 1, 1), all1, 25);
+    tiny(
+        shape(1, 1, 1),
+        all1,
+        shape(1, 1, 1),
+        all1,
+        every_table(4, 8, 3),
+    );
+    tiny(
+        shape(1, 1, 1),
+        all1,
+        shape(2, 1, 3),
+        all2,
+        every_table(25, 16, 7),
+    );
+    tiny(
+        shape(2, 1, 3),
+        all2,
+        shape(1, 1, 1),
+        all1,
+        every_table(25, 20, 3),
+    );
     tiny(
         shape(1, 2, 1),
         numbers(32, 1),
         shape(1, 3, 1),
         numbers(64, 1),
-        125,
+        every_table(125, 68, 3),
     );
-    tiny(shape(1, 1, 1), all1, shape(2, 2, 3), numbers(512, 7), 625);
-    tiny(shape(2, 2, 3), numbers(512, 7), shape(1, 1, 1), all1, 49);
+    tiny(
+        shape(1, 1, 1),
+        all1,
+        shape(2, 2, 3),
+        numbers(512, 7),
+        every_table(625, 72, 7),
+    );
+    tiny(
+        shape(2, 2, 3),
+        numbers(512, 7),
+        shape(1, 1, 1),
+        all1,
+        every_table(49, 20, 3),
+    );
     tiny(
         shape(2, 1, 3),
         numbers(32, 29),
         shape(2, 1, 3),
         numbers(32, 27),
-        2401,
+        every_table(2401, 72, 7),
     );
     tiny(
         shape(2, 2, 3),
         numbers(16, 235),
         shape(2, 1, 3),
         numbers(16, 59),
-        14641,
+        every_table(14641, 72, 7),
     );
     small(
         shape(2, 2, 3),

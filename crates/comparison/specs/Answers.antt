@@ -1,6 +1,6 @@
 -- Each answer as four numbers: a refusal's number and spot; 0 for Valid; 0 and two lengths for a run; 100 and the count for Carried; 200, c and
--- the count for NotCarried, both with 1 as the last number where a concrete set is empty. Refusals have numbers from 1 to 99, so the four numbers
--- tell answers apart.
+-- the count for NotCarried, both with 1 as the last number where a concrete set is empty; 0 and 1 or 0 for yes and no of a turn and a look-up.
+-- Refusals have numbers from 1 to 99, so the four numbers tell answers apart.
 use mathlib.Core.Bool.{Bool, cond}
 use lib.Dec.{eqb, leb}
 use Rattle.mask.specs.Logic.{and}
@@ -29,6 +29,17 @@ verdictFour v empty = fourOf (verdictNumbers empty) v
 
 abbrev pub playedFour : Result Played → Refusal
 playedFour v = fourOf playedNumbers v
+
+-- yes or no: a turn is finished, a pair is still in
+unfoldable pub answerNumbers : Bool → Refusal
+answerNumbers b = refusal 0 (cond b 1 0) 0 0
+
+abbrev pub answeredFour : Result Bool → Refusal
+answeredFour v = fourOf answerNumbers v
+
+-- the answer is yes
+unfoldable pub saysYes : Refusal → Bool
+saysYes x = and (eqb (x .number) 0) (eqb (x .first) 1)
 
 unfoldable pub sameFour : Refusal → Refusal → Bool
 sameFour x y = and (eqb (x .number) (y .number)) (and (eqb (x .first) (y .first)) (and (eqb (x .second) (y .second)) (eqb (x .third) (y .third))))

@@ -20,6 +20,7 @@ use Rattle.comparison.specs.Answers.{testedFour, sameFour}
 use Rattle.comparison.specs.Tallies.{nothing, plus, total, ofPair, ofSolution, ofUnsolved}
 use Rattle.comparison.specs.Tables.{zeros, within, tableTally, triedTable}
 use Rattle.comparison.specs.Lassos.{lassosTally}
+use Rattle.comparison.specs.Turns.{turnsTally, stoppedTally}
 
 -- the solver's table passes, and where every table was tried, it is Carried exactly if some table is
 unfoldable pub verdictFits : Tally → Bool → ℕ → Bool
@@ -28,7 +29,7 @@ verdictFits own every carrying =
 
 -- what is said of the solver's table S fits, and it covers what the lifted table L covers, and no more, and has the ranks
 unfoldable pub solutionAgrees : Pair → ℕ → Bool → List ℕ → List ℕ → Bool
-solutionAgrees p n fits L S = and fits (and (within n L S) (and (within n S L) (tableRanked p L S)))
+solutionAgrees p n fits L S = and fits (and (within n L S) (and (within n S L) (tableRanked p true L S)))
 
 -- the solver's table S of n entries beside the other algorithm's
 unfoldable pub solutionTally : Pair → ℕ → Bool → ℕ → List ℕ → Tally
@@ -55,8 +56,11 @@ module _ (t : Trial) where
   unfoldable pub pairTally : Pair → Tally
   pairTally p =
       let v = solveValidity p (length zeros) in
-      let tried = ofPair (sameFour (testedFour v) (testedFour (nonemptyValidity p))) in
-      plus tried (cond (isValid v) (formedTally p true (solvedTable p zeros)) (unsolvedTally p))
+      let rule = testedFour (nonemptyValidity p) in
+      let tried = ofPair (sameFour (testedFour v) rule) in
+      let S = solvedTable p zeros in
+      let solved = plus (plus tried (turnsTally p rule (t .row) (t .families) S)) (formedTally p true S) in
+      cond (isValid v) solved (plus (plus tried (stoppedTally p rule)) (unsolvedTally p))
 
 module _ (s : Series) where
   -- the pairs of concrete machine number x

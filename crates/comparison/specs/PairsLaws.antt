@@ -27,6 +27,7 @@ use Rattle.comparison.specs.declared.tally.Tally.{Tally}
 use Rattle.brute.specs.Lifting.{liftedTable}
 use Rattle.brute.specs.Ranking.{tableRanked}
 use Rattle.comparison.specs.Pairs.{verdictFits, solutionAgrees, solutionTally, tablesTally, formedTally, unsolvedTally, pairTally, rowTally, seriesTally}
+use Rattle.comparison.specs.Turns.{turnsTally, stoppedTally}
 use Rattle.comparison.specs.Tables.{zeros, within, tableTally, triedTable}
 use Rattle.comparison.specs.Tallies.{nothing, plus, total, ofPair, ofSolution, ofUnsolved}
 
@@ -64,7 +65,7 @@ module _ (p : Pair) (n : ℕ) (fits : Bool) (L S : List ℕ) where
       unfolding solutionAgrees
       agrees-less t = and-true-l _ f ∙ and-true-l _ w ∙ and-false-l _ t
 
-      pub agrees-ranked : within n S L ≡ true → solutionAgrees p n fits L S ≡ tableRanked p L S
+      pub agrees-ranked : within n S L ≡ true → solutionAgrees p n fits L S ≡ tableRanked p true L S
       unfolding solutionAgrees
       agrees-ranked t = and-true-l _ f ∙ and-true-l _ w ∙ and-true-l _ t
 
@@ -106,17 +107,21 @@ solved-well p n e = valid-is-well p (nonempty-at p (then-answer _ _ e .1) .0)
 -- a pair, with what the solver says, what the plain reading says, and the table S that the solver left
 module _ (t : Trial) (p : Pair) (v u : Tested) (x y : Refusal) (same : Bool) (tried : Tally) (ev : v ≡ solveValidity p (length zeros)) (eu : u ≡ nonemptyValidity p) (ex : x ≡ testedFour v)
     (ey : y ≡ testedFour u) (es : same ≡ sameFour x y) (et : tried ≡ ofPair same) where
-  pair-at : pairTally t p ≡ plus tried (cond (isValid v) (formedTally t p true (solvedTable p zeros)) (unsolvedTally t p))
+  pair-at : pairTally t p ≡ cond (isValid v)
+      (plus (plus tried (turnsTally p y (t .row) (t .families) (solvedTable p zeros))) (formedTally t p true (solvedTable p zeros)))
+      (plus (plus tried (stoppedTally p y)) (unsolvedTally t p))
   unfolding pairTally
   pair-at = rw (et, es, ey, ex, eu, ev)
 
-  pub pair-refused : (s : Refusal) → v ≡ refused s → (unsolved r : Tally) → unsolved ≡ unsolvedTally t p → r ≡ plus tried unsolved → r ≡ pairTally t p
+  pub pair-refused : (s : Refusal) → v ≡ refused s → (stopped first unsolved r : Tally) → stopped ≡ stoppedTally p y → first ≡ plus tried stopped
+      → unsolved ≡ unsolvedTally t p → r ≡ plus first unsolved → r ≡ pairTally t p
   unfolding isValid
-  pair-refused s e unsolved r eu er = rw (er, eu) (sym (pair-at ∙ rw e))
+  pair-refused s e stopped first unsolved r eo ef eu er = rw (er, eu, ef, eo) (sym (pair-at ∙ rw e))
 
-  pub pair-formed : v ≡ valid → (S : List ℕ) (formed r : Tally) → S ≡ solvedTable p zeros → formed ≡ formedTally t p true S → r ≡ plus tried formed → r ≡ pairTally t p
+  pub pair-formed : v ≡ valid → (S : List ℕ) (turns first formed r : Tally) → S ≡ solvedTable p zeros → turns ≡ turnsTally p y (t .row) (t .families) S
+      → first ≡ plus tried turns → formed ≡ formedTally t p true S → r ≡ plus first formed → r ≡ pairTally t p
   unfolding isValid
-  pair-formed e S formed r eS ef er = rw (er, ef, eS) (sym (pair-at ∙ rw e))
+  pair-formed e S turns first formed r eS eo ef eg er = rw (er, eg, ef, eo, eS) (sym (pair-at ∙ rw e))
 
 module _ (s : Series) where
   pub row-is : (x n : ℕ) (r : Tally) → n ≡ s .abstractions .count → r ≡ total n (λ i. pairTally (s .trial) (numberedPair (s .concrete) (s .abstraction) (s .hidden) x (i * s .abstractions .step))) → r ≡ rowTally s x

@@ -1,9 +1,10 @@
-// Solver, check and player beside their brute-force versions, on series of small pairs. What is compared is counted, and so is what differs.
+// Solver, solver by turns, check and player beside their brute-force versions, on series of small pairs. What is compared is counted, and so is what differs.
 mod answers;
 mod lassos;
 mod pairs;
 mod tables;
 mod tally;
+mod turns;
 
 pub use pairs::Numbers;
 pub use pairs::Series;

@@ -16,6 +16,8 @@ use crate::tally::none;
 use crate::tally::of_pair;
 use crate::tally::of_solution;
 use crate::tally::of_unsolved;
+use crate::turns::compare_stopped;
+use crate::turns::compare_turns;
 use brute::Shape;
 use machine::Pair;
 use machine::Validity;
@@ -27,11 +29,14 @@ pub struct Numbers {
 }
 
 // What is tried of a pair. Tables: the first `tables` of all tables, or of the solver's with one entry changed (of a pair that the solver refuses,
-// of the lifted one). Lassos: those with a stem of at most `stem` states.
+// of the lifted one). Lassos: those with a stem of at most `stem` states. Families, beside those from the first to the finish: the first `families`
+// of all whose rows are digits from 0 to `row`.
 pub struct Trial {
     pub every: bool,
     pub tables: u64,
     pub stem: usize,
+    pub families: u64,
+    pub row: u32,
 }
 
 // The pairs of some concrete and some abstract machines under a hidden mask, and what is tried of each.
@@ -75,7 +80,7 @@ fn solution_agrees(p: Pair, n: usize, fits: bool, lifted: &[u16], solved: &[u16]
     if !is_within(n, solved, lifted) {
         return false;
     }
-    brute::is_ranked(p, lifted, solved)
+    brute::is_ranked(p, brute::RANKS, lifted, solved)
 }
 
 // The solver's table of n entries beside the other algorithm's.
@@ -143,10 +148,14 @@ pub fn compare_pair(p: Pair, t: Trial) -> Tally
     let mut solved = [0u16; machine::TABLE_ROOM];
     let answer = solver::solve(p, &mut solved);
     let plain = brute::nonempty_validity(p);
-    let tried = of_pair(same_four(tested_four(answer), tested_four(plain)));
+    let rule = tested_four(plain);
+    let tried = of_pair(same_four(tested_four(answer), rule));
     match answer {
-        Validity::Refused(_) => add(tried, compare_unsolved(p, t)),
-        Validity::Valid => add(tried, compare_formed(p, t, true, &solved)),
+        Validity::Refused(_) => add(add(tried, compare_stopped(p, rule)), compare_unsolved(p, t)),
+        Validity::Valid => {
+            let turns = compare_turns(p, rule, t.row, t.families, &solved);
+            add(add(tried, turns), compare_formed(p, t, true, &solved))
+        }
     }
 }
 

@@ -1,7 +1,7 @@
 // Counts of what was compared. They are added modulo 2^64.
 ghost use mathlib.Core.Bool.{cond};
 ghost use mathlib.Core.Path.{_≡_};
-ghost use Rattle.comparison.specs.Tallies.{nothing, plus, ofPair, ofSolution, ofUnsolved, ofTable, ofLasso};
+ghost use Rattle.comparison.specs.Tallies.{nothing, plus, ofPair, ofSolution, ofUnsolved, ofTable, ofLasso, ofTest, ofTurn, ofLookUp};
 
 pub struct Tally {
     // pairs tried, those that are well formed, those that the solver takes, and of these those that its table carries
@@ -17,6 +17,11 @@ pub struct Tally {
     // lassos that were played, and those that gave a run
     pub lassos: u64,
     pub runs: u64,
+    // turns that were made, those that were finished, pairs that were looked up in a section, and those that were still in
+    pub turns: u64,
+    pub finished: u64,
+    pub lookups: u64,
+    pub held: u64,
     // comparisons that failed
     pub differing: u64,
 }
@@ -36,6 +41,10 @@ pub fn none() -> Tally
         empty: 0,
         lassos: 0,
         runs: 0,
+        turns: 0,
+        finished: 0,
+        lookups: 0,
+        held: 0,
         differing: 0,
     }
 }
@@ -109,6 +118,37 @@ pub fn of_lasso(runs: bool, agrees: bool) -> Tally
     t
 }
 
+// One comparison that has no count of its own.
+pub fn of_test(agrees: bool) -> Tally
+    ensures { λ r. ⌜ r ≡ ofTest agrees ⌝ }
+{
+    let mut t = none();
+    t.differing = one_unless(agrees);
+    t
+}
+
+// One turn.
+pub fn of_turn(finished: bool, agrees: bool) -> Tally
+    ensures { λ r. ⌜ r ≡ ofTurn finished agrees ⌝ }
+{
+    let mut t = none();
+    t.turns = 1;
+    t.finished = one_if(finished);
+    t.differing = one_unless(agrees);
+    t
+}
+
+// One look-up.
+pub fn of_look_up(held: bool, agrees: bool) -> Tally
+    ensures { λ r. ⌜ r ≡ ofLookUp held agrees ⌝ }
+{
+    let mut t = none();
+    t.lookups = 1;
+    t.held = one_if(held);
+    t.differing = one_unless(agrees);
+    t
+}
+
 // Both counts together.
 pub fn add(x: Tally, y: Tally) -> Tally
     ensures { λ r. ⌜ r ≡ plus x y ⌝ }
@@ -124,6 +164,10 @@ pub fn add(x: Tally, y: Tally) -> Tally
         empty: std::num::wrapping_add_u64(x.empty, y.empty),
         lassos: std::num::wrapping_add_u64(x.lassos, y.lassos),
         runs: std::num::wrapping_add_u64(x.runs, y.runs),
+        turns: std::num::wrapping_add_u64(x.turns, y.turns),
+        finished: std::num::wrapping_add_u64(x.finished, y.finished),
+        lookups: std::num::wrapping_add_u64(x.lookups, y.lookups),
+        held: std::num::wrapping_add_u64(x.held, y.held),
         differing: std::num::wrapping_add_u64(x.differing, y.differing),
     }
 }

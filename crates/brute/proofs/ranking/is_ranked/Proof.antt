@@ -15,10 +15,10 @@ use Rattle.brute.proofs.ranking.is_ranked.Statement.{statement}
 use Rattle.brute.proofs.ranking.is_ranked.Tie as tie
 
 abbrev Inv-loop : tie.InvT-loop
-Inv-loop p lifted table j₀ j-end j = (j ≤ j-end) × ((k : ℕ) → k < j → sectionRanked p lifted table k ≡ true)
+Inv-loop p exact lifted table j₀ j-end j = (j ≤ j-end) × ((k : ℕ) → k < j → sectionRanked p exact lifted table k ≡ true)
 
 abbrev μ-loop : tie.MeasureT-loop
-μ-loop p lifted table j₀ j-end j = j-end - j
+μ-loop p exact lifted table j₀ j-end j = j-end - j
 
 well : (c : tie.After-enum-told2 Inv-loop μ-loop) → wellFormed (c .before .before .before .before .before .before .args .p) ≡ true
 well c = valid-is-well _ (tested-valid (c .before .before .validity .ensures) (c .enum-told2 .given .1))
@@ -30,7 +30,7 @@ enum-told : tie.Need-enum-told Inv-loop μ-loop
 enum-told c = search needs
 
 returns : tie.Need-returns Inv-loop μ-loop
-returns c = let x = c .before .before .before .before .before .before .args in sym (table-ill (x .p) (x .lifted .now) (x .table .now) _ (tested-refused (c .before .before .validity .ensures) (c .enum-told .given .1)))
+returns c = let x = c .before .before .before .before .before .before .args in sym (table-ill (x .p) (x .exact) (x .lifted .now) (x .table .now) _ (tested-refused (c .before .before .validity .ensures) (c .enum-told .given .1)))
 
 enum-told-2 : tie.Need-enum-told-2 Inv-loop μ-loop
 enum-told-2 c = search needs
@@ -44,7 +44,7 @@ section-ranked-requires c κs = (well (c .before .before), c .loop-test .taken)
 returns-2 : tie.Need-returns-2 Inv-loop μ-loop
 returns-2 c =
     let x = c .before .before .before .before .before .before .before .before .before .before .args in
-    sym (table-not (x .p) (x .lifted .now) (x .table .now) (c .before .before .before .loop .j) (c .before .before .loop-test .taken) (sym (c .before .section-ranked .ensures) ∙ not-true _ (c .if1 .taken)))
+    sym (table-not (x .p) (x .exact) (x .lifted .now) (x .table .now) (c .before .before .before .loop .j) (c .before .before .loop-test .taken) (sym (c .before .section-ranked .ensures) ∙ not-true _ (c .if1 .taken)))
 
 add-j : tie.Need-add-j Inv-loop μ-loop
 add-j c = search needs
@@ -58,7 +58,7 @@ loop-again c = (search needs, below-more _ _ (c .before .before .before .loop .i
 returns-3 : tie.Need-returns-3 Inv-loop μ-loop
 returns-3 c =
     let x = c .before .before .before .before .before .before .before .before .args in
-    sym (table-all (x .p) (x .lifted .now) (x .table .now) (well (c .before .before)) (λ k h. c .before .loop .inv .1 k (omega arith)))
+    sym (table-all (x .p) (x .exact) (x .lifted .now) (x .table .now) (well (c .before .before)) (λ k h. c .before .loop .inv .1 k (omega arith)))
 
 pub is-ranked-spec : {M : Type 1} → statement M
 is-ranked-spec =

@@ -1,10 +1,15 @@
 -- Where the solver refuses nothing the pair is well formed; what is counted further is added.
-use mathlib.Core.Path.{refl}
-use Rattle.machine.specs.RefusalsLaws.{tested-refused, tested-valid}
-use Rattle.comparison.specs.PairsLaws.{solved-well, pair-refused, pair-formed}
+use mathlib.Core.Bool.{true}
+use mathlib.Core.Path.{_≡_, refl}
 use borrow.Author.Needs.{needs}
+use Rattle.machine.specs.RefusalsLaws.{tested-refused, tested-valid}
+use Rattle.machine.specs.WellFormed.{wellFormed}
+use Rattle.comparison.specs.PairsLaws.{solved-well, pair-refused, pair-formed}
 use Rattle.comparison.proofs.pairs.compare_pair.Statement.{statement}
 use Rattle.comparison.proofs.pairs.compare_pair.Tie as tie
+
+well : (c : tie.After-enum-told2) → wellFormed (c .before .before .before .before .before .before .before .before .before .before .args .p) ≡ true
+well c = solved-well _ _ (tested-valid (c .before .before .before .before .before .before .before .before .solve .ensures .0) (c .enum-told2 .given .1))
 
 slice-aggregate-solve : tie.Need-slice-aggregate-solve
 slice-aggregate-solve c = search needs
@@ -30,49 +35,52 @@ of-pair-requires c κs = search needs
 enum-told : tie.Need-enum-told
 enum-told c = search needs
 
-compare-unsolved-requires : tie.Need-compare-unsolved-requires
-compare-unsolved-requires c κs = search needs
+compare-stopped-requires : tie.Need-compare-stopped-requires
+compare-stopped-requires c κs = search needs
 
 add-requires : tie.Need-add-requires
 add-requires c κs = search needs
 
+compare-unsolved-requires : tie.Need-compare-unsolved-requires
+compare-unsolved-requires c κs = search needs
+
+add-requires-2 : tie.Need-add-requires-2
+add-requires-2 c κs = search needs
+
 enum-told-2 : tie.Need-enum-told-2
 enum-told-2 c = search needs
+
+slice-aggregate-compare-turns : tie.Need-slice-aggregate-compare-turns
+slice-aggregate-compare-turns c = search needs
+
+compare-turns-requires : tie.Need-compare-turns-requires
+compare-turns-requires c κs = well (c .before)
+
+add-requires-3 : tie.Need-add-requires-3
+add-requires-3 c κs = search needs
 
 slice-aggregate-compare-formed : tie.Need-slice-aggregate-compare-formed
 slice-aggregate-compare-formed c = search needs
 
 compare-formed-requires : tie.Need-compare-formed-requires
-compare-formed-requires c κs =
-    let told = c .before in
-    solved-well _ _ (tested-valid (told .before .before .before .before .before .before .before .before .solve .ensures .0) (told .enum-told2 .given .1))
+compare-formed-requires c κs = well (c .before .before .before .before)
 
-add-requires-2 : tie.Need-add-requires-2
-add-requires-2 c κs = search needs
+add-requires-4 : tie.Need-add-requires-4
+add-requires-4 c κs = search needs
 
 returns : tie.Need-returns
 returns c =
-    let told = c .before .before in
+    let told = c .before .before .before .before in
     let tried = told .before .before in
-    let same = tried .before in
-    let plain = same .before in
-    let answer = plain .before in
-    let rule = answer .before in
-    let solved = rule .before .before in
-    pair-refused _ _ _ _ _ _ _ _ (solved .solve .ensures .0) (rule .nonempty-validity .ensures) (answer .tested-four .ensures) (plain .tested-four2 .ensures) (same .same-four .ensures)
-    (tried .of-pair .ensures) _ (tested-refused refl (told .enum-told .given .1)) _ _ (c .before .compare-unsolved .ensures) (c .add .ensures)
+    pair-refused _ _ _ _ _ _ _ _ (tried .before .before .before .before .before .before .solve .ensures .0) (tried .before .before .before .before .nonempty-validity .ensures) (tried .before .before .tested-four2 .ensures) (tried .before .before .before .tested-four .ensures) (tried .before .same-four .ensures)
+    (tried .of-pair .ensures) _ (tested-refused refl (told .enum-told .given .1)) _ _ _ _ (c .before .before .before .compare-stopped .ensures) (c .before .before .add .ensures) (c .before .compare-unsolved .ensures) (c .add2 .ensures)
 
 returns-2 : tie.Need-returns-2
 returns-2 c =
-    let told = c .before .before .before in
+    let told = c .before .before .before .before .before .before in
     let tried = told .before .before in
-    let same = tried .before in
-    let plain = same .before in
-    let answer = plain .before in
-    let rule = answer .before in
-    let solved = rule .before .before in
-    pair-formed _ _ _ _ _ _ _ _ (solved .solve .ensures .0) (rule .nonempty-validity .ensures) (answer .tested-four .ensures) (plain .tested-four2 .ensures) (same .same-four .ensures)
-    (tried .of-pair .ensures) (tested-valid refl (told .enum-told2 .given .1)) _ _ _ (solved .solve .ensures .1) (c .before .compare-formed .ensures) (c .add2 .ensures)
+    pair-formed _ _ _ _ _ _ _ _ (tried .before .before .before .before .before .before .solve .ensures .0) (tried .before .before .before .before .nonempty-validity .ensures) (tried .before .before .tested-four2 .ensures) (tried .before .before .before .tested-four .ensures) (tried .before .same-four .ensures)
+    (tried .of-pair .ensures) (tested-valid refl (told .enum-told2 .given .1)) _ _ _ _ _ (tried .before .before .before .before .before .before .solve .ensures .1) (c .before .before .before .before .compare-turns .ensures) (c .before .before .before .add3 .ensures) (c .before .compare-formed .ensures) (c .add4 .ensures)
 
 pub compare-pair-spec : {M : Type 1} → statement M
 compare-pair-spec =
@@ -86,11 +94,16 @@ compare-pair-spec =
     same-four-requires
     of-pair-requires
     enum-told
-    compare-unsolved-requires
+    compare-stopped-requires
     add-requires
+    compare-unsolved-requires
+    add-requires-2
     enum-told-2
+    slice-aggregate-compare-turns
+    compare-turns-requires
+    add-requires-3
     slice-aggregate-compare-formed
     compare-formed-requires
-    add-requires-2
+    add-requires-4
     returns
     returns-2)

@@ -37,21 +37,37 @@ wrapping-add-u64-requires-10 c κs = search needs
 wrapping-add-u64-requires-11 : tie.Need-wrapping-add-u64-requires-11
 wrapping-add-u64-requires-11 c κs = search needs
 
+wrapping-add-u64-requires-12 : tie.Need-wrapping-add-u64-requires-12
+wrapping-add-u64-requires-12 c κs = search needs
+
+wrapping-add-u64-requires-13 : tie.Need-wrapping-add-u64-requires-13
+wrapping-add-u64-requires-13 c κs = search needs
+
+wrapping-add-u64-requires-14 : tie.Need-wrapping-add-u64-requires-14
+wrapping-add-u64-requires-14 c κs = search needs
+
+wrapping-add-u64-requires-15 : tie.Need-wrapping-add-u64-requires-15
+wrapping-add-u64-requires-15 c κs = search needs
+
 returns : tie.Need-returns
 unfolding plus sum64
 returns c =
     rw (
-      c .before .before .before .before .before .before .before .before .before .before .wrapping-add-u64 .ensures,
-      c .before .before .before .before .before .before .before .before .before .wrapping-add-u642 .ensures,
-      c .before .before .before .before .before .before .before .before .wrapping-add-u643 .ensures,
-      c .before .before .before .before .before .before .before .wrapping-add-u644 .ensures,
-      c .before .before .before .before .before .before .wrapping-add-u645 .ensures,
-      c .before .before .before .before .before .wrapping-add-u646 .ensures,
-      c .before .before .before .before .wrapping-add-u647 .ensures,
-      c .before .before .before .wrapping-add-u648 .ensures,
-      c .before .before .wrapping-add-u649 .ensures,
-      c .before .wrapping-add-u6410 .ensures,
-      c .wrapping-add-u6411 .ensures,
+      c .before .before .before .before .before .before .before .before .before .before .before .before .before .before .wrapping-add-u64 .ensures,
+      c .before .before .before .before .before .before .before .before .before .before .before .before .before .wrapping-add-u642 .ensures,
+      c .before .before .before .before .before .before .before .before .before .before .before .before .wrapping-add-u643 .ensures,
+      c .before .before .before .before .before .before .before .before .before .before .before .wrapping-add-u644 .ensures,
+      c .before .before .before .before .before .before .before .before .before .before .wrapping-add-u645 .ensures,
+      c .before .before .before .before .before .before .before .before .before .wrapping-add-u646 .ensures,
+      c .before .before .before .before .before .before .before .before .wrapping-add-u647 .ensures,
+      c .before .before .before .before .before .before .before .wrapping-add-u648 .ensures,
+      c .before .before .before .before .before .before .wrapping-add-u649 .ensures,
+      c .before .before .before .before .before .wrapping-add-u6410 .ensures,
+      c .before .before .before .before .wrapping-add-u6411 .ensures,
+      c .before .before .before .wrapping-add-u6412 .ensures,
+      c .before .before .wrapping-add-u6413 .ensures,
+      c .before .wrapping-add-u6414 .ensures,
+      c .wrapping-add-u6415 .ensures,
     )
 
 pub add-spec : {M : Type 1} → statement M
@@ -69,4 +85,8 @@ add-spec =
     wrapping-add-u64-requires-9
     wrapping-add-u64-requires-10
     wrapping-add-u64-requires-11
+    wrapping-add-u64-requires-12
+    wrapping-add-u64-requires-13
+    wrapping-add-u64-requires-14
+    wrapping-add-u64-requires-15
     returns)
