@@ -1,20 +1,21 @@
 #!/bin/sh
 # Builds the programs in C from the archives. Holds `console` to the number of each sample and of damaged copies, `restore` to the samples whose
-# table is the solver's and to what `shelf` says of a hard show and of altered ones, `play` to runs and refusals, and all of them and the programs
-# for the shell to the refusals of badly joined copies and to shows with an empty set. Looks for divide instructions in the archives that have the check.
+# table is the solver's and to what `shelf` says of a hard show and of altered ones, `play` to runs and refusals, `watch` and the program `turns` to
+# each other and to stored turns, and all of them and the programs for the shell to the refusals of badly joined copies and to shows with an empty set. Looks for divide instructions in the archives that have the check.
 set -eu
 cd "$(dirname "$0")/.."
 work=$(mktemp -d)
 trap 'rm -rf "$work"' EXIT
 # all at once first, since crates that do not depend on each other are proved side by side
-rt check console restore playback shelf solve play >"$work/log" 2>&1 || { tail -n 20 "$work/log"; exit 1; }
-for name in console restore playback; do
+rt check console restore playback watch shelf solve turns play >"$work/log" 2>&1 || { tail -n 20 "$work/log"; exit 1; }
+for name in console restore playback watch; do
     rt staticlib "$name" >"$work/log" 2>&1 || { tail -n 20 "$work/log"; exit 1; }
 done
 flags='-std=c11 -O2 -Wall -Wextra -Werror'
 cc $flags -o "$work/console" clients/console.c target/staticlib/libconsole.a
 cc $flags -o "$work/restore" clients/restore.c target/staticlib/librestore.a target/staticlib/libconsole.a
 cc $flags -o "$work/playback" clients/playback.c target/staticlib/libplayback.a
+cc $flags -o "$work/watch" clients/watch.c target/staticlib/libwatch.a target/staticlib/librestore.a
 
 failed=0
 tried=0
@@ -37,6 +38,12 @@ plays() {
     line=$1
     shift
     same "play $*" "$line" "$("$work/playback" "$@")"
+}
+# watches LINE FILE ..: the client, which finds what it lent as it should be
+watches() {
+    line=$1
+    shift
+    same "watch $*" "$line" "$("$work/watch" "$@")"
 }
 # from NAME SAMPLE: a copy to damage
 from() {
@@ -115,6 +122,9 @@ stopped() {
     plays "$line" "$file" / 0
     same "solve $file" "$line" "$(target/bin/solve <"$file" 2>&1)"
     same "program play $file" "$line" "$(target/bin/play / 0 <"$file")"
+    same "turns $file" "$line" "$(target/bin/turns <"$file")"
+    watches "$line" "$file"
+    watches "$line" "$file" 28672
 }
 from exchanged large; block 2 large 5; block 5 large 2; stopped 19 2 5
 from first-last large; block 0 large 115; block 115 large 0; stopped 19 0 115
@@ -188,6 +198,10 @@ unsolved() {
     [ ! -s "$work/out" ] || { echo "solve $4: a refusal wrote a file"; failed=1; }
     same "shelf $4" "$2" "$(target/bin/shelf <"$4")"
     plays "$3" "$4" / 0
+    same "turns $4" "$1" "$(target/bin/turns <"$4")"
+    watches "$1" "$4"
+    watches "$1" "$4" 28672
+    watches "$1" "$4" 0 9 0 0
 }
 unsolved 'refused 21 1 1 0' 'not carried 0 0' 'refused 16 0 0 0' samples/case-02.dom
 unsolved 'refused 21 0 1 0' 'carried 1' 'refused 15 1 0 0' samples/case-03.dom
@@ -218,6 +232,52 @@ plays 'refused 15 1 0 0' samples/large.dom / 0
 plays 'refused 16 0 0 0' samples/case-11.dom 0 1 / 2
 plays 'refused 7 3 0 0' "$work/later" / 0
 plays 'no table' samples/lost.dom / 0
+
+# the solver by turns: the program's lines, which the client gets by looking every pair up
+# turned LINES FILE
+turned() {
+    same "turns $2" "$1" "$(target/bin/turns <"$2")"
+    watches "$1
+solve_file's table" "$2"
+}
+turned "$(cat crates/turns/stdout)" samples/falling.dom
+turned 'turn 1 3
+turn 2 2
+turn 3 2
+finished 3' samples/case-11.dom
+turned 'turn 1 0
+finished 1' samples/case-04.dom
+for name in lost case-05 case-07; do turned 'turn 1 2
+finished 1' "samples/$name.dom"; done
+turned 'turn 1 512 512 512 512 512 512 512
+finished 1' samples/large.dom
+# 37 turns: how many lines, the first, the last two and a checksum
+target/bin/turns <samples/hard.dom >"$work/turns"
+same 'turns hard, lines' 38 "$(wc -l <"$work/turns" | tr -d ' ')"
+same 'turns hard, first' 'turn 1 112 112 112 112 112 112 112' "$(head -n 1 "$work/turns")"
+same 'turns hard, last' 'turn 37 77 77 77 77 77 77 77
+finished 37' "$(tail -n 2 "$work/turns")"
+same 'turns hard, sum' '2396281974 1167' "$(cksum <"$work/turns")"
+turned "$(cat "$work/turns")" samples/hard.dom
+# a pair that turn 3 strikes out, one that turn 5 does, and one that stays, in between and after the finish
+watches 'still in' samples/falling.dom 0 1 0 2
+watches 'still in' samples/falling.dom 2 1 0 2
+for turns in 3 6 9; do watches 'struck out' samples/falling.dom $turns 1 0 2; done
+watches 'still in' samples/falling.dom 4 1 0 3
+watches 'struck out' samples/falling.dom 5 1 0 3
+watches 'still in' samples/falling.dom 9 2 1 0
+# full masks have stray bits, which count as struck out
+watches 'turn 1 10 12' samples/falling.dom 28672
+# 1 before the file is looked at; then the reader's refusals, 21 and last 20
+watches 'refused 1 0 0 0' samples/falling.dom 28671
+watches 'refused 1 0 0 0' "$work/later" 0
+watches 'refused 7 3 0 0' "$work/later" 28672
+watches 'refused 7 3 0 0' "$work/later" 0 9 9 9
+for spot in '0 0 0' '3 0 0' '1 3 0' '2 0 4' '18446744073709551615 0 0' '1 18446744073709551615 0' '1 0 64'; do
+    watches 'refused 20 0 0 0' samples/falling.dom 0 $spot
+done
+same 'turns longer' 'refused 6 0 0 0' "$(target/bin/turns <"$work/longer")"
+same 'turns empty' 'refused 2 0 0 0' "$(target/bin/turns <"$work/empty")"
 
 [ "$failed" = 0 ] || exit 1
 echo "clients/check.sh: $tried calls, each as expected"

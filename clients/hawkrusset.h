@@ -22,6 +22,16 @@
 /* The bytes that play_file's buffer must have. */
 #define HAWKRUSSET_RUN_ROOM 28672u
 
+/* The masks of a family of the solver by turns, and the entries that turn_file's table must have. */
+#define HAWKRUSSET_FAMILY 448u
+#define HAWKRUSSET_TABLE 28672u
+
+/* The answers of turn_file and of look_up_file that are no refusal. */
+#define HAWKRUSSET_UNFINISHED 1u
+#define HAWKRUSSET_FINISHED 2u
+#define HAWKRUSSET_STRUCK_OUT 1u
+#define HAWKRUSSET_STILL_IN 2u
+
 /*
  * What is said of the file whose bytes these are, as one number:
  *   100       its table passes, and each start state of the rig has a partner;
@@ -61,5 +71,27 @@ size_t solve_file(const uint8_t *bytes, size_t length, uint8_t *out, size_t room
  */
 uint64_t play_file(const uint8_t *bytes, size_t length, const uint8_t *stem, size_t stem_length, const uint8_t *loop, size_t loop_length,
                    uint8_t *run, size_t room, uint64_t spot[4]);
+
+/*
+ * The solver by turns, for a program that goes on between turns. It keeps the family, the sets of pairs that are still in, one for each section:
+ * bit a of family[64 * (section - 1) + c] is the pair of the rig's state c and the score's state a. All three calls are handed the same show's
+ * bytes, and read its machines each time; whether the file has a table makes no difference.
+ *   first_family_file   makes the first family, all matched pairs in every section: 1.
+ *   turn_file           makes every section's set afresh from the family that the turn before left: 1, or 2 if the turn changed nothing. Then it is
+ *                       finished, and only then writes the table, solve_file's: its n x nC x nA entries stand at the start of `table`, and those
+ *                       after them are unchanged. That is so after at most n x nC x nA + 1 turns; a further turn says 2 again and writes the same.
+ *   look_up_file        looks up a pair in a section, counted from 1: 1 if it is struck out, which is final, 2 if it is still in.
+ * Or the answer is 0: then `family` and `table` are unchanged, and `spot` has the refusal's number and the three numbers of its spot; else `spot` is
+ * unchanged. The numbers are 1 for a `table` of fewer than 28,672 entries, told before the file is looked at, those of the reader, 21 for a fairness
+ * set without a state, and last 20 for a look-up whose section or state is out of range. What is written must not overlap the rest.
+ * A family of other origin is no error: of it turn and look-up see the matched pairs of the machines, and a turn gives what its rule gives.
+ * They take at most 72,000, 155,000 and 75,000 bytes of stack. libwatch.a has them (rt staticlib watch).
+ */
+uint32_t first_family_file(const uint8_t *bytes, size_t length, uint64_t family[HAWKRUSSET_FAMILY], uint64_t spot[4]);
+
+uint32_t turn_file(const uint8_t *bytes, size_t length, uint64_t family[HAWKRUSSET_FAMILY], uint16_t *table, size_t entries, uint64_t spot[4]);
+
+uint32_t look_up_file(const uint8_t *bytes, size_t length, const uint64_t family[HAWKRUSSET_FAMILY], size_t section, size_t c, size_t a,
+                      uint64_t spot[4]);
 
 #endif

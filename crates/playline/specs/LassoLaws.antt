@@ -183,10 +183,6 @@ decimal-is (suc k) n h b =
 pub byte-decimal : (s : ℕ) → s < 256 → Decimal 3 s (decimal s)
 byte-decimal s h = decimal-is 2 s (omega arith) (omega arith)
 
-pub decimal-length : {k n : ℕ} {ds : List ℕ} → Decimal k n ds → length ds ≤ k
-decimal-length (one-digit l) = omega arith
-decimal-length (digit-more {n = n} {ds = ds} d) = omega (arith, decimal-length d, length-append ds ((48 + n % 10) ∷ []))
-
 -- ---- plain bytes around a stroke
 pub data Plain : List ℕ → Type 0 where
   none : Plain []

@@ -7,10 +7,7 @@ use native.Mathlib.Numerals.{add-one}
 use native.Mathlib.Omega.{arith}
 use lib.ListN.{length, getD, take, drop, set, length-append, length-drop, replicate, drop-of-length-le}
 use lib.Seq.{sets, length-sets, take-all}
-use Rattle.text.specs.declared.Digits.{Digits}
 use Rattle.text.specs.Decimal.{decimal}
-use Rattle.text.specs.Answers.{digitsFor}
-use Rattle.text.specs.DigitsLaws.{digits-word}
 use Rattle.codec.specs.ListLaws.{sets-then}
 use Rattle.machine.specs.declared.Refusal.{Refusal}
 use Rattle.machine.specs.Lassos.{Lasso, given}
@@ -22,15 +19,6 @@ use Rattle.playback.specs.Playing.{fileRun, fileRunBuffer, runOutcomeOf}
 use Rattle.playline.specs.Lasso.{numbersIn, strokeAt, readable, lassoIn, statesText, lassoText}
 use Rattle.playline.specs.LassoLaws.{drop-next}
 use Rattle.playline.specs.Line.{runLine, runOutcomeLine, usageLine, playLine}
-
--- ---- a state
--- its digits, as they were made
-module _ (s : ℕ) (d : Digits) (made : d ≡ digitsFor s) where
-  pub state-bytes : (out after : List ℕ) (at : ℕ) → after ≡ sets (set out at 32) (at + 1) (take (20 - d .start) (drop (d .start) (d .bytes)))
-      → after ≡ sets out at (32 ∷ decimal s)
-  state-bytes out after at e =
-      e ∙ ap (sets (set out at 32) (at + 1)) (digits-word s d made)
-      ∙ ap (λ (k : ℕ). sets (set out at 32) k (decimal s)) (add-one at)
 
 -- ---- states
 -- the states left, written at `place`, give the answer and its end; four bytes are left for each state that was written

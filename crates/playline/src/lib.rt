@@ -144,12 +144,9 @@ fn put_state(out: &mut [u8], at: usize, s: u8) -> usize
     ensures room { λ r. ⌜ r ≤ at + 4 ⌝ }
     ensures bytes { λ _. ⌜ now (out .exit) ≡ sets (now (out .entry)) at (32 ∷ decimal s) ⌝ }
 {
-    let digits = text::digits_of(s as usize);
-    let bytes = digits.bytes;
-    let start = digits.start;
     out[at] = b' ';
-    text::put(out, at + 1, &bytes[start..]);
-    at + (21 - start)
+    let start = at + 1;
+    start + text::put_number(out, start, s as usize)
 }
 
 // Writes the states from a place on, a blank before each, and gives the place behind them.

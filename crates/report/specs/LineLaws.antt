@@ -6,10 +6,6 @@ use native.Mathlib.Nat.{sub-zero, zero-sub}
 use native.Mathlib.Omega.{arith}
 use lib.ListN.{length, take, drop, set, replicate, length-append, length-replicate}
 use lib.Seq.{sets, sets-eq, take-append-seam, drop-append-add}
-use Rattle.text.specs.declared.Digits.{Digits}
-use Rattle.text.specs.Decimal.{decimal}
-use Rattle.text.specs.Answers.{digitsFor}
-use Rattle.text.specs.DigitsLaws.{digits-place, digits-word}
 use Rattle.report.specs.declared.Line.{Line}
 use Rattle.report.specs.Answers.{lineOf}
 
@@ -39,7 +35,7 @@ unfolding lineOf
 started-line w t h e = line-is w t (length w) (e ∙ grown-text [] w (omega arith)) refl
 
 -- digits put behind a line's text, and a byte behind them
-more-line : (line : Line) (s t ds : List ℕ) (k after : ℕ) → line .length + k + 1 ≤ 128 → k ≡ length ds → line ≡ lineOf s → t ≡ sets (line .text) (line .length) ds
+pub more-line : (line : Line) (s t ds : List ℕ) (k after : ℕ) → line .length + k + 1 ≤ 128 → k ≡ length ds → line ≡ lineOf s → t ≡ sets (line .text) (line .length) ds
     → _≡_ {A = Line} (record { text = set t (line .length + k) after; length = line .length + k + 1 }) (lineOf (s ++ (ds ++ (after ∷ []))))
 unfolding lineOf
 more-line line s t ds k after h len e f =
@@ -52,14 +48,6 @@ more-line line s t ds k after h len e f =
     ∙ grown-text (s ++ ds) (after ∷ []) (omega (arith, end)) in
     line-is (s ++ (ds ++ (after ∷ []))) _ _ (second ∙ ap (λ (l : List ℕ). lineOf l .text) (append-assoc s ds (after ∷ [])))
     (omega (arith, at, len, length-append s (ds ++ (after ∷ [])), length-append ds (after ∷ [])))
-
-module _ (n : ℕ) (d : Digits) (made : d ≡ digitsFor n) where
-  pub numbered-line : (line : Line) (s t : List ℕ) (after : ℕ) → line .length + 21 ≤ 128 → line ≡ lineOf s
-      → t ≡ sets (line .text) (line .length) (take (20 - d .start) (drop (d .start) (d .bytes)))
-      → _≡_ {A = Line} (record { text = set t (line .length + (20 - d .start)) after; length = line .length + (20 - d .start) + 1 }) (lineOf (s ++ (decimal n ++ (after ∷ []))))
-  numbered-line line s t after h e f =
-      more-line line s t (decimal n) (20 - d .start) after (omega arith) (omega (arith, digits-place n d made)) e
-      (f ∙ ap (sets (line .text) (line .length)) (digits-word n d made))
 
 -- a line lies within its array
 pub line-within : (s : List ℕ) (l : Line) → l ≡ lineOf s → l .length ≤ length (l .text)

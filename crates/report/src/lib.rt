@@ -38,11 +38,7 @@ fn numbered(line: Line, n: usize, after: u8) -> Line
 {
     let mut text = line.text;
     let at = line.length;
-    let digits = text::digits_of(n);
-    let bytes = digits.bytes;
-    let start = digits.start;
-    text::put(&mut text, at, &bytes[start..]);
-    let end = at + (20 - start);
+    let end = at + text::put_number(&mut text, at, n);
     text[end] = after;
     Line {
         text,

@@ -58,6 +58,14 @@ pub decimal-most : (n : ℕ) → length (decimal n) ≤ 20
 unfolding decimal
 decimal-most n = upTo-most 20 n
 
+-- and no more than a bound below a power of ten tells
+pub decimal-short : (k n : ℕ) → n < 10 ^ suc k → n < 10 ^ 20 → length (decimal n) ≤ suc k
+decimal-short zero n h b = omega (arith, ap length (decimal-one n (omega arith)))
+decimal-short (suc k) n h b =
+    by-cases (decLt n 10)
+    (λ l. omega (arith, ap length (decimal-one n l)))
+    (λ l. omega (arith, decimal-short k (n / 10) (omega arith) (omega arith), simp length-append at (ap length (decimal-more n (omega arith) b))))
+
 -- ---- the number again
 value-more : (v : ℕ) (ds : List ℕ) (d : ℕ) → valueFrom v (ds ++ (d ∷ [])) ≡ valueFrom v ds * 10 + (d - 48)
 unfolding valueFrom

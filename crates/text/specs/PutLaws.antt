@@ -33,3 +33,7 @@ module _ {out₀ : List ℕ} {at : ℕ} {word out : List ℕ} {to i : ℕ} (p : 
 
   pub put-done : length word ≤ i → out ≡ sets out₀ at word
   put-done h = ap (sets out to) (sym (drop-of-length-le word h)) ∙ p .answer
+
+-- a byte, and a word put behind it
+pub byte-word : (out after word : List ℕ) (at b : ℕ) → after ≡ sets (set out at b) (at + 1) word → after ≡ sets out at (b ∷ word)
+byte-word out after word at b e = e ∙ ap (λ (k : ℕ). sets (set out at b) k word) (add-one at)

@@ -1,6 +1,8 @@
 // Text: the decimal digits of a number, and bytes put at a place of a lent buffer.
 ghost use mathlib.Core.Path.{_≡_};
+ghost use lib.ListN.{length};
 ghost use lib.Seq.{sets};
+ghost use Rattle.text.specs.Decimal.{decimal};
 ghost use Rattle.text.specs.Answers.{digitsFor};
 
 // The decimal digits of a number, which stand at the end of `bytes`, from `start` on; before them are zeros.
@@ -39,4 +41,16 @@ pub fn put(out: &mut [u8], at: usize, word: &[u8])
         to += 1;
         i += 1;
     }
+}
+
+// Puts the decimal digits of n in the same way, and gives how many they are.
+pub fn put_number(out: &mut [u8], at: usize, n: usize) -> usize
+    ensures count { λ r. ⌜ r ≡ length (decimal n) ⌝ }
+    ensures bytes { λ _. ⌜ now (out .exit) ≡ sets (now (out .entry)) at (decimal n) ⌝ }
+{
+    let digits = digits_of(n);
+    let bytes = digits.bytes;
+    let start = digits.start;
+    put(out, at, &bytes[start..]);
+    20 - start
 }

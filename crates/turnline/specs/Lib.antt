@@ -1,0 +1,5 @@
+-- definitions
+pub mod Lines
+-- laws
+pub mod CountLaws
+pub mod LinesLaws
