@@ -91,7 +91,7 @@ for n in 01 03 05 06 10 12; do expect 100 "samples/case-$n.dom"; done
 for n in 02 04 09 11; do expect 200 "samples/case-$n.dom"; done
 for n in 07 08; do expect 12 "samples/case-$n.dom"; done
 for name in large lamp choice stay; do expect 100 "samples/$name.dom"; done
-for name in lost hard; do expect 101 "samples/$name.dom"; done
+for name in lost hard falling; do expect 101 "samples/$name.dom"; done
 
 # each refusal of the reader
 : >"$work/empty"; expect 2 "$work/empty"
@@ -201,7 +201,7 @@ unsolved() {
     same "turns $4" "$1" "$(target/bin/turns <"$4")"
     watches "$1" "$4"
     watches "$1" "$4" 28672
-    watches "$1" "$4" 0 9 0 0
+    watches "$1" "$4" 9 0 0
 }
 unsolved 'refused 21 1 1 0' 'not carried 0 0' 'refused 16 0 0 0' samples/case-02.dom
 unsolved 'refused 21 0 1 0' 'carried 1' 'refused 15 1 0 0' samples/case-03.dom
@@ -268,11 +268,13 @@ watches 'struck out' samples/falling.dom 5 1 0 3
 watches 'still in' samples/falling.dom 9 2 1 0
 # full masks have stray bits, which count as struck out
 watches 'turn 1 10 12' samples/falling.dom 28672
+watches 'struck out' samples/case-04.dom 1 0 0
+watches 'still in' samples/case-05.dom 1 0 0
 # 1 before the file is looked at; then the reader's refusals, 21 and last 20
 watches 'refused 1 0 0 0' samples/falling.dom 28671
 watches 'refused 1 0 0 0' "$work/later" 0
 watches 'refused 7 3 0 0' "$work/later" 28672
-watches 'refused 7 3 0 0' "$work/later" 0 9 9 9
+watches 'refused 7 3 0 0' "$work/later" 9 9 9
 for spot in '0 0 0' '3 0 0' '1 3 0' '2 0 4' '18446744073709551615 0 0' '1 18446744073709551615 0' '1 0 64'; do
     watches 'refused 20 0 0 0' samples/falling.dom 0 $spot
 done

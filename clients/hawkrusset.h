@@ -84,7 +84,8 @@ uint64_t play_file(const uint8_t *bytes, size_t length, const uint8_t *stem, siz
  * Or the answer is 0: then `family` and `table` are unchanged, and `spot` has the refusal's number and the three numbers of its spot; else `spot` is
  * unchanged. The numbers are 1 for a `table` of fewer than 28,672 entries, told before the file is looked at, those of the reader, 21 for a fairness
  * set without a state, and last 20 for a look-up whose section or state is out of range. What is written must not overlap the rest.
- * A family of other origin is no error: of it turn and look-up see the matched pairs of the machines, and a turn gives what its rule gives.
+ * A family of other origin is no error: of it turn and look-up see the matched pairs of the machines, and a turn gives what its rule gives. That
+ * struck out is final, how many turns it takes and that the table is solve_file's is said of turns from first_family_file on.
  * They take at most 72,000, 155,000 and 75,000 bytes of stack. libwatch.a has them (rt staticlib watch).
  */
 uint32_t first_family_file(const uint8_t *bytes, size_t length, uint64_t family[HAWKRUSSET_FAMILY], uint64_t spot[4]);

@@ -2,6 +2,7 @@
  * watch FILE: takes turns of the solver, and prints a line for each as it ends, with how many pairs look_up_file finds still in, section by
  * section; then `finished T`, and whether the table that the last turn wrote is solve_file's; and `not finished` if one turn more makes a difference.
  * watch FILE TURNS SECTION C A: looks a pair up after so many turns, and prints `still in` or `struck out`.
+ * watch FILE SECTION C A: looks a pair up in a family of full masks, of which only matched pairs count.
  * watch FILE ENTRIES: one turn from a family of full masks, with a lent table of so many entries; prints `turn 1` and how many bits it leaves in
  * each section.
  * A refusal is printed in their place, and `changed` if a call changed what it says that it leaves alone. Exit status 1 if the file cannot be read.
@@ -115,6 +116,11 @@ static void take_turns(void)
         printf("not finished\n");
 }
 
+static void print_look_up(size_t section, size_t c, size_t a)
+{
+    printf("%s\n", look_up(section, c, a) == HAWKRUSSET_STILL_IN ? "still in" : "struck out");
+}
+
 static void take_one(size_t entries)
 {
     memset(family, 255, sizeof family);
@@ -133,8 +139,8 @@ static void take_one(size_t entries)
 int main(int argc, char **argv)
 {
     size_t given[4] = {0, 0, 0, 0};
-    if (argc != 2 && argc != 3 && argc != 6) {
-        fprintf(stderr, "usage: watch FILE, watch FILE TURNS SECTION C A, or watch FILE ENTRIES\n");
+    if (argc != 2 && argc != 3 && argc != 5 && argc != 6) {
+        fprintf(stderr, "usage: watch FILE, watch FILE TURNS SECTION C A, watch FILE SECTION C A, or watch FILE ENTRIES\n");
         return 1;
     }
     for (int i = 2; i < argc; i++)
@@ -150,11 +156,14 @@ int main(int argc, char **argv)
         take_turns();
     else if (argc == 3)
         take_one(given[0]);
-    else {
+    else if (argc == 5) {
+        memset(family, 255, sizeof family);
+        print_look_up(given[0], given[1], given[2]);
+    } else {
         first();
         for (size_t t = 0; t < given[0]; t++)
             turn(HAWKRUSSET_TABLE);
-        printf("%s\n", look_up(given[1], given[2], given[3]) == HAWKRUSSET_STILL_IN ? "still in" : "struck out");
+        print_look_up(given[1], given[2], given[3]);
     }
     return 0;
 }
