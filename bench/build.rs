@@ -5,5 +5,6 @@ fn main() {
     println!("cargo:rustc-link-lib=static=console");
     println!("cargo:rustc-link-lib=static=restore");
     println!("cargo:rustc-link-lib=static=playback");
+    println!("cargo:rustc-link-lib=static=export");
     println!("cargo:rerun-if-changed={dir}/../target/staticlib");
 }

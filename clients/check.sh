@@ -1,14 +1,16 @@
 #!/bin/sh
 # Builds the programs in C from the archives. Holds `console` to the number of each sample and of damaged copies, `restore` to the samples whose
 # table is the solver's and to what `shelf` says of a hard show and of altered ones, `play` to runs and refusals, `watch` and the program `turns` to
-# each other and to stored turns, and all of them and the programs for the shell to the refusals of badly joined copies and to shows with an empty set. Looks for divide instructions in the archives that have the check.
+# each other and to stored turns, `export` and the program `hoa` to each other and to a reader of the Hanoi format, which is tried on its own too,
+# and all of them and the programs for the shell to the refusals of badly joined copies and to shows with an empty set. Looks for divide instructions
+# in the archives that have the check.
 set -eu
 cd "$(dirname "$0")/.."
 work=$(mktemp -d)
 trap 'rm -rf "$work"' EXIT
 # all at once first, since crates that do not depend on each other are proved side by side
-rt check console restore playback watch shelf solve turns play >"$work/log" 2>&1 || { tail -n 20 "$work/log"; exit 1; }
-for name in console restore playback watch; do
+rt check console restore playback watch export shelf solve turns play hoa >"$work/log" 2>&1 || { tail -n 20 "$work/log"; exit 1; }
+for name in console restore playback watch export; do
     rt staticlib "$name" >"$work/log" 2>&1 || { tail -n 20 "$work/log"; exit 1; }
 done
 flags='-std=c11 -O2 -Wall -Wextra -Werror'
@@ -16,6 +18,8 @@ cc $flags -o "$work/console" clients/console.c target/staticlib/libconsole.a
 cc $flags -o "$work/restore" clients/restore.c target/staticlib/librestore.a target/staticlib/libconsole.a
 cc $flags -o "$work/playback" clients/playback.c target/staticlib/libplayback.a
 cc $flags -o "$work/watch" clients/watch.c target/staticlib/libwatch.a target/staticlib/librestore.a
+cc $flags -o "$work/export" clients/export.c target/staticlib/libexport.a
+cc $flags -o "$work/hoa_reader" clients/hoa_reader.c
 
 failed=0
 tried=0
@@ -45,6 +49,12 @@ watches() {
     shift
     same "watch $*" "$line" "$("$work/watch" "$@")"
 }
+# exports LINE FILE MACHINE [ROOM]: the client, likewise
+exports() {
+    line=$1
+    shift
+    same "export $*" "$line" "$("$work/export" "$@")"
+}
 # from NAME SAMPLE: a copy to damage
 from() {
     file=$work/$1
@@ -54,15 +64,20 @@ from() {
 byte() {
     printf "\\$(printf %03o "$2")" | dd of="$file" bs=1 seek="$1" conv=notrunc 2>/dev/null
 }
+# bytes OFFSET COUNT VALUE: changes so many bytes of the copy
+bytes() {
+    head -c "$2" /dev/zero | tr '\000' "\\$(printf %03o "$3")" | dd of="$file" bs=1 seek="$1" conv=notrunc 2>/dev/null
+}
 # block PLACE SAMPLE NUMBER: puts a block of a sample at a place of the copy
 block() {
     dd if="samples/$2.dom" of="$file" bs=512 seek="$1" skip="$3" count=1 conv=notrunc 2>/dev/null
 }
-# seal: makes the check of block 0 right again
+# seal [PLACE]: makes the check of a block right again, of block 0 unless given
 seal() {
-    sum=$(od -An -v -tu1 -N510 "$file" | awk '{ for (i = 1; i <= NF; i++) { n++; s = (s + n * $i) % 65521 } } END { print s }')
-    byte 510 $((sum % 256))
-    byte 511 $((sum / 256))
+    at=$((512 * ${1:-0}))
+    sum=$(od -An -v -tu1 -j "$at" -N510 "$file" | awk '{ for (i = 1; i <= NF; i++) { n++; s = (s + n * $i) % 65521 } } END { print s }')
+    byte $((at + 510)) $((sum % 256))
+    byte $((at + 511)) $((sum / 256))
 }
 
 # divides NUMBER FILE FUNCTION: how many instructions of an object or an archive divide, or call a routine of the compiler that does; FUNCTION
@@ -125,6 +140,8 @@ stopped() {
     same "turns $file" "$line" "$(target/bin/turns <"$file")"
     watches "$line" "$file"
     watches "$line" "$file" 28672
+    same "hoa $file" "$line" "$(target/bin/hoa <"$file")"
+    exports "$line" "$file" 0
 }
 from exchanged large; block 2 large 5; block 5 large 2; stopped 19 2 5
 from first-last large; block 0 large 115; block 115 large 0; stopped 19 0 115
@@ -280,6 +297,174 @@ for spot in '0 0 0' '3 0 0' '1 3 0' '2 0 4' '18446744073709551615 0 0' '1 184467
 done
 same 'turns longer' 'refused 6 0 0 0' "$(target/bin/turns <"$work/longer")"
 same 'turns empty' 'refused 2 0 0 0' "$(target/bin/turns <"$work/empty")"
+
+# the Hanoi format: the program's text is read back as the machines of the show, and is that of the two calls, one after the other
+# exported FILE
+exported() {
+    target/bin/hoa <"$1" >"$work/both"
+    same "hoa $1" '2 machines read back' "$("$work/hoa_reader" "$1" <"$work/both" 2>&1)"
+    same "export $1" '' "$({ "$work/export" "$1" 0 && "$work/export" "$1" 1; } | cmp - "$work/both" 2>&1)"
+}
+for sample in samples/*.dom; do exported "$sample"; done
+# a whole text: several start states, a state in no set, an observation with ones and zeros
+from seen falling; byte 18 165; byte 21 5; byte 53 4; seal; seen=$file
+cat >"$work/text" <<'END'
+HOA: v1
+States: 3
+Start: 0
+Start: 2
+AP: 8 "o0" "o1" "o2" "o3" "o4" "o5" "o6" "o7"
+acc-name: generalized-Buchi 2
+Acceptance: 2 Inf(0)&Inf(1)
+properties: state-labels state-acc
+--BODY--
+State: [0&!1&2&!3&!4&5&!6&7] 0 {1}
+1 2
+State: [!0&!1&!2&!3&!4&!5&!6&!7] 1
+1
+State: [!0&!1&!2&!3&!4&!5&!6&!7] 2 {0 1}
+0 1 2
+--END--
+HOA: v1
+States: 4
+Start: 0
+AP: 8 "o0" "o1" "o2" "o3" "o4" "o5" "o6" "o7"
+acc-name: generalized-Buchi 2
+Acceptance: 2 Inf(0)&Inf(1)
+properties: state-labels state-acc
+--BODY--
+State: [!0&!1&!2&!3&!4&!5&!6&!7] 0 {1}
+1 2
+State: [!0&!1&!2&!3&!4&!5&!6&!7] 1 {1}
+1
+State: [!0&!1&!2&!3&!4&!5&!6&!7] 2 {0}
+1 2
+State: [!0&!1&!2&!3&!4&!5&!6&!7] 3 {0}
+0 2 3
+--END--
+END
+exported "$seen"
+same 'hoa seen' '' "$(cmp "$work/text" "$work/both" 2>&1)"
+# the longest text: full masks and observations 0
+from full large; bytes 18 64 0; bytes 82 428 255; bytes 514 156 255; bytes 670 64 0; bytes 734 288 255; bytes 1026 288 255; seal 0; seal 1; seal 2
+exported "$file"
+same 'export full, bytes' 15941 "$("$work/export" "$file" 0 | wc -c | tr -d ' ')"
+for room in 20000 20001 40000; do exports "$("$work/export" "$file" 1)" "$file" 1 $room; done
+# the reader's refusals, as shelf tells them; of a file that is too long the program reads no more than it needs to refuse it
+for name in empty short check number letters first-zero last-zero table-byte no-states eight-sets long cut later padding \
+    beyond no-start stuck odd set-and-stuck; do
+    file=$work/$name
+    line=$(target/bin/shelf <"$file")
+    same "hoa $file" "$line" "$(target/bin/hoa <"$file")"
+    for machine in 0 1; do exports "$line" "$file" $machine; done
+done
+same 'hoa longer' 'refused 6 0 0 0' "$(target/bin/hoa <"$work/longer")"
+exports 'refused 2 0 0 0' "$work/longer" 0
+# 1 before the file is looked at; then the reader's refusals, and last 20
+for room in 0 19999; do exports 'refused 1 0 0 0' samples/case-05.dom 0 $room; done
+exports 'refused 1 0 0 0' "$work/later" 2 19999
+exports 'refused 7 3 0 0' "$work/later" 2
+exports 'refused 11 1 1 0' "$work/stuck" 2
+for machine in 2 256 4294967296 18446744073709551615; do exports 'refused 20 0 0 0' samples/case-05.dom $machine; done
+
+# the reader of the Hanoi format on its own: what it says of the text above after a filter
+# reads SAID FILTER..: whether it is of the format, 'taken' if it is
+reads() {
+    said=$1
+    shift
+    same "hoa_reader --accepts, $*" "$said" "$("$@" <"$work/text" | "$work/hoa_reader" --accepts 2>&1 && echo taken)"
+}
+# compares SAID FILTER..: whether it has the machines of the show
+compares() {
+    said=$1
+    shift
+    same "hoa_reader, $*" "$said" "$("$@" <"$work/text" | "$work/hoa_reader" "$seen" 2>&1)"
+}
+# varied FILTER..: of the same machines the format allows other texts
+varied() {
+    reads taken "$@"
+    compares '2 machines read back' "$@"
+}
+# white space and comments
+varied cat
+varied tr ' \n' '\t\r'
+varied tr '\n' ' '
+varied sed 's/^State: /State:/;s/] /]/;s/ {/{/;s/: /:/;s/&/ \& /g'
+varied sed 's,^[A-Z].*: ,&/* of /* one */ "*/,'
+# labels, conditions, sets and successors in other words, an alias
+varied sed 's/!1&2&!3&!4/!(1|3|4)\&(2\&t)/'
+varied sed 's/\[0&!1&2/[2\&!1\&0\&(!0|1\&f|2)/'
+varied sed 's/^AP: .*/& Alias: @low !0 Alias: @a-1 !@low/;s/\[0&/[@a-1\&/'
+varied sed 's/Inf(0)&Inf(1)/(Inf(1)\&(Inf(0)))/'
+varied sed 's/{0 1}/{1 0 1}/;s/^0 1 2/2 1 0 1/'
+# other items, another order of items and of states, no number of states, names of states, an automaton that is broken off
+varied sed 's/^States/name: "a\\"" tool: "b" "c" note: t 1 "d" e &/'
+varied sed 's/^prop.*/properties: explicit-labels other properties:/;/^acc-name/d'
+varied sed '/^States:/{h;d;};/^AP:/G'
+varied sed '10,11{H;d;};15G'
+varied sed '/^States/d'
+varied sed 's/] 1/] 1 "State: 1"/'
+varied sed '1s/^/HOA: v1 States: --ABORT--/'
+# automata that are no machines
+reads taken sed 's/^Start: 2/Start: 0\&1/'
+reads taken sed '/^prop/d;/^State:/{s/\[.*] //;s/{.*//;};s/^1$/[0\&!1|2] 1 {0} [t] 0\&1/;s/^1 2$/[f] 1/;s/^0 .*//'
+reads taken sed 's/^AP.*/AP: 1 "a"/;s/\[.*] //;s/^1$/1 1/;s/^0 .*/0 2/;s/^prop.*/properties: implicit-labels/'
+reads taken sed 's/^Acc.*/Acceptance: 2 Fin(!0)|t\&Inf(1)/;s/^acc-.*/acc-name: Rabin 1/'
+# what the format does not allow
+reads 'line 16: no edge, no state and no --END--' sed 16d
+reads 'line 33: no edge, no state and no --END--' sed '$d'
+reads 'line 1: not version v1' sed s/v1/v2/
+reads 'line 1: no HOA:' sed 1d
+reads 'line 8: no Acceptance:' sed '/^Acceptance/d'
+reads 'line 9: no header item and no --BODY--' sed '9s/.*/0/'
+reads 'line 3: States: is given twice' sed '2s/.*/& &/;2s/ States/\
+States/'
+reads 'line 2: an unknown header item, which must not be ignored, since it has a capital' sed 's/^States/Note: 1 &/'
+reads 'line 6: 7 names of 8 propositions' sed 's/ "o7"//'
+reads 'line 6: 9 names of 8 propositions' sed 's/ "o7"/& "o8"/'
+reads 'line 5: two propositions have one name' sed s/o7/o6/
+reads 'line 10: 8 is not below the number of propositions, 8' sed 's/&7]/\&8]/'
+reads 'line 9: 0 is not below the number of propositions, 0' sed 's/^AP.*/Alias: @a 0/'
+reads 'line 10: an alias is used and was not defined' sed 's/\[0/[@a/'
+reads 'line 9: Acceptance: is not that of generalized-Buchi 3' sed 's/Buchi 2/Buchi 3/'
+reads 'line 9: Acceptance: is not that of generalized-Buchi 2' sed 's/(0)&/(0)|/'
+reads 'line 9: Acceptance: is not that of generalized-Buchi 2' sed 's/Inf(1)/Inf(0)/'
+reads 'line 9: Acceptance: is not that of generalized-Buchi 2' sed 's/Inf(1)/Fin(1)/'
+reads 'line 7: 2 is not below the number of sets, 2' sed 's/Inf(1)/Inf(2)/'
+reads 'line 14: 2 is not below the number of sets, 2' sed 's/{0 1}/{0 2}/'
+reads 'line 4: 3 is not below the number of states, 3' sed 's/^Start: 2/Start: 3/'
+reads 'line 14: 3 is not below the number of states, 3' sed 's/] 2/] 3/'
+reads 'line 15: 3 is not below the number of states, 3' sed 's/^0 1 2/0 1 3/'
+reads 'line 16: state 0 is defined twice, in lines 10 and 12' sed 's/] 1$/] 0/'
+reads 'line 14: 2 states are defined, of 3' sed 14,15d
+reads 'line 16: the automaton has not the property state-labels' sed '12s/\[.*] //;13s/^/[t] /'
+reads 'line 16: the automaton has not the property state-acc' sed '13s/$/ {0}/'
+reads 'line 14: state 1 has a label, and so has an edge of it' sed '13s/^/[t] /'
+reads 'line 14: state 1 has no labels, and not one edge for each valuation' sed '12s/\[.*] //'
+reads 'line 10: no closing bracket' sed 's/]//'
+reads 'line 10: no number' sed 's/&!1/\&\&1/'
+reads 'line 10: a number has a 0 in front, or is 2147483648 or more' sed 's/] 0/] 00/'
+reads 'line 1: a comment does not end' sed '1s,$, /* /* */,'
+reads 'line 34: no HOA:' sed '$s/$/\
+--END--/'
+reads 'line 1: the stream has 0 automata' sed d
+# every field is compared, and there are two automata
+compares 'line 16: rig, observation of state 0: read 167, and the show has 165' sed '10s/!1/1/'
+compares 'line 16: rig, state 0: no label that holds for one byte alone' sed '10s/&!1//'
+compares 'line 16: rig, state 0: no label that holds for one byte alone' sed '10s/!1/0\&!0/'
+compares 'line 15: rig, start mask: read 1, and the show has 5' sed 4d
+compares 'line 16: rig, successor mask of state 0: read 2, and the show has 6' sed '11s/ 2//'
+compares 'line 16: rig, mask of set 0: read 0, and the show has 4' sed '14s/{0 1}/{1}/'
+compares 'line 33: score, mask of set 1: read 7, and the show has 3' sed '29s/{0}/{0 1}/'
+compares 'line 33: score, successor mask of state 3: read 15, and the show has 13' sed '32s/0/0 1/'
+compares 'line 16: rig: proposition 7 is not "o7"' sed s/o7/o8/
+compares 'line 16: rig: 9 propositions, not 8' sed 's/AP: 8/AP: 9/;s/ "o7"/& "o8"/'
+compares 'line 15: rig: not the generalized Buchi condition' sed '6d;s/(0)&/(0)|/'
+compares 'line 16: rig, sets: read 3, and the show has 2' sed 's/Buchi 2/Buchi 3/;s/: 2 Inf/: 3 Inf(2)\&Inf/'
+compares 'line 16: rig: labels or sets of edges, or states joined by &' sed '4s/2/0\&2/'
+compares 'line 17: rig, states: read 4, and the show has 3' sed 1,16d
+compares 'line 17: the stream has 1 automata' sed 17,33d
+compares 'line 67: the stream has 4 automata' cat - "$work/text"
 
 [ "$failed" = 0 ] || exit 1
 echo "clients/check.sh: $tried calls, each as expected"

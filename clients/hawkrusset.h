@@ -22,6 +22,9 @@
 /* The bytes that play_file's buffer must have. */
 #define HAWKRUSSET_RUN_ROOM 28672u
 
+/* The bytes that hoa_file's buffer must have; no text takes more. */
+#define HAWKRUSSET_TEXT_ROOM 20000u
+
 /* The masks of a family of the solver by turns, and the entries that turn_file's table must have. */
 #define HAWKRUSSET_FAMILY 448u
 #define HAWKRUSSET_TABLE 28672u
@@ -94,5 +97,16 @@ uint32_t turn_file(const uint8_t *bytes, size_t length, uint64_t family[HAWKRUSS
 
 uint32_t look_up_file(const uint8_t *bytes, size_t length, const uint64_t family[HAWKRUSSET_FAMILY], size_t section, size_t c, size_t a,
                       uint64_t spot[4]);
+
+/*
+ * Writes a machine of the show whose bytes these are, 0 the rig or 1 the score, in the Hanoi Omega-Automata format, version 1
+ * (http://adl.github.io/hoaf/). The answer is the length of the text, which stands at the start of `out`; the bytes after it, and `spot`, are
+ * unchanged. The two texts, one after the other, are a stream of two automata. Whether the file has a table makes no difference, and a fairness set
+ * without a state is written like any other. Or the answer is 0: then `out` is unchanged, and `spot` has the refusal's number and the three numbers
+ * of its spot. The numbers are 1 for an `out` of fewer than 20,000 bytes, told before the file is looked at, those of the reader, 2 to 11 and 19,
+ * and last 20 for a machine that is neither 0 nor 1. `bytes`, `out` and `spot` must not overlap.
+ * libexport.a has it (rt staticlib export).
+ */
+size_t hoa_file(const uint8_t *bytes, size_t length, size_t which, uint8_t *out, size_t room, uint64_t spot[4]);
 
 #endif

@@ -6,12 +6,9 @@
 #include <stdio.h>
 #include <stdlib.h>
 
-/* The whole file, in memory that grows as it is read; NULL if it cannot be read. */
-static uint8_t *whole_file(const char *name, size_t *length)
+/* All that is left of an open file, in memory that grows as it is read; NULL if it cannot be read. */
+static uint8_t *whole_stream(FILE *file, size_t *length)
 {
-    FILE *file = fopen(name, "rb");
-    if (file == NULL)
-        return NULL;
     size_t room = 65536, count = 0;
     uint8_t *bytes = malloc(room);
     while (bytes != NULL) {
@@ -28,8 +25,18 @@ static uint8_t *whole_file(const char *name, size_t *length)
         free(bytes);
         bytes = NULL;
     }
-    fclose(file);
     *length = count;
+    return bytes;
+}
+
+/* The whole file; NULL if it cannot be read. */
+static uint8_t *whole_file(const char *name, size_t *length)
+{
+    FILE *file = fopen(name, "rb");
+    if (file == NULL)
+        return NULL;
+    uint8_t *bytes = whole_stream(file, length);
+    fclose(file);
     return bytes;
 }
 

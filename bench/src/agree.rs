@@ -1,6 +1,7 @@
 //! Compares results of the proved library with those of the plain implementation.
+use crate::hoa::{self, NO_MACHINE, TEXT_ROOM};
 use crate::pairs::Random;
-use crate::plain::{self, Answer, Machine, Pair, FILE_ROOM};
+use crate::plain::{self, Answer, Machine, Pair, Refusal, FILE_ROOM};
 use crate::{nested, proved, sweeps};
 
 // walks of a machine from a start state, of a few states, closed where a state comes back; some are damaged
@@ -41,8 +42,39 @@ fn mend(f: &mut [u8], block: usize) {
     b[511] = (s / 256) as u8;
 }
 
-// the same answer, and by all three solvers the same file, or the same refusal and a buffer as it was
-fn compare(f: &[u8], counts: &mut [usize; 4]) {
+// what was said of files: carried, not carried, no table, refused; and of the texts of their machines: written, refused
+#[derive(Default)]
+struct Counts {
+    answers: [usize; 4],
+    texts: [usize; 2],
+}
+
+// the same text or the same refusal, and what is not text in the buffer as it was
+fn compare_text(f: &[u8], which: usize, room: usize) -> Result<usize, Refusal> {
+    let (mut x, mut y) = (vec![0xA5u8; room], vec![0xA5u8; room]);
+    let a = proved::text(f, which, &mut x);
+    assert_eq!(a, hoa::text_file(f, which, &mut y), "text of machine {which}");
+    assert!(x == y, "text of machine {which}, the buffer");
+    a
+}
+
+// both texts, or the refusal that the other calls give for the file; the call's own refusals, 1 before the reader's and 20 after them
+fn compare_texts(f: &[u8], refusal: Option<Refusal>, counts: &mut [usize; 2]) {
+    for (which, room) in [(0, TEXT_ROOM), (1, TEXT_ROOM + 1)] {
+        let a = compare_text(f, which, room);
+        assert_eq!(a.err(), refusal, "refusal of a text");
+        counts[a.is_err() as usize] += 1;
+    }
+    for (which, room) in [(0, TEXT_ROOM - 1), (1, 0), (NO_MACHINE, TEXT_ROOM - 1)] {
+        assert_eq!(compare_text(f, which, room), Err(Refusal(1, 0, 0, 0)), "a small buffer");
+    }
+    for which in [NO_MACHINE, usize::MAX] {
+        assert_eq!(compare_text(f, which, TEXT_ROOM), Err(refusal.unwrap_or(Refusal(20, 0, 0, 0))), "no machine");
+    }
+}
+
+// the same answer, and by all three solvers the same file, or the same refusal and a buffer as it was; and the same texts
+fn compare(f: &[u8], counts: &mut Counts) {
     let ours = proved::console(f);
     let theirs = plain::verdict(f);
     assert_eq!(ours, theirs.number(), "console");
@@ -56,7 +88,9 @@ fn compare(f: &[u8], counts: &mut [usize; 4]) {
     if a.is_err() {
         assert!(x.iter().all(|&v| v == 0xA5), "a refusal changed the buffer");
     }
-    counts[match theirs {
+    // an empty set is refused by the solver only
+    compare_texts(f, a.err().filter(|e| e.0 != 21), &mut counts.texts);
+    counts.answers[match theirs {
         Answer::Carried(_) => 0,
         Answer::NotCarried(..) => 1,
         Answer::NoTable => 2,
@@ -110,7 +144,7 @@ fn carried(p: &Pair) -> bool {
 
 // what concerns masks is drawn from h, so that the machines that r makes later, to be timed, do not depend on it
 pub fn on_files(r: &mut Random, h: &mut Random) {
-    let mut counts = [0usize; 4];
+    let mut counts = Counts::default();
     let mut plays = Plays::default();
     let (mut masked, mut thanks_to_mask, mut empty) = (0, 0, 0);
     for round in 0..3000 {
@@ -163,12 +197,32 @@ pub fn on_files(r: &mut Random, h: &mut Random) {
         f.truncate(r.below(f.len()));
         compare(&f, &mut counts);
     }
-    println!("agreed: carried {}, not carried {}, no table {}, refused {}", counts[0], counts[1], counts[2], counts[3]);
+    let answers = counts.answers;
+    println!("agreed: carried {}, not carried {}, no table {}, refused {}", answers[0], answers[1], answers[2], answers[3]);
     println!("agreed on shows with a hidden mask: {masked}, carried only thanks to it {thanks_to_mask}");
     println!("agreed on shows with an empty set: {empty}");
     let [run, no_table, refused] = plays.kinds;
     println!("agreed on plays: run {run}, no table {no_table}, refused {refused}");
     println!("changes of state in {} moves of these runs: {}, by the lowest number alone {}", MOVES * run, plays.by_rule, plays.by_number);
+    let [written, refused] = counts.texts;
+    println!("agreed on texts: {written}, refused {refused}");
+}
+
+// the texts of both machines of a show
+pub fn compare_pair_texts(p: &Pair) {
+    compare_texts(&file(p, None), None, &mut [0; 2]);
+}
+
+// machines of 64 states of any density and with any observations
+pub fn on_texts(r: &mut Random) {
+    for _ in 0..1000 {
+        let [c, a] = [8, 7].map(|sets| {
+            let (sets, moves, fair) = (1 + r.below(sets), r.below(17), r.below(17));
+            r.machine(64, sets, 256, moves, fair)
+        });
+        compare_pair_texts(&Pair::new(c, a));
+    }
+    println!("agreed on texts of 64 states: 2000");
 }
 
 // block k of one file, put at place i of another
@@ -179,7 +233,7 @@ fn put(f: &mut [u8], i: usize, from: &[u8], k: usize) {
 // Copies of files of several blocks that are badly joined, damaged or both: blocks exchanged, one put over another, one doubled with the last cut
 // off, a block of another show, another number with a right check; of each also a copy with one bit changed.
 pub fn on_blocks(r: &mut Random) {
-    let mut counts = [0usize; 4];
+    let mut counts = Counts::default();
     let mut misplaced = 0;
     let mut other = file(&r.shaped_pair(64, 64).filled(), None);
     for _ in 0..1000 {
@@ -216,7 +270,10 @@ pub fn on_blocks(r: &mut Random) {
         }
         other = good;
     }
-    println!("agreed on bad copies: answered {}, refused {}, with 19 {misplaced}", counts[0] + counts[1] + counts[2], counts[3]);
+    let answers = counts.answers;
+    println!("agreed on bad copies: answered {}, refused {}, with 19 {misplaced}", answers[0] + answers[1] + answers[2], answers[3]);
+    let [written, refused] = counts.texts;
+    println!("agreed on texts of bad copies: {written}, refused {refused}");
 }
 
 // the tables of two files with the same show, entry by entry; how many entries there are

@@ -1,5 +1,6 @@
 //! Compares the proved library with a plain implementation, on results and on time. All run in this process, on the same inputs.
 mod agree;
+mod hoa;
 mod measure;
 mod nested;
 mod pairs;
@@ -8,14 +9,42 @@ mod proved;
 mod sweeps;
 
 use agree::file;
-use measure::{at_least, at_most, batch, hard_family, judge, playing, solving};
-use pairs::{chain, first_hard, linked_chain, ranked_rings, rings, second_hard, Lengths, Links, Random};
+use measure::{at_least, at_most, batch, hard_family, judge, playing, solving, writing};
+use pairs::{chain, first_hard, linked_chain, longest_texts, ranked_rings, rings, second_hard, Lengths, Links, Random};
 use plain::Pair;
 
+fn titles() {
+    println!("{:52} {:>12}    {:>12} {:>30}", "job", "proved", "plain", "nested");
+}
+
+fn texts() {
+    let largest = longest_texts();
+    assert_eq!(hoa::text(&largest.c, &mut [0; hoa::TEXT_ROOM]), 15941);
+    writing("64 states, largest text", &[largest; 100]);
+    let mut s = Random(0x2D358DCCAA6C78A5);
+    for states in [64, 8] {
+        let pairs: Vec<_> = (0..1000).map(|_| Pair::new(s.machine(states, 8, 2, 1, 8), s.machine(states, 7, 2, 3, 10))).collect();
+        writing(&format!("{states} states, 1000 sparse"), &pairs);
+    }
+}
+
 fn main() {
+    let only_texts = match std::env::args().nth(1).as_deref() {
+        None => false,
+        Some("texts") => true,
+        Some(_) => {
+            eprintln!("usage: bench/run [texts]");
+            std::process::exit(2);
+        }
+    };
     let mut r = Random(0x9E3779B97F4A7C15);
     let mut h = Random(0x8CB92BA72F3D8DD7);
     agree::on_files(&mut r, &mut h);
+    agree::on_texts(&mut Random(0x589965CC75374CC3));
+    if only_texts {
+        titles();
+        return texts();
+    }
     agree::on_blocks(&mut Random(0xA0761D6478BD642F));
     let mut q = Random(0xD1B54A32D192ED03);
     let small = |q: &mut Random| {
@@ -33,7 +62,7 @@ fn main() {
     let full_size: Vec<_> = (0..1000).map(|_| q.shaped_pair(64, 64).filled()).collect();
     agree::on_pairs("1000 random, 64 by 64", &full_size);
 
-    println!("{:52} {:>12}    {:>12} {:>30}", "job", "proved", "plain", "nested");
+    titles();
     let mut chain_times = f64::MAX;
     for states in [8, 16, 32, 64] {
         let p = Pair::new(r.machine(states, 8, 1, 8, 8), r.machine(states, 7, 1, 8, 12)).filled();
@@ -76,6 +105,7 @@ fn main() {
     let round: Vec<u8> = (0..64).collect();
     judge("read and check, 64 by 64, rings", &f);
     playing("read, check and play, 64 by 64, rings", &f, &[], &round);
+    texts();
 
     let (full_ratio, full_times) = batch("64 by 64, 1000 random", &full_size);
     let (eight_ratio, eight_times) = batch("8 by 8, 1000 random", &eight);

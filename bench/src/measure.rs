@@ -1,5 +1,6 @@
 //! Times of the proved library beside those of the plain implementation.
-use crate::agree::{compare_tables, file, same_tables};
+use crate::agree::{compare_pair_texts, compare_tables, file, same_tables};
+use crate::hoa::{text_file, NO_MACHINE, TEXT_ROOM};
 use crate::plain::{self, Machine, Pair, EMPTY, FILE_ROOM};
 use crate::{nested, proved, sweeps};
 use std::hint::black_box;
@@ -77,6 +78,37 @@ pub fn playing(name: &str, f: &[u8], stem: &[u8], cycle: &[u8]) {
         black_box(plain::play_file(black_box(f), stem, cycle, &mut run)).unwrap();
     });
     row(&format!("{name}, run {s} + {q}"), a, b);
+}
+
+// ---- texts
+
+fn write_proved(files: &[Vec<u8>], which: usize, out: &mut [u8]) {
+    for f in files {
+        let _ = black_box(proved::text(black_box(f), black_box(which), out));
+    }
+}
+
+fn write_plain(files: &[Vec<u8>], which: usize, out: &mut [u8]) {
+    for f in files {
+        let _ = black_box(text_file(black_box(f), black_box(which), out));
+    }
+}
+
+// The rigs' texts of shows without a table, times for one: the whole call, and the text's part of it, which is what a call that is refused after
+// reading does not take.
+pub fn writing(name: &str, pairs: &[Pair]) {
+    pairs.iter().for_each(compare_pair_texts);
+    let files: Vec<_> = pairs.iter().map(|p| file(p, None)).collect();
+    let [w, x, y, z] = &mut [(); 4].map(|_| vec![0u8; TEXT_ROOM]);
+    let [ours, our_reading, theirs, their_reading] = race([
+        &mut || write_proved(&files, 0, w),
+        &mut || write_proved(&files, NO_MACHINE, x),
+        &mut || write_plain(&files, 0, y),
+        &mut || write_plain(&files, NO_MACHINE, z),
+    ])
+    .map(|t| t / pairs.len() as f64);
+    row(&format!("read and write as HOA, {name}"), ours, theirs);
+    row(&format!("the text's part of it, {name}"), ours - our_reading, theirs - their_reading);
 }
 
 // ---- the solvers

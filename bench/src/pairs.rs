@@ -210,6 +210,18 @@ pub fn ranked_rings(m: usize, n: usize) -> Pair {
     Pair::new(ring(64, m, full(64)), ring(64, n, 1))
 }
 
+// machines whose texts are the longest: every state is a start state, is in every set and has all successors, and no bit of an observation is set
+pub fn longest_texts() -> Pair {
+    let complete = |sets| {
+        let mut x = machine_of(64, sets);
+        x.start = full(64);
+        x.successors = [full(64); 64];
+        x.fairness[..sets].fill(full(64));
+        x
+    };
+    Pair::new(complete(8), complete(7))
+}
+
 // The hard families. The concrete machine has rings of x and x2 states, the abstract one rings of y and y2. Where two lengths are coprime, the
 // pairs of two rings are one long chain, and three such chains lie one in another:
 // - x beside y: all are goals while the next pair is in the next section's set, and one pair is lost, so that in each turn one more leaves the set;

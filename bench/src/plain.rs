@@ -1,5 +1,5 @@
 //! A plain implementation of reader, writer, check and player, from the documents alone. It is the measure for speed and the other opinion on results.
-//! The two plain solvers stand in nested.rs and sweeps.rs.
+//! The two plain solvers stand in nested.rs and sweeps.rs, and the text of a machine in hoa.rs.
 
 #[derive(Clone, Copy, PartialEq, Eq, Debug)]
 pub struct Machine {

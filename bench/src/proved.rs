@@ -15,6 +15,11 @@ extern "C" {
         run_length: usize,
         spot: *mut [u64; 4],
     ) -> u64;
+    fn hoa_file(bytes: *const u8, length: usize, which: usize, out: *mut u8, room: usize, spot: *mut [u64; 4]) -> usize;
+}
+
+fn refusal(spot: [u64; 4]) -> Refusal {
+    Refusal(spot[0] as u32, spot[1] as usize, spot[2] as usize, spot[3] as usize)
 }
 
 pub fn console(bytes: &[u8]) -> u32 {
@@ -25,7 +30,7 @@ pub fn solve(bytes: &[u8], out: &mut [u8]) -> Result<usize, Refusal> {
     let mut spot = [0u64; 4];
     let n = unsafe { solve_file(bytes.as_ptr(), bytes.len(), out.as_mut_ptr(), out.len(), &mut spot) };
     if n == 0 {
-        Err(Refusal(spot[0] as u32, spot[1] as usize, spot[2] as usize, spot[3] as usize))
+        Err(refusal(spot))
     } else {
         Ok(n)
     }
@@ -49,7 +54,18 @@ pub fn play(bytes: &[u8], stem: &[u8], cycle: &[u8], run: &mut [u8]) -> Result<O
     };
     match (n, spot[0]) {
         (0, 101) => Ok(None),
-        (0, _) => Err(Refusal(spot[0] as u32, spot[1] as usize, spot[2] as usize, spot[3] as usize)),
+        (0, _) => Err(refusal(spot)),
         _ => Ok(Some(((n / 65536) as usize, (n % 65536) as usize))),
+    }
+}
+
+// the length of the text of the rig (0) or of the score (1)
+pub fn text(bytes: &[u8], which: usize, out: &mut [u8]) -> Result<usize, Refusal> {
+    let mut spot = [0u64; 4];
+    let n = unsafe { hoa_file(bytes.as_ptr(), bytes.len(), which, out.as_mut_ptr(), out.len(), &mut spot) };
+    if n == 0 {
+        Err(refusal(spot))
+    } else {
+        Ok(n)
     }
 }

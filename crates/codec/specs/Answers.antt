@@ -27,6 +27,11 @@ unfoldable pub sizedOf : Size → Result ℕ
 sizedOf (size.Bytes n) = answer n
 sizedOf (size.Refused r) = refused r
 
+-- for C: the length, 0 beside a refusal
+unfoldable pub lengthOf : Result ℕ → ℕ
+lengthOf (answer n) = n
+lengthOf (refused r) = 0
+
 -- the refusal of a reading; a reading that took its file has none
 unfoldable pub refusalOf : Reading → Refusal
 refusalOf (reading.Taken note) = refusal 0 0 0 0

@@ -6,7 +6,7 @@ use mathlib.Core.List.{List, _++_}
 use Prim.Native.Nat.{ℕ, suc, _+_, _*_, _/_, _%_, _≤_, _<_}
 use native.Mathlib.Omega.{arith}
 use lib.Dec.{eqb}
-use lib.ListN.{length, getD, take, drop, length-append, length-drop, List·getD-append}
+use lib.ListN.{length, getD, take, drop, replicate, length-append, length-replicate, length-drop, List·getD-append}
 use lib.Seq.{getD-take, take-at, take-all, length-take-le}
 use borrow.Author.Tests.{eq-eqb, ne-eqb, eqb-true, eqb-false}
 use Rattle.mask.specs.Logic.{not, or}
@@ -23,9 +23,13 @@ use Rattle.machine.specs.WellFormed.{wellFormed, pairValidity}
 use Rattle.machine.specs.WellFormedLaws.{valid-is-well, pair-refuses}
 use Rattle.machine.specs.EmptySetsLaws.{nonempty-valid, nonempty-at}
 use Rattle.machine.specs.HiddenLaws.{matched-zero}
+use Rattle.codec.specs.declared.Reading.the-variants as reading
+use Rattle.codec.specs.declared.Show.{Show}
 use Rattle.codec.specs.Format.{letters, fileLength, fileOf}
 use Rattle.codec.specs.Reader.{inputRoom, taken, numberFound, damagedNumber, blockValidity, headerByte, noteOf, headerHolds, countsHold, headerValidity, firstValidity, demanded, laterBlocks, paddingHolds, blocksValidity, payloadOf, machineAt, pairOf, entriesOf, readValidity, readAnswer, readTable, sizeOf}
 use Rattle.codec.specs.Writer.{fileRoom, writeValidity, writeAnswer, writeBuffer}
+use Rattle.codec.specs.Answers.{readOf}
+use Rattle.codec.specs.AnswersLaws.{read-taken, read-refused}
 use Rattle.codec.specs.Statements.{Representable, AreBytes, WriteRead, ReadWrite, TableUnread, IsEarly, FirstBlock, FirstBlockTellsSize, TakenRepresentable, TakenHidden, StoredTest, StoredMatched, TakenFits, WriteAnswers, WrittenReads, ReadWrites, EntriesUnread}
 use Rattle.codec.specs.FormatLaws.{file-length, file-cong}
 use Rattle.codec.specs.WriterLaws as writer
@@ -121,6 +125,28 @@ taken-fits f lent p note e =
     let small : length f ≤ fileRoom =
     omega (arith, few-blocks f (first-valid f (w .start)) (blocks-valid f (w .blocks) .long), first-valid f (w .start) .whole) in
     (small, take-all inputRoom f (omega arith))
+
+-- ---- the machines, by what was read into a table of the room that the reader asks for
+module _ (f : List ℕ) (s : Show) (read : readOf s ≡ readAnswer f (replicate tableRoom 0)) where
+  room : length (replicate {A = ℕ} tableRoom 0) ≡ tableRoom
+  room = length-replicate {A = ℕ} tableRoom 0
+
+  pub machines-refused : {r : Refusal} → s .reading ≡ reading.Refused r → readValidity f tableRoom ≡ refused r
+  unfolding readAnswer
+  machines-refused e = ap (readValidity f) (sym room) ∙ given-refused _ _ (read-refused s read e)
+
+  module _ {note : Bool} (e : s .reading ≡ reading.Taken note) where
+    pub machines-taken : readValidity f tableRoom ≡ valid
+    unfolding readAnswer
+    machines-taken = ap (readValidity f) (sym room) ∙ given-at _ _ (read-taken s read e) .0
+
+    pub machines-pair : s .pair ≡ pairOf f
+    machines-pair = sym (was-taken f (replicate tableRoom 0) (s .pair) note (read-taken s read e) .pair-is)
+
+-- machines that were read are well formed
+pub read-well : (f : List ℕ) (room : ℕ) → readValidity f room ≡ valid → pairValidity (pairOf f) ≡ valid
+unfolding readValidity
+read-well f room e = then-answer _ _ (then-answer _ _ (then-answer _ _ e .1) .1) .1
 
 -- ---- what was taken is written again
 pub read-write : ReadWrite

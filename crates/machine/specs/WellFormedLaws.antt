@@ -20,7 +20,7 @@ use Rattle.machine.specs.Refusals.{Tested, valid, answer, refused, refus
 use Rattle.machine.specs.RefusalsLaws.{valid-next, valid-if, then-answer, then-of, then-refused, RefusesOnly, refuses-none, refuses-at, refuses-cond, refuses-then}
 use Rattle.machine.specs.Machines.{observation, successors, moves, starts, fairSet, inFairSet, nC, nA, setsC, setsA, pairs}
 use Rattle.machine.specs.Table.{tableRoom}
-use Rattle.machine.specs.WellFormed.{countsOk, beyond, stateBeyond, setBeyond, beyondCounts, stuckState, contentValidity, setsValidity, contentTests, pairTests, pairValidity, isValid, wellFormed}
+use Rattle.machine.specs.WellFormed.{countsOk, beyond, stateBeyond, setBeyond, beyondCounts, stuckState, contentValidity, setsValidity, contentTests, machineValidity, pairTests, pairValidity, isValid, wellFormed}
 use Rattle.machine.specs.FirstEmptyLaws.{none-is-empty}
 
 -- ---- validity
@@ -177,6 +177,34 @@ module _ (limit i : ℕ) (m : Machine) where
         has-start = t .1;
         has-move = λ s l. not-stuck (t .2) s (omega (arith, n .1)) l;
       }
+
+-- ---- one machine by itself
+-- its number in a pair makes no difference to whether it is refused
+content-valid : (i j : ℕ) (m : Machine) → contentValidity i m ≡ valid → contentValidity j m ≡ valid
+unfolding contentValidity
+content-valid i j m e =
+    let a = valid-next (beyondCounts m) _ _ e in
+    let b = valid-next (eqb (m .start) 0) _ _ (a .1) in
+    let c = valid-next (ltb (stuckState (m .states) (m .successors)) 64) _ _ (b .1) in
+    rw (a .0, b .0, c .0)
+
+taken : (m : Machine) (i : ℕ) → countsOk 8 (m .states) (m .sets) ≡ true → contentValidity i m ≡ valid → machineValidity 8 m ≡ valid
+unfolding machineValidity
+taken m i t v = rw t (content-valid i 0 m v)
+
+-- each machine of a pair that nothing refuses is taken by a call on one machine of 1 to 8 sets
+pub both-valid : (p : Pair) → pairValidity p ≡ valid → (machineValidity 8 (p .concrete) ≡ valid) × (machineValidity 8 (p .abstraction) ≡ valid)
+both-valid p e =
+    let q = tests-passed false p e in
+    let c = counts-at 7 _ _ (q .abstract-counts) in (
+      taken (p .concrete) 0 (q .concrete-counts) (sym (content-only 0 (p .concrete)) ∙ q .concrete),
+      taken (p .abstraction) 1 (counts-of 8 _ _ (c .0) (c .1) (c .2) (omega (arith, c .3))) (sym (content-only 1 (p .abstraction)) ∙ q .abstraction),
+    )
+
+-- and what one that is taken gives
+pub valid-machine : (limit : ℕ) (m : Machine) → limit ≤ 8 → machineValidity limit m ≡ valid → WellMachine limit m
+unfolding machineValidity
+valid-machine limit m h e = let t = valid-if _ _ _ e in well-machine limit 0 m h (t .0) (t .1)
 
 -- a mask that a program holds, with no state at or past n, is a number of n bits
 pub bits-small : (n mask : ℕ) → mask < 2 ^ 64 → ((i : ℕ) → i < 64 → hasBit mask i ≡ true → i < n) → mask < 2 ^ n

@@ -3,7 +3,7 @@ use mathlib.Core.Bool.{true}
 use mathlib.Core.List.{List}
 use Prim.Native.Nat.{ℕ}
 use lib.ListN.{length}
-use Rattle.machine.specs.Refusals.{Result, answer, refused, Tested, andThen, bufferValidity, bufferAfter}
+use Rattle.machine.specs.Refusals.{Result, answer, Tested, andThen, bufferValidity, bufferAfter}
 use Rattle.machine.specs.Ranks.{solverTable}
 use Rattle.machine.specs.Table.{tableRoom}
 use Rattle.codec.specs.Format.{fileOf}
@@ -26,8 +26,3 @@ restoreAnswer f buffer = andThen (restoreValidity f (length buffer)) (answer (le
 -- the lent buffer's final content
 unfoldable pub restoreBuffer : List ℕ → List ℕ → List ℕ
 restoreBuffer f buffer = bufferAfter (restoreValidity f (length buffer)) (restored f) buffer
-
--- for C: the file's length, 0 beside a refusal
-unfoldable pub lengthOf : Result ℕ → ℕ
-lengthOf (answer n) = n
-lengthOf (refused r) = 0

@@ -1,8 +1,8 @@
 // A show in, the same show with the solver's table out.
 ghost use mathlib.Core.Path.{_≡_};
 ghost use Rattle.machine.specs.Refusals.{spotAfter};
-ghost use Rattle.codec.specs.Answers.{sizedOf};
-ghost use Rattle.restore.specs.Restoring.{restoreAnswer, restoreBuffer, lengthOf};
+ghost use Rattle.codec.specs.Answers.{sizedOf, lengthOf};
+ghost use Rattle.restore.specs.Restoring.{restoreAnswer, restoreBuffer};
 use codec::Reading;
 use codec::Size;
 use machine::Validity;

@@ -3,19 +3,14 @@ use mathlib.Core.Bool.{Bool, true, false}
 use mathlib.Core.List.{List}
 use mathlib.Core.Path.{_≡_, refl, sym, ap, _∙_}
 use Prim.Native.Nat.{ℕ, _≤_, _<_}
-use lib.ListN.{length, replicate, length-replicate}
+use lib.ListN.{length, replicate}
 use Rattle.machine.specs.declared.Pair.{Pair}
 use Rattle.machine.specs.declared.Refusal.{Refusal}
 use Rattle.machine.specs.Refusals.{Result, answer, refused, valid, Tested, refusal, passOn, andThen, stateAfter, bufferValidity, short-buffer}
-use Rattle.machine.specs.RefusalsLaws.{then-of, then-refused, then-then, given-at, given-refused, buffer-valid, buffer-short, state-made, state-kept}
+use Rattle.machine.specs.RefusalsLaws.{then-of, then-refused, then-then, given-refused, buffer-valid, buffer-short, state-made, state-kept}
 use Rattle.machine.specs.WellFormed.{nonemptyValidity}
 use Rattle.machine.specs.Table.{tableRoom}
-use Rattle.codec.specs.declared.Reading.the-variants as reading
-use Rattle.codec.specs.declared.Show.{Show}
-use Rattle.codec.specs.Reader.{pairOf, readValidity, readAnswer}
-use Rattle.codec.specs.Answers.{readOf}
-use Rattle.codec.specs.AnswersLaws.{read-taken, read-refused}
-use Rattle.codec.specs.FileLaws.{was-taken}
+use Rattle.codec.specs.Reader.{pairOf, readValidity}
 use Rattle.solver.specs.Families.{turnRows}
 use Rattle.solver.specs.Solver.{solveValidity}
 use Rattle.progress.specs.declared.Turned.{Turned}
@@ -26,23 +21,6 @@ use Rattle.progress.specs.Answers.{turnedOf, lookedUpOf}
 use Rattle.progress.specs.Turns.{firstRows, firstGiven, finishes, turnAnswer, turnFamily, turnTable, lookUpAnswer}
 use Rattle.progress.specs.TurnsLaws.{turn-refused}
 use Rattle.watch.specs.Watching.{firstFile, firstFileGiven, firstFileRows, turnFile, turnFileRows, turnFileTable, lookUpFile}
-
--- ---- the machines, by what was read into a table of the room that the reader asks for
-module _ (f : List ℕ) (s : Show) (read : readOf s ≡ readAnswer f (replicate tableRoom 0)) where
-  room : length (replicate {A = ℕ} tableRoom 0) ≡ tableRoom
-  room = length-replicate {A = ℕ} tableRoom 0
-
-  pub machines-refused : {r : Refusal} → s .reading ≡ reading.Refused r → readValidity f tableRoom ≡ refused r
-  unfolding readAnswer
-  machines-refused e = ap (readValidity f) (sym room) ∙ given-refused _ _ (read-refused s read e)
-
-  module _ {note : Bool} (e : s .reading ≡ reading.Taken note) where
-    pub machines-taken : readValidity f tableRoom ≡ valid
-    unfolding readAnswer
-    machines-taken = ap (readValidity f) (sym room) ∙ given-at _ _ (read-taken s read e) .0
-
-    pub machines-pair : s .pair ≡ pairOf f
-    machines-pair = sym (was-taken f (replicate tableRoom 0) (s .pair) note (read-taken s read e) .pair-is)
 
 -- ---- the first family
 module _ (f : List ℕ) where

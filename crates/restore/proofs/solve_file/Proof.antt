@@ -2,8 +2,8 @@
 use mathlib.Core.Path.{sym, ap, _∙_}
 use denote.Ref.{now}
 use Rattle.machine.specs.RefusalsLaws.{spot-kept, spot-put}
+use Rattle.codec.specs.Answers.{lengthOf}
 use Rattle.codec.specs.AnswersLaws.{sized-bytes, sized-refused}
-use Rattle.restore.specs.Restoring.{lengthOf}
 use borrow.Author.Needs.{needs}
 use Rattle.restore.proofs.solve_file.Statement.{statement}
 use Rattle.restore.proofs.solve_file.Tie as tie

@@ -3,7 +3,7 @@ use mathlib.Core.Path.{sym, ap, _∙_}
 use Rattle.machine.specs.Refusals.{refused, testedOf}
 use Rattle.machine.specs.RefusalsLaws.{refused-not-answer}
 use Rattle.codec.specs.AnswersLaws.{refusal-of}
-use Rattle.watch.specs.WatchingLaws.{machines-taken, machines-pair, machines-refused}
+use Rattle.codec.specs.FileLaws.{machines-taken, machines-pair, machines-refused}
 use borrow.Author.Needs.{needs}
 use Rattle.watch.proofs.machines_of.Statement.{statement}
 use Rattle.watch.proofs.machines_of.Tie as tie

@@ -1,0 +1,4 @@
+-- definitions
+pub mod Exporting
+-- laws
+pub mod ExportingLaws

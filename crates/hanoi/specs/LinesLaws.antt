@@ -1,0 +1,101 @@
+-- Laws of lines with what stands behind them, and what the whole text is: the lines before those of the states, those of the states, and the last.
+use mathlib.Core.List.{List, [], _∷_, _++_, map, flatMap, flatten, append-assoc, append-nil}
+use mathlib.Core.Path.{_≡_, refl, sym, ap, _∙_}
+use Prim.Native.Nat.{ℕ}
+use Rattle.text.specs.Decimal.{decimal, digitsUpTo}
+use Rattle.machine.specs.declared.Machine.{Machine}
+use Rattle.machine.specs.Machines.{observation, successors}
+use Rattle.hanoi.specs.Words.{ascii, numbers, below, statesOf, spread, joined}
+use Rattle.hanoi.specs.Text.{line, startLine, name, acceptance, label, setsWith, inBraces, stateLines, hoaText}
+use Rattle.hanoi.specs.Parts.{startLines, headText}
+
+-- ---- items that stand one blank apart
+module _ (w : List ℕ) (ws : List (List ℕ)) (x : List ℕ) where
+  pub spread-next : spread (ascii " ") (w ∷ ws) ++ x ≡ 32 ∷ (w ++ (spread (ascii " ") ws ++ x))
+  unfolding spread flatMap
+  spread-next = ap (λ (t : List ℕ). 32 ∷ t) (append-assoc w (spread (ascii " ") ws) x)
+
+  pub joined-next : joined (ascii " ") (w ∷ ws) ++ x ≡ w ++ (spread (ascii " ") ws ++ x)
+  unfolding joined
+  joined-next = append-assoc w (spread (ascii " ") ws) x
+
+pub spread-end : (x : List ℕ) → spread (ascii " ") [] ++ x ≡ x
+unfolding spread flatMap
+spread-end x = refl
+
+pub joined-end : (x : List ℕ) → joined (ascii " ") [] ++ x ≡ x
+unfolding joined
+joined-end x = refl
+
+-- ---- a line
+pub line-is : (ws : List (List ℕ)) (x : List ℕ) → line ws ++ x ≡ joined (ascii " ") ws ++ (10 ∷ x)
+unfolding line
+line-is ws x = append-assoc (joined (ascii " ") ws) (ascii "\n") x
+
+pub start-next : (n : ℕ) (l x : List ℕ) → flatMap startLine (n ∷ l) ++ x ≡ ascii "Start: " ++ (decimal n ++ (10 ∷ (flatMap startLine l ++ x)))
+unfolding startLine flatMap
+start-next n l x = simp (append-assoc, line-is, joined-next, spread-next, spread-end)
+
+-- ---- the sets of a state, in braces
+pub braces-next : (n : ℕ) (l x : List ℕ) → spread (ascii " ") (inBraces (n ∷ l)) ++ x ≡ ascii " {" ++ (joined (ascii " ") (map decimal (n ∷ l)) ++ (125 ∷ x))
+unfolding inBraces
+braces-next n l x = simp (spread-next, spread-end, append-assoc)
+
+pub braces-end : (x : List ℕ) → spread (ascii " ") (inBraces []) ++ x ≡ x
+unfolding inBraces
+braces-end x = spread-end x
+
+-- ---- the lines of a state
+module _ (m : Machine) (s : ℕ) where
+  pub state-lines : (x : List ℕ) → stateLines m s ++ x ≡ ascii "State: [" ++ (label (observation m s) ++ (ascii "] " ++ (decimal s ++ (spread (ascii " ") (inBraces (setsWith m s))
+      ++ (10 ∷ (joined (ascii " ") (map decimal (statesOf (successors m s))) ++ (10 ∷ x)))))))
+  unfolding stateLines
+  state-lines x = simp (append-assoc, line-is, joined-next, spread-next)
+
+-- ---- the whole text
+names-line : line (ascii "AP:" ∷ ascii "8" ∷ map name (below 8)) ≡ ascii "AP: 8 \"o0\" \"o1\" \"o2\" \"o3\" \"o4\" \"o5\" \"o6\" \"o7\"\n"
+unfolding line joined spread flatMap name numbers decimal digitsUpTo
+names-line = refl
+
+-- words, numbers and lists of lines, grouped by lines and grouped as the code puts them
+regroup : (hoa states feed names acc condition blank body end n starts k infs lines : List ℕ)
+    → hoa ++ (((states ++ (n ++ [])) ++ feed) ++ (starts ++ (names ++ (((acc ++ (k ++ [])) ++ feed) ++ (((condition ++ (k ++ (blank ++ (infs ++ [])))) ++ feed) ++ (body ++ (lines ++ (end ++ []))))))))
+    ≡ (((hoa ++ states) ++ n) ++ (feed ++ (starts ++ (((names ++ acc) ++ k) ++ (((feed ++ condition) ++ k) ++ (blank ++ (infs ++ ((feed ++ body) ++ [])))))))) ++ (lines ++ end)
+regroup hoa states feed names acc condition blank body end n starts k infs lines = simp (append-assoc, append-nil)
+
+module _ (m : Machine) where
+  pub text-lines : hoaText m ≡ headText (m .states) (m .sets) (m .start) ++ (flatMap (stateLines m) (below (m .states)) ++ ascii "--END--\n")
+  unfolding hoaText headText startLines flatten line joined spread flatMap
+  text-lines =
+      ap grouped names-line
+      ∙ regroup (ascii "HOA: v1\n") (ascii "States: ") (ascii "\n") (ascii "AP: 8 \"o0\" \"o1\" \"o2\" \"o3\" \"o4\" \"o5\" \"o6\" \"o7\"\n")
+      (ascii "acc-name: generalized-Buchi ") (ascii "Acceptance: ") (ascii " ") (ascii "properties: state-labels state-acc\n--BODY--\n") (ascii "--END--\n")
+      (decimal (m .states)) (flatMap startLine (statesOf (m .start))) (decimal (m .sets)) (acceptance (m .sets)) (flatMap (stateLines m) (below (m .states)))
+    where
+      grouped : List ℕ → List ℕ
+      grouped names =
+          line (ascii "HOA:" ∷ ascii "v1" ∷ [])
+          ++ (line (ascii "States:" ∷ decimal (m .states) ∷ [])
+          ++ (flatMap startLine (statesOf (m .start))
+          ++ (names
+          ++ (line (ascii "acc-name:" ∷ ascii "generalized-Buchi" ∷ decimal (m .sets) ∷ [])
+          ++ (line (ascii "Acceptance:" ∷ decimal (m .sets) ∷ acceptance (m .sets) ∷ [])
+          ++ (line (ascii "properties:" ∷ ascii "state-labels" ∷ ascii "state-acc" ∷ [])
+          ++ (line (ascii "--BODY--" ∷ []) ++ (flatMap (stateLines m) (below (m .states)) ++ (line (ascii "--END--" ∷ []) ++ [])))))))))
+
+-- the first lines with what stands behind them, up to the second number of sets
+unfoldable pub middle : ℕ → List ℕ
+middle k = decimal k ++ (ascii " " ++ (acceptance k ++ ascii "\nproperties: state-labels state-acc\n--BODY--\n"))
+
+pub head-behind : (n k start : ℕ) (x : List ℕ) → headText n k start ++ x
+    ≡ ascii "HOA: v1\nStates: " ++ (decimal n ++ (ascii "\n" ++ (startLines start
+    ++ (ascii "AP: 8 \"o0\" \"o1\" \"o2\" \"o3\" \"o4\" \"o5\" \"o6\" \"o7\"\nacc-name: generalized-Buchi " ++ (decimal k ++ (ascii "\nAcceptance: " ++ (middle k ++ x)))))))
+unfolding headText flatten middle
+head-behind n k start x =
+    assoc (ascii "HOA: v1\nStates: ") (ascii "\n") (ascii "AP: 8 \"o0\" \"o1\" \"o2\" \"o3\" \"o4\" \"o5\" \"o6\" \"o7\"\nacc-name: generalized-Buchi ")
+    (ascii "\nAcceptance: ") (ascii " ") (ascii "\nproperties: state-labels state-acc\n--BODY--\n") (decimal n) (startLines start) (decimal k) (acceptance k)
+  where
+    assoc : (hoa feed names condition blank body d starts e infs : List ℕ)
+        → ((hoa ++ d) ++ (feed ++ (starts ++ ((names ++ e) ++ ((condition ++ e) ++ (blank ++ (infs ++ (body ++ [])))))))) ++ x
+        ≡ hoa ++ (d ++ (feed ++ (starts ++ (names ++ (e ++ (condition ++ ((e ++ (blank ++ (infs ++ body))) ++ x)))))))
+    assoc hoa feed names condition blank body d starts e infs = simp (append-assoc, append-nil)
