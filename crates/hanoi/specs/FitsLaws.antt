@@ -2,8 +2,8 @@
 use mathlib.Core.Bool.{Bool, true, false, cond}
 use mathlib.Core.List.{List, [], _∷_, _++_, map, flatMap, flatten}
 use mathlib.Core.Logic.{by-cases}
-use mathlib.Core.Path.{_≡_, refl, sym, ap, _∙_}
-use Prim.Native.Nat.{ℕ, zero, suc, _+_, _-_, _^_, _≤_, _<_}
+use mathlib.Core.Path.{_≡_, refl, ap, _∙_}
+use Prim.Native.Nat.{ℕ, zero, suc, _+_, _-_, _≤_}
 use native.Mathlib.Decide.{decLt}
 use native.Mathlib.Omega.{arith}
 use lib.ListN.{length, getD, replicate, length-append, length-replicate}
@@ -13,7 +13,6 @@ use Rattle.mask.specs.BitsLaws.{has-none}
 use Rattle.text.specs.Decimal.{decimal, digitsUpTo}
 use Rattle.text.specs.DecimalLaws.{decimal-short}
 use Rattle.machine.specs.declared.Machine.{Machine}
-use Rattle.machine.specs.Refusals.{valid}
 use Rattle.machine.specs.WellFormedLaws.{WellMachine}
 use Rattle.hanoi.specs.Words.{ascii, numbers, below, chosen, statesOf, spread, joined}
 use Rattle.hanoi.specs.WordsLaws.{states-mask}

@@ -1,6 +1,6 @@
 -- Laws of lines with what stands behind them, and what the whole text is: the lines before those of the states, those of the states, and the last.
 use mathlib.Core.List.{List, [], _∷_, _++_, map, flatMap, flatten, append-assoc, append-nil}
-use mathlib.Core.Path.{_≡_, refl, sym, ap, _∙_}
+use mathlib.Core.Path.{_≡_, refl, ap, _∙_}
 use Prim.Native.Nat.{ℕ}
 use Rattle.text.specs.Decimal.{decimal, digitsUpTo}
 use Rattle.machine.specs.declared.Machine.{Machine}
@@ -28,7 +28,7 @@ unfolding joined
 joined-end x = refl
 
 -- ---- a line
-pub line-is : (ws : List (List ℕ)) (x : List ℕ) → line ws ++ x ≡ joined (ascii " ") ws ++ (10 ∷ x)
+line-is : (ws : List (List ℕ)) (x : List ℕ) → line ws ++ x ≡ joined (ascii " ") ws ++ (10 ∷ x)
 unfolding line
 line-is ws x = append-assoc (joined (ascii " ") ws) (ascii "\n") x
 

@@ -1,12 +1,11 @@
 -- Laws of the parts of the text as loops put them: the next item, and what is left behind it.
 use mathlib.Core.Bool.{Bool, true, false, cond}
-use mathlib.Core.List.{List, [], _∷_, _++_, map, flatMap, flatten, append-assoc, append-nil}
-use mathlib.Core.Path.{_≡_, refl, sym, ap, ap₂, _∙_}
-use Prim.Native.Nat.{ℕ, zero, suc, _+_, _-_, _^_, _≤_, _<_}
+use mathlib.Core.List.{List, [], _∷_, _++_, map, flatMap, flatten, append-assoc}
+use mathlib.Core.Path.{_≡_, refl, sym, ap, _∙_}
+use Prim.Native.Nat.{ℕ, _+_, _-_, _^_, _≤_, _<_}
 use native.Mathlib.Omega.{arith}
-use lib.Dec.{eqb}
 use lib.ListN.{getD}
-use borrow.Author.Tests.{eq-eqb, ne-eqb}
+use borrow.Author.Tests.{ne-eqb}
 use native.Mathlib.Numerals.{add-one}
 use Rattle.mask.specs.Bits.{hasBit, lowestOf, restOf, withBit}
 use Rattle.mask.specs.Tables.{maskOf}
@@ -20,29 +19,29 @@ use Rattle.hanoi.specs.Parts.{items, startLines, braces, setsMask, lines
 
 -- ---- the texts of numbers from k of n on
 module _ (between : List ℕ) (f : ℕ → List ℕ) where
-  pub spread-at : (k n : ℕ) → k < n
+  spread-at : (k n : ℕ) → k < n
       → spread between (map f (numbers k (n - k))) ≡ between ++ f k ++ spread between (map f (numbers (k + 1) (n - (k + 1))))
   spread-at k n h = ap (λ (l : List ℕ). spread between (map f l)) (numbers-at k n h) ∙ spread-more between (f k) _
 
-  pub spread-past : (k n : ℕ) → n ≤ k → spread between (map f (numbers k (n - k))) ≡ []
+  spread-past : (k n : ℕ) → n ≤ k → spread between (map f (numbers k (n - k))) ≡ []
   spread-past k n h = ap (λ (l : List ℕ). spread between (map f l)) (numbers-past k n h) ∙ spread-none between
 
-  pub joined-below : (n : ℕ) → 0 < n → joined between (map f (below n)) ≡ f 0 ++ spread between (map f (numbers 1 (n - 1)))
+  joined-below : (n : ℕ) → 0 < n → joined between (map f (below n)) ≡ f 0 ++ spread between (map f (numbers 1 (n - 1)))
   joined-below n h = ap (λ (l : List ℕ). joined between (map f l)) (below-more n h) ∙ joined-more between (f 0) _
 
 module _ (f : ℕ → List ℕ) where
-  pub flat-none : flatMap f [] ≡ []
+  flat-none : flatMap f [] ≡ []
   unfolding flatMap
   flat-none = refl
 
-  pub flat-more : (x : ℕ) (l : List ℕ) → flatMap f (x ∷ l) ≡ f x ++ flatMap f l
+  flat-more : (x : ℕ) (l : List ℕ) → flatMap f (x ∷ l) ≡ f x ++ flatMap f l
   unfolding flatMap
   flat-more x l = refl
 
-  pub flat-at : (k n : ℕ) → k < n → flatMap f (numbers k (n - k)) ≡ f k ++ flatMap f (numbers (k + 1) (n - (k + 1)))
+  flat-at : (k n : ℕ) → k < n → flatMap f (numbers k (n - k)) ≡ f k ++ flatMap f (numbers (k + 1) (n - (k + 1)))
   flat-at k n h = ap (flatMap f) (numbers-at k n h) ∙ flat-more k _
 
-  pub flat-past : (k n : ℕ) → n ≤ k → flatMap f (numbers k (n - k)) ≡ []
+  flat-past : (k n : ℕ) → n ≤ k → flatMap f (numbers k (n - k)) ≡ []
   flat-past k n h = ap (flatMap f) (numbers-past k n h) ∙ flat-none
 
 -- ---- the items of a mask

@@ -1,6 +1,6 @@
 -- The text of a well-formed machine tells the machine: part by part, what two equal texts write is equal.
 use mathlib.Core.Bool.{Bool, true, false, cond}
-use mathlib.Core.List.{List, [], _∷_, _++_, map, flatMap, flatten, append-assoc, append-nil, append-cancel-left, head-eq-of-cons-eq, tail-eq-of-cons-eq}
+use mathlib.Core.List.{List, _∷_, _++_, map, flatMap, append-assoc, append-cancel-left, head-eq-of-cons-eq, tail-eq-of-cons-eq}
 use mathlib.Core.Logic.{by-cases}
 use mathlib.Core.Path.{_≡_, refl, sym, ap, ap₂, subst, _∙_}
 use Prim.Native.Nat.{ℕ, zero, suc, _+_, _^_, _≤_, _<_}
@@ -18,7 +18,7 @@ use Rattle.machine.specs.Machines.{observation, successors, fairSet, inFairSet}
 use Rattle.machine.specs.WellFormedLaws.{WellMachine, valid-machine}
 use Rattle.codec.specs.Statements.{RepresentableMachine}
 use Rattle.hanoi.specs.Words.{ascii, numbers, below, chosen, statesOf, spread, joined}
-use Rattle.hanoi.specs.Text.{line, startLine, name, acceptance, literal, label, setsWith, inBraces, stateLines, hoaText}
+use Rattle.hanoi.specs.Text.{startLine, literal, label, setsWith, inBraces, stateLines, hoaText}
 use Rattle.hanoi.specs.Statements.{TextTellsMachine}
 use Rattle.hanoi.specs.Parts.{startLines}
 use Rattle.hanoi.specs.LinesLaws.{start-next, braces-next, braces-end, state-lines, text-lines, middle, head-behind}
@@ -48,8 +48,8 @@ starts-told x y p q (small-next {n} {l} a g) (small-next {n = m} {l = k} b h) e 
 
 -- ---- a label, with what stands behind it
 -- the literals of k bits from s on, each behind &
-literals : ℕ → ℕ → ℕ → List ℕ
-literals o s k = spread (ascii "&") (map (literal o) (numbers s k))
+literalsFrom : ℕ → ℕ → ℕ → List ℕ
+literalsFrom o s k = spread (ascii "&") (map (literal o) (numbers s k))
 
 literal-told : (o p n : ℕ) (x y : List ℕ) → literal o n ++ x ≡ literal p n ++ y → (hasBit o n ≡ hasBit p n) × (x ≡ y)
 unfolding literal digit and
@@ -61,17 +61,17 @@ literal-told o p n x y e = go (hasBit o n) (hasBit p n) e
     go false true e = absurd (clash refl (ap begun e ∙ decimal-begun n y))
     go false false e = (refl, append-cancel-left (decimal n) x y (tail-eq-of-cons-eq e))
 
-literals-told : (o p s k : ℕ) (x y : List ℕ) → literals o s k ++ x ≡ literals p s k ++ y → ((i : ℕ) → s ≤ i → i < s + k → hasBit o i ≡ hasBit p i) × (x ≡ y)
-unfolding literals spread flatMap numbers
+literals-told : (o p s k : ℕ) (x y : List ℕ) → literalsFrom o s k ++ x ≡ literalsFrom p s k ++ y → ((i : ℕ) → s ≤ i → i < s + k → hasBit o i ≡ hasBit p i) × (x ≡ y)
+unfolding literalsFrom spread flatMap numbers
 literals-told o p s zero x y e = (λ i a b. absurd (omega arith), e)
 literals-told o p s (suc k) x y e =
-    let t = literal-told o p s (literals o (suc s) k ++ x) (literals p (suc s) k ++ y)
-    (sym (append-assoc (literal o s) (literals o (suc s) k) x) ∙ tail-eq-of-cons-eq e ∙ append-assoc (literal p s) (literals p (suc s) k) y) in
+    let t = literal-told o p s (literalsFrom o (suc s) k ++ x) (literalsFrom p (suc s) k ++ y)
+    (sym (append-assoc (literal o s) (literalsFrom o (suc s) k) x) ∙ tail-eq-of-cons-eq e ∙ append-assoc (literal p s) (literalsFrom p (suc s) k) y) in
     let r = literals-told o p (suc s) k x y (t .1) in
     (λ i a b. by-cases (decLt s i) (λ l. r .0 i l (omega arith)) (λ l. let z : s ≡ i = omega arith in subst (λ (j : ℕ). hasBit o j ≡ hasBit p j) z (t .0)), r .1)
 
 label-told : (o p : ℕ) (x y : List ℕ) → o < 256 → p < 256 → label o ++ x ≡ label p ++ y → (o ≡ p) × (x ≡ y)
-unfolding label joined literals spread flatMap numbers
+unfolding label joined literalsFrom spread flatMap numbers
 label-told o p x y ho hp e =
     let t = literals-told o p 0 8 x y (ap (λ (u : List ℕ). 38 ∷ u) e) in
     (mask-ext 8 o p ho hp (λ i l. t .0 i (omega arith) (omega arith)), t .1)

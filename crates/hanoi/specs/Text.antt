@@ -1,8 +1,7 @@
 -- Document 02, No. 1: the text of a machine in the Hanoi Omega-Automata format, HOA v1, line by line.
-use mathlib.Core.Bool.{Bool, cond}
+use mathlib.Core.Bool.{cond}
 use mathlib.Core.List.{List, [], _∷_, _++_, map, flatMap, flatten}
 use Prim.Native.Nat.{ℕ}
-use Prim.Native.String.{String}
 use lib.ListN.{length}
 use Rattle.mask.specs.Bits.{hasBit}
 use Rattle.text.specs.Decimal.{decimal}

@@ -7,13 +7,11 @@ use native.Mathlib.Decide.{decLt}
 use native.Mathlib.Nat.{lt-of-lt-of-le, pow-le-pow-right}
 use native.Mathlib.Omega.{arith}
 use lib.ListN.{getD}
-use Rattle.mask.specs.Bits.{hasBit}
-use Rattle.mask.specs.Tables.{maskOf}
 use Rattle.mask.specs.TablesLaws.{maskOf-lt}
 use Rattle.text.specs.Decimal.{decimal}
 use Rattle.machine.specs.declared.Machine.{Machine}
 use Rattle.machine.specs.Machines.{observation, successors, fairSet, inFairSet}
-use Rattle.hanoi.specs.Words.{ascii, numbers, below, statesOf, spread, joined}
+use Rattle.hanoi.specs.Words.{ascii, numbers, statesOf, spread, joined}
 use Rattle.hanoi.specs.WordsLaws.{states-none, states-next, states-mask}
 use Rattle.hanoi.specs.Text.{label, setsWith, inBraces, stateLines, hoaText}
 use Rattle.hanoi.specs.Parts.{items, braces, stateText, setsMask, linesAt, statesText, headText}

@@ -3,7 +3,6 @@ use mathlib.Core.Bool.{Bool, cond}
 use mathlib.Core.List.{List, [], _∷_, _++_}
 use mathlib.Core.Path.{_≡_, refl, sym, ap, subst, _∙_}
 use Prim.Native.Nat.{ℕ, _+_, _^_, _≤_, _<_}
-use native.Mathlib.Omega.{arith}
 use lib.ListN.{getD}
 use Rattle.mask.specs.Bits.{hasBit, lowestOf, restOf}
 use Rattle.text.specs.Decimal.{decimal}

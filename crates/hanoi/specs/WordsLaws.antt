@@ -1,15 +1,13 @@
 -- Laws of items in a row, and of numbers that ascend: the states of a mask begin with the lowest and go on with those of the rest.
 use mathlib.Core.Bool.{Bool, true, false, cond}
-use mathlib.Core.List.{List, [], _∷_, _++_, map, flatMap}
+use mathlib.Core.List.{List, [], _∷_, _++_, flatMap}
 use mathlib.Core.Logic.{by-cases}
 use mathlib.Core.Path.{_≡_, refl, sym, ap, ap₂, _∙_}
 use Prim.Native.Nat.{ℕ, zero, suc, _+_, _-_, _^_, _≤_, _<_}
 use native.Mathlib.Decide.{decLt}
 use native.Mathlib.Omega.{arith}
-use lib.Dec.{eqb, ltb}
 use borrow.Author.Tests.{eq-eqb, ne-eqb}
-use Rattle.mask.specs.Logic.{not, and, or}
-use Rattle.mask.specs.LogicLaws.{cond-cases, and-true-r, and-false-r, not-i, not-f}
+use Rattle.mask.specs.LogicLaws.{and-true-r, and-false-r, not-i, not-f}
 use Rattle.mask.specs.Bits.{hasBit, lowestOf, restOf}
 use Rattle.mask.specs.BitsLaws.{has-rest, has-none, lowest-set, lowest-least, lowest-lt, has-beyond}
 use Rattle.mask.specs.Tables.{maskOf}
@@ -53,29 +51,29 @@ unfolding numbers
 below-more n h = let e : n ≡ suc (n - 1) = omega arith in ap (numbers 0) e
 
 -- ---- those that pass a test
-pub chosen-hit : (p : ℕ → Bool) (x : ℕ) (l : List ℕ) → p x ≡ true → chosen p (x ∷ l) ≡ x ∷ chosen p l
+chosen-hit : (p : ℕ → Bool) (x : ℕ) (l : List ℕ) → p x ≡ true → chosen p (x ∷ l) ≡ x ∷ chosen p l
 unfolding chosen
 chosen-hit p x l e = rw e
 
-pub chosen-miss : (p : ℕ → Bool) (x : ℕ) (l : List ℕ) → p x ≡ false → chosen p (x ∷ l) ≡ chosen p l
+chosen-miss : (p : ℕ → Bool) (x : ℕ) (l : List ℕ) → p x ≡ false → chosen p (x ∷ l) ≡ chosen p l
 unfolding chosen
 chosen-miss p x l e = rw e
 
 -- tests that agree on the numbers choose the same
-pub chosen-cong : (p q : ℕ → Bool) (s k : ℕ) → ((i : ℕ) → s ≤ i → i < s + k → p i ≡ q i) → chosen p (numbers s k) ≡ chosen q (numbers s k)
+chosen-cong : (p q : ℕ → Bool) (s k : ℕ) → ((i : ℕ) → s ≤ i → i < s + k → p i ≡ q i) → chosen p (numbers s k) ≡ chosen q (numbers s k)
 unfolding chosen numbers
 chosen-cong p q s zero h = refl
 chosen-cong p q s (suc k) h =
     ap₂ (λ (b : Bool) (l : List ℕ). cond b (s ∷ l) l) (h s (omega arith) (omega arith)) (chosen-cong p q (suc s) k (λ i a b. h i (omega arith) (omega arith)))
 
-pub chosen-none : (p : ℕ → Bool) (s k : ℕ) → ((i : ℕ) → s ≤ i → i < s + k → p i ≡ false) → chosen p (numbers s k) ≡ []
+chosen-none : (p : ℕ → Bool) (s k : ℕ) → ((i : ℕ) → s ≤ i → i < s + k → p i ≡ false) → chosen p (numbers s k) ≡ []
 unfolding chosen numbers
 chosen-none p s zero h = refl
 chosen-none p s (suc k) h =
     chosen-miss p s (numbers (suc s) k) (h s (omega arith) (omega arith)) ∙ chosen-none p (suc s) k (λ i a b. h i (omega arith) (omega arith))
 
 -- none passes from a bound on
-pub chosen-cut : (p : ℕ → Bool) (s k n : ℕ) → n ≤ k → ((i : ℕ) → s + n ≤ i → i < s + k → p i ≡ false) → chosen p (numbers s k) ≡ chosen p (numbers s n)
+chosen-cut : (p : ℕ → Bool) (s k n : ℕ) → n ≤ k → ((i : ℕ) → s + n ≤ i → i < s + k → p i ≡ false) → chosen p (numbers s k) ≡ chosen p (numbers s n)
 unfolding chosen numbers
 chosen-cut p s k zero l h = chosen-none p s k (λ i a b. h i (omega arith) b)
 chosen-cut p s zero (suc n) l h = absurd (omega arith)
@@ -84,7 +82,7 @@ chosen-cut p s (suc k) (suc n) l h =
 
 -- the first that passes, and then those that a test chooses which it alone fails
 module _ (p q : ℕ → Bool) (i : ℕ) (here : p i ≡ true) (gone : q i ≡ false) (same : (k : ℕ) → (k ≡ i → ⊥) → p k ≡ q k) where
-  pub chosen-first : (s k : ℕ) → s ≤ i → i < s + k → ((j : ℕ) → j < i → p j ≡ false) → chosen p (numbers s k) ≡ i ∷ chosen q (numbers s k)
+  chosen-first : (s k : ℕ) → s ≤ i → i < s + k → ((j : ℕ) → j < i → p j ≡ false) → chosen p (numbers s k) ≡ i ∷ chosen q (numbers s k)
   unfolding numbers
   chosen-first s zero l h none = absurd (omega arith)
   chosen-first s (suc k) l h none =

@@ -66,11 +66,11 @@ fn put_starts(out: &mut [u8], at: usize, start: u64) -> usize
     ensures { λ r. ⌜ Placed (now (out .entry)) at (startLines start) (now (out .exit)) r ⌝ }
 {
     let mut to = at;
-    let mut left = start;
-    while left != 0 {
-        let end = put_numbered(out, to, b"Start: ", mask::lowest(left));
+    let mut remaining = start;
+    while remaining != 0 {
+        let end = put_numbered(out, to, b"Start: ", mask::lowest(remaining));
         to = put_word(out, end, b"\n");
-        left = mask::rest(left);
+        remaining = mask::rest(remaining);
     }
     to
 }

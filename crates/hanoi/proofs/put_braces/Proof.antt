@@ -1,7 +1,6 @@
 -- Nothing for the empty mask, and else the parts one behind the other.
 use mathlib.Core.List.{[], _∷_}
 use mathlib.Core.Path.{_≡_, ap, _∙_}
-use Prim.Native.Nat.{ℕ}
 use native.Mathlib.Omega.{arith}
 use borrow.Author.Needs.{needs}
 use Rattle.hanoi.specs.Words.{ascii}

@@ -1,6 +1,5 @@
 -- The parts of the lines, one behind the other.
 use mathlib.Core.List.{[], _∷_, _++_}
-use mathlib.Core.Path.{_∙_}
 use borrow.Author.Needs.{needs}
 use Rattle.text.specs.Decimal.{decimal}
 use Rattle.hanoi.specs.Words.{ascii}

@@ -1,7 +1,7 @@
 -- The first bit, and then those that are left.
 use mathlib.Core.List.{[], _∷_}
-use mathlib.Core.Path.{_≡_, refl, sym, ap, _∙_}
-use Prim.Native.Nat.{ℕ, _-_, _≤_}
+use mathlib.Core.Path.{refl, _∙_}
+use Prim.Native.Nat.{_-_, _≤_}
 use native.Mathlib.Omega.{arith}
 use borrow.Author.Needs.{needs}
 use Rattle.hanoi.specs.PartsLaws.{literals}
@@ -30,6 +30,9 @@ loop-holds c =
     let x = c .before .before .before .before .before .before .before .args in
     (omega arith, left-all _ _ _ (left-room (left-next (literals-start (x .out .now) (x .at) (x .o) (c .before .before .before .before .before .before .before .pre)) (c .before .before .put-literal .ensures))))
 
+loop-again : tie.Need-loop-again Inv-loop μ-loop
+loop-again c = (omega arith, left-next (literals-more _ _ (c .before .before .before .before .before .before .before .loop .inv .1) (c .before .before .before .before .before .before .loop-test .taken)) (c .before .before .put-literal2 .ensures))
+
 slice-aggregate-put-literal-3 : tie.Need-slice-aggregate-put-literal-3 Inv-loop μ-loop
 slice-aggregate-put-literal-3 c = refl
 
@@ -44,9 +47,6 @@ add-i c = search needs
 
 loop-less : tie.Need-loop-less Inv-loop μ-loop
 loop-less c = search needs
-
-loop-again : tie.Need-loop-again Inv-loop μ-loop
-loop-again c = (omega arith, left-next (literals-more _ _ (c .before .before .before .before .before .before .before .loop .inv .1) (c .before .before .before .before .before .before .loop-test .taken)) (c .before .before .put-literal2 .ensures))
 
 same-length : tie.Need-same-length Inv-loop μ-loop
 same-length c = c .before .loop .inv .1 .same ∙ placed-same (c .before .before .before .before .put-literal .ensures)

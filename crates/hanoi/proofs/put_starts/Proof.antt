@@ -1,7 +1,7 @@
 -- The invariant: the lines of the start states that are left are still to be put.
 use mathlib.Core.List.{[], _∷_}
-use mathlib.Core.Path.{_≡_, refl, sym, ap, _∙_}
-use Prim.Native.Nat.{ℕ, _^_, _<_}
+use mathlib.Core.Path.{refl, sym, ap}
+use Prim.Native.Nat.{_^_, _<_}
 use native.Mathlib.Omega.{arith}
 use mir.Val.{Fits}
 use mir.Syntax.{w64}
@@ -15,16 +15,16 @@ use Rattle.hanoi.proofs.put_starts.Statement.{statement}
 use Rattle.hanoi.proofs.put_starts.Tie as tie
 
 abbrev Inv-loop : tie.InvT-loop
-Inv-loop out₀ at start to₀ left₀ t7 t8 out to left = (left < 2 ^ 64) × Left out₀ at (startLines start) out to (startLines left ∷ [])
+Inv-loop out₀ at start to₀ remaining₀ t7 t8 out to remaining = Left out₀ at (startLines start) out to (startLines remaining ∷ []) × (remaining < 2 ^ 64)
 
 abbrev μ-loop : tie.MeasureT-loop
-μ-loop out₀ at start to₀ left₀ t7 t8 out to left = left
+μ-loop out₀ at start to₀ remaining₀ t7 t8 out to remaining = remaining
 
 small : (c : tie.Start Inv-loop μ-loop) → c .args .start < 2 ^ 64
 small c = let f : Fits w64 (c .args .start) = search needs in f .fits
 
 loop-holds : tie.Need-loop-holds Inv-loop μ-loop
-loop-holds c = (small (c .before), left-all _ _ _ (c .before .pre))
+loop-holds c = (left-all _ _ _ (c .before .pre), small (c .before))
 
 slice-aggregate-put-numbered : tie.Need-slice-aggregate-put-numbered Inv-loop μ-loop
 slice-aggregate-put-numbered c = refl
@@ -33,7 +33,7 @@ lowest-requires : tie.Need-lowest-requires Inv-loop μ-loop
 lowest-requires c κs = search needs
 
 put-numbered-requires : tie.Need-put-numbered-requires Inv-loop μ-loop
-put-numbered-requires c κs = let l = c .before .before .before .before .loop in left-room (starts-more _ _ (l .inv .1) (c .before .before .before .loop-test .taken) (l .inv .0) (c .lowest .ensures))
+put-numbered-requires c κs = let l = c .before .before .before .before .loop in left-room (starts-more _ _ (l .inv .0) (c .before .before .before .loop-test .taken) (l .inv .1) (c .lowest .ensures))
 
 slice-aggregate-put-word : tie.Need-slice-aggregate-put-word Inv-loop μ-loop
 slice-aggregate-put-word c = refl
@@ -41,27 +41,27 @@ slice-aggregate-put-word c = refl
 put-word-requires : tie.Need-put-word-requires Inv-loop μ-loop
 put-word-requires c κs =
     let l = c .before .before .before .before .before .before .before .before .before .loop in
-    let line = starts-more _ _ (l .inv .1) (c .before .before .before .before .before .before .before .before .loop-test .taken) (l .inv .0) (c .before .before .before .before .before .lowest .ensures) in
+    let line = starts-more _ _ (l .inv .0) (c .before .before .before .before .before .before .before .before .loop-test .taken) (l .inv .1) (c .before .before .before .before .before .lowest .ensures) in
     left-room (left-split (left-next line (c .before .before .before .before .put-numbered .ensures)) (ascii "\n") _ refl)
 
 rest-requires : tie.Need-rest-requires Inv-loop μ-loop
 rest-requires c κs = search needs
 
-loop-less : tie.Need-loop-less Inv-loop μ-loop
-loop-less c = omega (arith, c .rest .ensures, rest-lt (c .before .before .before .before .before .before .before .before .before .before .before .before .before .loop .left) (omega arith))
-
 loop-again : tie.Need-loop-again Inv-loop μ-loop
 loop-again c =
     let l = c .before .before .before .before .before .before .before .before .before .before .before .before .before .loop in
-    let line = starts-more _ _ (l .inv .1) (c .before .before .before .before .before .before .before .before .before .before .before .before .loop-test .taken) (l .inv .0) (c .before .before .before .before .before .before .before .before .before .lowest .ensures) in
+    let line = starts-more _ _ (l .inv .0) (c .before .before .before .before .before .before .before .before .before .before .before .before .loop-test .taken) (l .inv .1) (c .before .before .before .before .before .before .before .before .before .lowest .ensures) in
     let end = left-next (left-split (left-next line (c .before .before .before .before .before .before .before .before .put-numbered .ensures)) (ascii "\n") _ refl) (c .before .before .before .put-word .ensures) in
-    (omega (arith, l .inv .0, c .rest .ensures, rest-lt (l .left) (omega arith)), left-to end _ (ap startLines (sym (c .rest .ensures))))
+    (left-to end _ (ap startLines (sym (c .rest .ensures))), omega (arith, l .inv .1, c .rest .ensures, rest-lt (l .remaining) (omega arith)))
+
+loop-less : tie.Need-loop-less Inv-loop μ-loop
+loop-less c = omega (arith, c .rest .ensures, rest-lt (c .before .before .before .before .before .before .before .before .before .before .before .before .before .loop .remaining) (omega arith))
 
 same-length : tie.Need-same-length Inv-loop μ-loop
-same-length c = c .before .loop .inv .1 .same
+same-length c = c .before .loop .inv .0 .same
 
 returns : tie.Need-returns Inv-loop μ-loop
-returns c = starts-end _ (c .loop-test .left) (c .before .loop .inv .1)
+returns c = starts-end _ (c .loop-test .left) (c .before .loop .inv .0)
 
 pub put-starts-spec : {M : Type 1} → statement M
 put-starts-spec =

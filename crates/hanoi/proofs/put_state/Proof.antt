@@ -1,12 +1,11 @@
 -- The parts of the two lines, one behind the other.
 use mathlib.Core.List.{[], _∷_, _++_}
-use mathlib.Core.Path.{_∙_}
 use borrow.Author.Needs.{needs}
 use Rattle.text.specs.Decimal.{decimal}
 use Rattle.hanoi.specs.Words.{ascii}
 use Rattle.hanoi.specs.Text.{label}
 use Rattle.hanoi.specs.Parts.{items, braces, stateText}
-use Rattle.hanoi.specs.PutLaws.{Left, left-next, left-room, left-last, left-done, placed-same}
+use Rattle.hanoi.specs.PutLaws.{Left, left-next, left-room, left-done}
 use Rattle.hanoi.specs.WalkLaws.{state-start}
 use Rattle.hanoi.proofs.put_state.Statement.{statement}
 use Rattle.hanoi.proofs.put_state.Tie as tie

@@ -1,6 +1,5 @@
 -- The parts of the text, one behind the other; a well-formed machine's text has room.
 use mathlib.Core.List.{[], _∷_}
-use mathlib.Core.Path.{_≡_}
 use native.Mathlib.Omega.{arith}
 use borrow.Author.Needs.{needs}
 use Rattle.machine.specs.WellFormedLaws.{WellMachine, valid-machine}
