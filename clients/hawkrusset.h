@@ -105,7 +105,7 @@ uint32_t look_up_file(const uint8_t *bytes, size_t length, const uint64_t family
  * without a state is written like any other. Or the answer is 0: then `out` is unchanged, and `spot` has the refusal's number and the three numbers
  * of its spot. The numbers are 1 for an `out` of fewer than 20,000 bytes, told before the file is looked at, those of the reader, 2 to 11 and 19,
  * and last 20 for a machine that is neither 0 nor 1. `bytes`, `out` and `spot` must not overlap.
- * libexport.a has it (rt staticlib export).
+ * It takes at most 70,000 bytes of stack. libexport.a has it (rt staticlib export).
  */
 size_t hoa_file(const uint8_t *bytes, size_t length, size_t which, uint8_t *out, size_t room, uint64_t spot[4]);
 

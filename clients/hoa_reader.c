@@ -657,6 +657,7 @@ static void pass_body(void)
     for (size_t i = 1; i < listed_count; i++)
         if (listed[i].number == listed[i - 1].number)
             fail("state %lu is defined twice, in lines %lu and %lu", listed[i].number, listed[i - 1].line, listed[i].line);
+    /* stricter than the format may be: a state that nothing leads to has to be listed too */
     if (listed_count != states.value)
         fail("%lu states are defined, of %lu", (unsigned long)listed_count, states.value);
     for (size_t k = 0; k < PROPERTIES; k++)

@@ -1,4 +1,4 @@
--- Demands 2 and 3 of the tender, what change requests 4 and 5 add to files, what request 1 says of texts, request 6 of turns, and request 7 of empty sets, over the very definitions that the contracts of reader, writer, check, solver and solver by turns cite. Each statement is a type with
+-- Demands 2 and 3 of the tender, what change requests 4 and 5 add to files, what request 1 says of texts, request 6 of turns, and request 7 of empty sets, over the very definitions that the contracts of reader, writer, check, solver, solver by turns and Hanoi text cite. Each statement is a type with
 -- its hypotheses in it, and Theorems.antt gives a proof of each: what is shown of well-formed machines, of machines whose sets all have a state, or of
 -- a lent table with room only has `wellFormed p ≡ true`, `nonemptySets p ≡ true`, or `tableRoom ≤ length T`. `readAnswer` and `readTable` are what the reader says and leaves in the lent table, `fileOf`
 -- is the format's bytes of a show, `writeAnswer` and `writeBuffer` what the writer says and leaves in the lent buffer, `checkVerdict` what the check says, `solveValidity` and `solvedTable` what the solver says and leaves in the lent table, `restoreAnswer` and
@@ -127,8 +127,8 @@ EmptySetMeans = EmptySetIsUnfair × NonemptyHasState
 
 -- ---- Document 02, No. 1: "Two well-formed machines have the same text only if they are the same machine"; the text of every well-formed machine fits, and
 -- the greatest length there is
-abbrev pub TextsTellMachines : Type 0
-TextsTellMachines = TextTellsMachine × TextFits × LongestText
+abbrev pub TextsOfMachines : Type 0
+TextsOfMachines = TextTellsMachine × TextFits × LongestText
 
 -- ---- Document 02, No. 6: what is said of every list of turns from the first over the same machines, and that the solver is turns until one is finished
 abbrev pub TurnsAreSolver : Type 0

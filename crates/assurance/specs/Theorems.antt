@@ -40,7 +40,7 @@ use Rattle.hanoi.specs.Theorems.{text-tells-machine, text-fits, longest-text}
 use Rattle.progress.specs.Theorems.{turns-finish, only-finished-writes, finished-settles, struck-out-is-final, finished-tells, first-is-matched, solver-is-turns}
 use Rattle.restore.specs.Restoring.{restored, restoreBuffer}
 use Rattle.restore.specs.RestoringLaws.{restore-valid, restore-made, restore-empty}
-use Rattle.assurance.specs.Statements.{FilesReadBack, FilesAreWritten, FirstBlockIsEnough, TakenIsNotCut, EntriesAreUnread, FilesAreSound, StoredFilesAreSound, StoredFilesKeepMeaning, BlocksAreTold, BadCopiesAreTold, LostTableIsReplaced, SolverRefusesEmpty, WriterRefusesEmpty, FileSolverRefusesEmpty, TurnsRefuseEmpty, EmptySetsAreRefused, EmptySetMeans, TurnsAreSolver, TextsTellMachines}
+use Rattle.assurance.specs.Statements.{FilesReadBack, FilesAreWritten, FirstBlockIsEnough, TakenIsNotCut, EntriesAreUnread, FilesAreSound, StoredFilesAreSound, StoredFilesKeepMeaning, BlocksAreTold, BadCopiesAreTold, LostTableIsReplaced, SolverRefusesEmpty, WriterRefusesEmpty, FileSolverRefusesEmpty, TurnsRefuseEmpty, EmptySetsAreRefused, EmptySetMeans, TurnsAreSolver, TextsOfMachines}
 use Rattle.assurance.specs.Statements.{SolverTakesMachines, SolvedPasses, SolvedCovers, SolvedIsCarried, SolvedIsFigure2, SolvedGoals, SolvedRanks, SolvedRest}
 
 pub files-read-back : FilesReadBack
@@ -135,8 +135,8 @@ pub empty-sets-are-refused : EmptySetsAreRefused
 empty-sets-are-refused = (solver-refuses-empty, writer-refuses-empty, file-solver-refuses-empty, turns-refuse-empty)
 
 -- ---- texts
-pub texts-tell-machines : TextsTellMachines
-texts-tell-machines = (text-tells-machine, text-fits, longest-text)
+pub texts-of-machines : TextsOfMachines
+texts-of-machines = (text-tells-machine, text-fits, longest-text)
 
 -- ---- the solver by turns
 pub turns-are-solver : TurnsAreSolver

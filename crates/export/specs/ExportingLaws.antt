@@ -41,19 +41,19 @@ module _ (f : List ℕ) where
 
 -- ---- the tests decide the answer and the buffer
 module _ (f : List ℕ) (which : ℕ) (buffer : List ℕ) where
-  abbrev Left : Result ℕ → List ℕ → Type 0
-  Left said after = (exportAnswer f which (length buffer) ≡ said) × (exportBuffer f which buffer ≡ after)
+  abbrev Leaves : Result ℕ → List ℕ → Type 0
+  Leaves said after = (exportAnswer f which (length buffer) ≡ said) × (exportBuffer f which buffer ≡ after)
 
-  stopped : (r : Refusal) → exportValidity f which (length buffer) ≡ refused r → Left (refused r) buffer
+  stopped : (r : Refusal) → exportValidity f which (length buffer) ≡ refused r → Leaves (refused r) buffer
   unfolding exportAnswer exportBuffer
   stopped r e = (then-refused _ _ r e, buffer-kept _ _ buffer e)
 
-  pub export-short : length buffer < textRoom → Left (refused (refusal short-buffer 0 0 0)) buffer
+  pub export-short : length buffer < textRoom → Leaves (refused (refusal short-buffer 0 0 0)) buffer
   unfolding exportValidity
   export-short h = stopped _ (then-refused _ _ _ (buffer-short textRoom (length buffer) h))
 
   module _ (h : textRoom ≤ length buffer) where
-    pub export-unread : {r : Refusal} → readValidity f tableRoom ≡ refused r → Left (refused r) buffer
+    pub export-unread : {r : Refusal} → readValidity f tableRoom ≡ refused r → Leaves (refused r) buffer
     unfolding exportValidity
     export-unread e = stopped _ (then-of _ _ (buffer-valid textRoom (length buffer) h) ∙ then-refused _ _ _ e)
 
@@ -62,12 +62,12 @@ module _ (f : List ℕ) (which : ℕ) (buffer : List ℕ) where
       unfolding exportValidity
       tests = then-of _ _ (buffer-valid textRoom (length buffer) h) ∙ then-of _ _ read
 
-      pub export-neither : 2 ≤ which → Left (refused (refusal out-of-range 0 0 0)) buffer
+      pub export-neither : 2 ≤ which → Leaves (refused (refusal out-of-range 0 0 0)) buffer
       unfolding whichValidity
       export-neither l = stopped _ (tests ∙ rw (le-ltb which 2 l))
 
       -- the machine is well formed, so that its text is written
-      pub export-written : (m : Machine) → which < 2 → m ≡ machineIn f which → Left (textAnswer m (length buffer)) (textBuffer m buffer)
+      pub export-written : (m : Machine) → which < 2 → m ≡ machineIn f which → Leaves (textAnswer m (length buffer)) (textBuffer m buffer)
       unfolding whichValidity exportAnswer exportBuffer
       export-written m l e =
           let nothing : exportValidity f which (length buffer) ≡ valid = tests ∙ rw (lt-ltb which 2 l) in

@@ -1,5 +1,5 @@
 -- Laws of the call: by its tests, what is answered and what is left in the lent buffer.
-use mathlib.Core.List.{List, [], _∷_, _++_}
+use mathlib.Core.List.{List, _++_}
 use mathlib.Core.Path.{_≡_, sym, ap, _∙_}
 use Prim.Native.Nat.{ℕ, _≤_, _<_}
 use native.Mathlib.Omega.{arith}
@@ -11,9 +11,8 @@ use Rattle.machine.specs.RefusalsLaws.{then-of, then-refused, buffer-valid, buf
 use Rattle.machine.specs.WellFormed.{machineValidity}
 use Rattle.machine.specs.WellFormedLaws.{WellMachine}
 use Rattle.codec.specs.ListLaws.{sets-front}
-use Rattle.hanoi.specs.Words.{ascii}
 use Rattle.hanoi.specs.Text.{textRoom, hoaText, textValidity, textAnswer, textBuffer}
-use Rattle.hanoi.specs.Parts.{statesText, headText}
+use Rattle.hanoi.specs.Parts.{textParts}
 use Rattle.hanoi.specs.Puts.{Placed}
 use Rattle.hanoi.specs.PutLaws.{Left, left-parts}
 use Rattle.hanoi.specs.TextLaws.{text-parts}
@@ -21,8 +20,7 @@ use Rattle.hanoi.specs.FitsLaws.{text-most}
 
 -- the parts of a well-formed machine's text, and their room
 pub text-start : (out : List ℕ) (m : Machine) → WellMachine 8 m
-    → Left out 0 (hoaText m) out 0
-    (headText (m .states) (m .sets) (m .start) ∷ statesText (m .states) (m .sets) (m .observations) (m .successors) (m .fairness) ∷ ascii "--END--\n" ∷ [])
+    → Left out 0 (hoaText m) out 0 (textParts m)
 text-start out m w = left-parts out 0 (hoaText m) _ (text-parts m (omega (arith, w .sets-high))) (omega (arith, text-most m w))
 
 module _ (m : Machine) (buffer : List ℕ) where

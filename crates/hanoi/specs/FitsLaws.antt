@@ -16,10 +16,11 @@ use Rattle.machine.specs.declared.Machine.{Machine}
 use Rattle.machine.specs.WellFormedLaws.{WellMachine}
 use Rattle.hanoi.specs.Words.{ascii, numbers, below, chosen, statesOf, spread, joined}
 use Rattle.hanoi.specs.WordsLaws.{states-mask}
-use Rattle.hanoi.specs.Text.{line, startLine, acceptance, literal, label, hoaText}
-use Rattle.hanoi.specs.Parts.{items, startLines, braces, stateText, setsMask, linesAt, statesText, headText}
+use Rattle.hanoi.specs.Text.{line, startLine, infinitely, acceptance, literal, label, hoaText}
+use Rattle.hanoi.specs.Parts.{items, startLines, braces, stateText, setsMask, linesAt, linesBelow, headText}
+use Rattle.hanoi.specs.Statements.{mostLength}
 use Rattle.hanoi.specs.TextLaws.{text-parts}
-use Rattle.hanoi.specs.PartsLaws.{infinitely, braces-none, braces-some}
+use Rattle.hanoi.specs.PartsLaws.{braces-none, braces-some}
 
 -- ---- numbers that are written, and those of them that pass a test
 module _ (f g : ℕ → List ℕ) (shorter : (i : ℕ) → length (f i) ≤ length (g i)) where
@@ -143,8 +144,8 @@ lines-all : length (flatMap (λ s. replicate 234 0 ++ decimal s) (below 64)) ≡
 unfolding flatMap numbers decimal digitsUpTo
 lines-all = refl
 
-states-most : (n k : ℕ) (observations successors fairness : List ℕ) → n ≤ 64 → k ≤ 8 → length (statesText n k observations successors fairness) ≤ 15094
-unfolding statesText
+states-most : (n k : ℕ) (observations successors fairness : List ℕ) → n ≤ 64 → k ≤ 8 → length (linesBelow n k observations successors fairness) ≤ 15094
+unfolding linesBelow
 states-most n k observations successors fairness h q =
     let f = linesAt k observations successors fairness in
     omega (
@@ -170,7 +171,7 @@ head-most n k start h q =
     (omega (arith, decimal-short 1 n (omega arith) (omega arith), decimal-short 0 k (omega arith) (omega arith), starts-most start, acceptance-most k q))
 
 -- ---- the whole
-pub text-most : (m : Machine) → WellMachine 8 m → length (hoaText m) ≤ 15941
+pub text-most : (m : Machine) → WellMachine 8 m → length (hoaText m) ≤ mostLength
 text-most m w =
     let few : m .sets ≤ 64 = omega (arith, w .sets-high) in
     rw (text-parts m few)

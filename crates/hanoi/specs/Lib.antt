@@ -1,6 +1,7 @@
 -- definitions
 pub mod Words
 pub mod Text
+pub mod Example
 pub mod Parts
 pub mod Puts
 pub mod Statements

@@ -1,13 +1,13 @@
 -- Laws of lines with what stands behind them, and what the whole text is: the lines before those of the states, those of the states, and the last.
 use mathlib.Core.List.{List, [], _∷_, _++_, map, flatMap, flatten, append-assoc, append-nil}
-use mathlib.Core.Path.{_≡_, refl, ap, _∙_}
+use mathlib.Core.Path.{_≡_, refl, ap}
 use Prim.Native.Nat.{ℕ}
 use Rattle.text.specs.Decimal.{decimal, digitsUpTo}
 use Rattle.machine.specs.declared.Machine.{Machine}
 use Rattle.machine.specs.Machines.{observation, successors}
 use Rattle.hanoi.specs.Words.{ascii, numbers, below, statesOf, spread, joined}
-use Rattle.hanoi.specs.Text.{line, startLine, name, acceptance, label, setsWith, inBraces, stateLines, hoaText}
-use Rattle.hanoi.specs.Parts.{startLines, headText}
+use Rattle.hanoi.specs.Text.{line, startLine, name, namesLine, acceptance, label, setsWith, inBraces, stateLines, hoaText}
+use Rattle.hanoi.specs.Parts.{startLines, namesWord, countWord, bodyWord, headText}
 
 -- ---- items that stand one blank apart
 module _ (w : List ℕ) (ws : List (List ℕ)) (x : List ℕ) where
@@ -53,47 +53,32 @@ module _ (m : Machine) (s : ℕ) where
   state-lines x = simp (append-assoc, line-is, joined-next, spread-next)
 
 -- ---- the whole text
-names-line : line (ascii "AP:" ∷ ascii "8" ∷ map name (below 8)) ≡ ascii "AP: 8 \"o0\" \"o1\" \"o2\" \"o3\" \"o4\" \"o5\" \"o6\" \"o7\"\n"
-unfolding line joined spread flatMap name numbers decimal digitsUpTo
+names-line : namesLine ≡ namesWord
+unfolding namesLine line joined spread flatMap name numbers decimal digitsUpTo
 names-line = refl
 
 -- words, numbers and lists of lines, grouped by lines and grouped as the code puts them
 regroup : (hoa states feed names acc condition blank body end n starts k infs lines : List ℕ)
     → hoa ++ (((states ++ (n ++ [])) ++ feed) ++ (starts ++ (names ++ (((acc ++ (k ++ [])) ++ feed) ++ (((condition ++ (k ++ (blank ++ (infs ++ [])))) ++ feed) ++ (body ++ (lines ++ (end ++ []))))))))
-    ≡ (((hoa ++ states) ++ n) ++ (feed ++ (starts ++ (((names ++ acc) ++ k) ++ (((feed ++ condition) ++ k) ++ (blank ++ (infs ++ ((feed ++ body) ++ [])))))))) ++ (lines ++ end)
+    ≡ (((hoa ++ states) ++ n) ++ (feed ++ (starts ++ ((names ++ acc ++ k) ++ (((feed ++ condition) ++ k) ++ (blank ++ (infs ++ ((feed ++ body) ++ [])))))))) ++ (lines ++ end)
 regroup hoa states feed names acc condition blank body end n starts k infs lines = simp (append-assoc, append-nil)
 
-module _ (m : Machine) where
-  pub text-lines : hoaText m ≡ headText (m .states) (m .sets) (m .start) ++ (flatMap (stateLines m) (below (m .states)) ++ ascii "--END--\n")
-  unfolding hoaText headText startLines flatten line joined spread flatMap
-  text-lines =
-      ap grouped names-line
-      ∙ regroup (ascii "HOA: v1\n") (ascii "States: ") (ascii "\n") (ascii "AP: 8 \"o0\" \"o1\" \"o2\" \"o3\" \"o4\" \"o5\" \"o6\" \"o7\"\n")
-      (ascii "acc-name: generalized-Buchi ") (ascii "Acceptance: ") (ascii " ") (ascii "properties: state-labels state-acc\n--BODY--\n") (ascii "--END--\n")
-      (decimal (m .states)) (flatMap startLine (statesOf (m .start))) (decimal (m .sets)) (acceptance (m .sets)) (flatMap (stateLines m) (below (m .states)))
-    where
-      grouped : List ℕ → List ℕ
-      grouped names =
-          line (ascii "HOA:" ∷ ascii "v1" ∷ [])
-          ++ (line (ascii "States:" ∷ decimal (m .states) ∷ [])
-          ++ (flatMap startLine (statesOf (m .start))
-          ++ (names
-          ++ (line (ascii "acc-name:" ∷ ascii "generalized-Buchi" ∷ decimal (m .sets) ∷ [])
-          ++ (line (ascii "Acceptance:" ∷ decimal (m .sets) ∷ acceptance (m .sets) ∷ [])
-          ++ (line (ascii "properties:" ∷ ascii "state-labels" ∷ ascii "state-acc" ∷ [])
-          ++ (line (ascii "--BODY--" ∷ []) ++ (flatMap (stateLines m) (below (m .states)) ++ (line (ascii "--END--" ∷ []) ++ [])))))))))
+pub text-lines : (m : Machine) → hoaText m ≡ headText (m .states) (m .sets) (m .start) ++ (flatMap (stateLines m) (below (m .states)) ++ ascii "--END--\n")
+unfolding hoaText headText startLines flatten line joined spread flatMap
+text-lines m =
+    rw names-line
+    (regroup (ascii "HOA: v1\n") (ascii "States: ") (ascii "\n") namesWord countWord (ascii "Acceptance: ") (ascii " ") bodyWord (ascii "--END--\n")
+    (decimal (m .states)) (flatMap startLine (statesOf (m .start))) (decimal (m .sets)) (acceptance (m .sets)) (flatMap (stateLines m) (below (m .states))))
 
--- the first lines with what stands behind them, up to the second number of sets
+-- the lines before those of the states, with what stands behind them; `middle` goes from the second number of sets to the states
 unfoldable pub middle : ℕ → List ℕ
-middle k = decimal k ++ (ascii " " ++ (acceptance k ++ ascii "\nproperties: state-labels state-acc\n--BODY--\n"))
+middle k = decimal k ++ (ascii " " ++ (acceptance k ++ (ascii "\n" ++ bodyWord)))
 
 pub head-behind : (n k start : ℕ) (x : List ℕ) → headText n k start ++ x
-    ≡ ascii "HOA: v1\nStates: " ++ (decimal n ++ (ascii "\n" ++ (startLines start
-    ++ (ascii "AP: 8 \"o0\" \"o1\" \"o2\" \"o3\" \"o4\" \"o5\" \"o6\" \"o7\"\nacc-name: generalized-Buchi " ++ (decimal k ++ (ascii "\nAcceptance: " ++ (middle k ++ x)))))))
+    ≡ ascii "HOA: v1\nStates: " ++ (decimal n ++ (ascii "\n" ++ (startLines start ++ (namesWord ++ countWord ++ (decimal k ++ (ascii "\nAcceptance: " ++ (middle k ++ x)))))))
 unfolding headText flatten middle
 head-behind n k start x =
-    assoc (ascii "HOA: v1\nStates: ") (ascii "\n") (ascii "AP: 8 \"o0\" \"o1\" \"o2\" \"o3\" \"o4\" \"o5\" \"o6\" \"o7\"\nacc-name: generalized-Buchi ")
-    (ascii "\nAcceptance: ") (ascii " ") (ascii "\nproperties: state-labels state-acc\n--BODY--\n") (decimal n) (startLines start) (decimal k) (acceptance k)
+    assoc (ascii "HOA: v1\nStates: ") (ascii "\n") (namesWord ++ countWord) (ascii "\nAcceptance: ") (ascii " ") (ascii "\n" ++ bodyWord) (decimal n) (startLines start) (decimal k) (acceptance k)
   where
     assoc : (hoa feed names condition blank body d starts e infs : List ℕ)
         → ((hoa ++ d) ++ (feed ++ (starts ++ ((names ++ e) ++ ((condition ++ e) ++ (blank ++ (infs ++ (body ++ [])))))))) ++ x

@@ -12,10 +12,10 @@ use Rattle.mask.specs.Tables.{maskOf}
 use Rattle.mask.specs.TablesLaws.{maskOf-hit, maskOf-miss}
 use Rattle.text.specs.Decimal.{decimal}
 use Rattle.text.specs.DecimalLaws.{decimal-one}
-use Rattle.hanoi.specs.Words.{ascii, numbers, below, statesOf, spread, joined}
+use Rattle.hanoi.specs.Words.{ascii, numbers, below, spread, joined}
 use Rattle.hanoi.specs.WordsLaws.{spread-none, spread-more, joined-none, joined-more, states-none, states-next, numbers-at, numbers-past, below-more}
-use Rattle.hanoi.specs.Text.{line, startLine, acceptance, literal, label}
-use Rattle.hanoi.specs.Parts.{items, startLines, braces, setsMask, linesAt, statesText}
+use Rattle.hanoi.specs.Text.{line, startLine, infinitely, acceptance, literal, label}
+use Rattle.hanoi.specs.Parts.{items, startLines, bracesParts, braces, setsMask, linesAt, linesBelow, spaced, conditions, literals, linesFrom}
 
 -- ---- the texts of numbers from k of n on
 module _ (between : List ℕ) (f : ℕ → List ℕ) where
@@ -45,10 +45,6 @@ module _ (f : ℕ → List ℕ) where
   flat-past k n h = ap (flatMap f) (numbers-past k n h) ∙ flat-none
 
 -- ---- the items of a mask
--- those that are left, with a blank before each
-unfoldable pub spaced : ℕ → List ℕ
-spaced m = spread (ascii " ") (map decimal (statesOf m))
-
 pub items-none : items 0 ≡ []
 unfolding items
 items-none = ap (λ (l : List ℕ). joined (ascii " ") (map decimal l)) states-none ∙ joined-none (ascii " ")
@@ -85,14 +81,6 @@ module _ (m : ℕ) (some : m ≡ 0 → ⊥) (small : m < 2 ^ 64) where
       ∙ append-assoc (ascii "Start: " ++ decimal (lowestOf 64 m)) (ascii "\n") (startLines (restOf m))
 
 -- ---- the acceptance condition
-unfoldable pub infinitely : ℕ → List ℕ
-infinitely k = ascii "Inf(" ++ decimal k ++ ascii ")"
-
--- what is left of it from set k on
-unfoldable pub conditions : ℕ → ℕ → List ℕ
-unfolding infinitely
-conditions k n = spread (ascii "&") (map infinitely (numbers k (n - k)))
-
 pub acceptance-first : (n : ℕ) → 0 < n → acceptance n ≡ ascii "Inf(0)" ++ conditions 1 n
 unfolding acceptance conditions infinitely
 acceptance-first n h = joined-below (ascii "&") infinitely n h ∙ ap (λ (w : List ℕ). ascii "Inf(" ++ w ++ ascii ")" ++ conditions 1 n) (decimal-one 0 (omega arith))
@@ -106,10 +94,7 @@ unfolding conditions
 conditions-past k n h = spread-past (ascii "&") infinitely k n h
 
 -- ---- the label
-unfoldable pub literals : ℕ → ℕ → List ℕ
-literals o i = spread (ascii "&") (map (literal o) (numbers i (8 - i)))
-
-pub label-first : (o : ℕ) → label o ≡ (cond (hasBit o 0) (ascii "") (ascii "!") ++ decimal 0) ++ literals o 1
+pub label-first : (o : ℕ) → label o ≡ (cond (hasBit o 0) (ascii "") (ascii "!") ++ decimal 0) ++ literals o 1 7
 unfolding label literals literal
 label-first o = joined-below (ascii "&") (literal o) 8 (omega arith)
 
@@ -117,11 +102,11 @@ after-and : (b : Bool) (w : List ℕ) → ascii "&" ++ (cond b (ascii "") (ascii
 after-and true w = refl
 after-and false w = refl
 
-pub literals-next : (o i : ℕ) → i < 8 → literals o i ≡ (cond (hasBit o i) (ascii "&") (ascii "&!") ++ decimal i) ++ literals o (i + 1)
+pub literals-next : (o i : ℕ) → i < 8 → literals o i (8 - i) ≡ (cond (hasBit o i) (ascii "&") (ascii "&!") ++ decimal i) ++ literals o (i + 1) (8 - (i + 1))
 unfolding literals literal
-literals-next o i h = spread-at (ascii "&") (literal o) i 8 h ∙ ap (λ (w : List ℕ). w ++ literals o (i + 1)) (after-and (hasBit o i) (decimal i))
+literals-next o i h = spread-at (ascii "&") (literal o) i 8 h ∙ ap (λ (w : List ℕ). w ++ literals o (i + 1) (8 - (i + 1))) (after-and (hasBit o i) (decimal i))
 
-pub literals-past : (o i : ℕ) → 8 ≤ i → literals o i ≡ []
+pub literals-past : (o i : ℕ) → 8 ≤ i → literals o i (8 - i) ≡ []
 unfolding literals
 literals-past o i h = spread-past (ascii "&") (literal o) i 8 h
 
@@ -130,25 +115,21 @@ pub braces-none : braces 0 ≡ []
 unfolding braces
 braces-none = refl
 
-pub braces-some : (m : ℕ) → (m ≡ 0 → ⊥) → braces m ≡ flatten (ascii " {" ∷ items m ∷ ascii "}" ∷ [])
+pub braces-some : (m : ℕ) → (m ≡ 0 → ⊥) → braces m ≡ flatten (bracesParts m)
 unfolding braces
 braces-some m h = rw (ne-eqb m 0 h)
 
 -- ---- the states
 module _ (k : ℕ) (observations successors fairness : List ℕ) where
-  -- the lines that are left from state s on
-  unfoldable pub linesFrom : ℕ → ℕ → List ℕ
-  linesFrom s n = flatMap (linesAt k observations successors fairness) (numbers s (n - s))
-
-  pub lines-all : (n : ℕ) → statesText n k observations successors fairness ≡ linesFrom 0 n
-  unfolding statesText linesFrom
+  pub lines-all : (n : ℕ) → linesBelow n k observations successors fairness ≡ linesFrom k observations successors fairness 0 n
+  unfolding linesBelow linesFrom
   lines-all n = let e : n ≡ n - 0 = omega arith in ap (λ (i : ℕ). flatMap (linesAt k observations successors fairness) (numbers 0 i)) e
 
-  pub lines-next : (s n : ℕ) → s < n → linesFrom s n ≡ linesAt k observations successors fairness s ++ linesFrom (s + 1) n
+  pub lines-next : (s n : ℕ) → s < n → linesFrom k observations successors fairness s n ≡ linesAt k observations successors fairness s ++ linesFrom k observations successors fairness (s + 1) n
   unfolding linesFrom
   lines-next s n h = flat-at (linesAt k observations successors fairness) s n h
 
-  pub lines-past : (s n : ℕ) → n ≤ s → linesFrom s n ≡ []
+  pub lines-past : (s n : ℕ) → n ≤ s → linesFrom k observations successors fairness s n ≡ []
   unfolding linesFrom
   lines-past s n h = flat-past (linesAt k observations successors fairness) s n h
 

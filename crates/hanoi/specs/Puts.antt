@@ -6,7 +6,7 @@ use lib.ListN.{length}
 use lib.Seq.{sets}
 use Rattle.hanoi.specs.Text.{textRoom}
 
--- w has room at a place
+-- w ends within the 20,000 bytes that a buffer has, where it begins at a place
 abbrev pub Room : ℕ → List ℕ → Type 0
 Room at w = at + length w ≤ textRoom
 

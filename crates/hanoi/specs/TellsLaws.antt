@@ -1,6 +1,6 @@
 -- The text of a well-formed machine tells the machine: part by part, what two equal texts write is equal.
 use mathlib.Core.Bool.{Bool, true, false, cond}
-use mathlib.Core.List.{List, _∷_, _++_, map, flatMap, append-assoc, append-cancel-left, head-eq-of-cons-eq, tail-eq-of-cons-eq}
+use mathlib.Core.List.{List, _∷_, _++_, flatMap, append-assoc, append-cancel-left, head-eq-of-cons-eq, tail-eq-of-cons-eq}
 use mathlib.Core.Logic.{by-cases}
 use mathlib.Core.Path.{_≡_, refl, sym, ap, ap₂, subst, _∙_}
 use Prim.Native.Nat.{ℕ, zero, suc, _+_, _^_, _≤_, _<_}
@@ -12,7 +12,8 @@ use Rattle.mask.specs.Logic.{and}
 use Rattle.mask.specs.LogicLaws.{clash, refute}
 use Rattle.mask.specs.Bits.{hasBit}
 use Rattle.mask.specs.BitsLaws.{mask-ext}
-use Rattle.text.specs.Decimal.{decimal}
+use Rattle.text.specs.Decimal.{decimal, isDigit}
+use Rattle.text.specs.EndsLaws.{begun, decimal-begun, number-told}
 use Rattle.machine.specs.declared.Machine.{Machine}
 use Rattle.machine.specs.Machines.{observation, successors, fairSet, inFairSet}
 use Rattle.machine.specs.WellFormedLaws.{WellMachine, valid-machine}
@@ -20,9 +21,9 @@ use Rattle.codec.specs.Statements.{RepresentableMachine}
 use Rattle.hanoi.specs.Words.{ascii, numbers, below, chosen, statesOf, spread, joined}
 use Rattle.hanoi.specs.Text.{startLine, literal, label, setsWith, inBraces, stateLines, hoaText}
 use Rattle.hanoi.specs.Statements.{TextTellsMachine}
-use Rattle.hanoi.specs.Parts.{startLines}
+use Rattle.hanoi.specs.Parts.{startLines, namesWord, countWord, literals}
 use Rattle.hanoi.specs.LinesLaws.{start-next, braces-next, braces-end, state-lines, text-lines, middle, head-behind}
-use Rattle.hanoi.specs.CutLaws.{digit, begun, decimal-begun, number-told, Small, small-none, small-next, joined-told, chosen-small, chosen-told}
+use Rattle.hanoi.specs.CutLaws.{Small, small-none, small-next, joined-told, chosen-small, chosen-told}
 
 -- ---- the states of a mask
 states-small : (m : ℕ) → Small (statesOf m)
@@ -36,7 +37,7 @@ states-told m n hm hn e = mask-ext 64 m n hm hn (chosen-told (hasBit m) (hasBit 
 -- the lines of start states, in front of a text that begins with another letter
 starts-told : (x y : List ℕ) {l k : List ℕ} → (getD x 0 0 ≡ 83 → ⊥) → (getD y 0 0 ≡ 83 → ⊥) → Small l → Small k
     → flatMap startLine l ++ x ≡ flatMap startLine k ++ y → (l ≡ k) × (x ≡ y)
-unfolding flatMap digit and
+unfolding flatMap isDigit and
 starts-told x y p q small-none small-none e = (refl, e)
 starts-told x y p q small-none (small-next {n} {l} b h) e = absurd (p (ap (λ (t : List ℕ). getD t 0 0) (e ∙ start-next n l y)))
 starts-told x y p q (small-next {n} {l} a g) small-none e = absurd (q (ap (λ (t : List ℕ). getD t 0 0) (sym e ∙ start-next n l x)))
@@ -47,12 +48,8 @@ starts-told x y p q (small-next {n} {l} a g) (small-next {n = m} {l = k} b h) e 
     (ap₂ _∷_ (t .0) (r .0), r .1)
 
 -- ---- a label, with what stands behind it
--- the literals of k bits from s on, each behind &
-literalsFrom : ℕ → ℕ → ℕ → List ℕ
-literalsFrom o s k = spread (ascii "&") (map (literal o) (numbers s k))
-
 literal-told : (o p n : ℕ) (x y : List ℕ) → literal o n ++ x ≡ literal p n ++ y → (hasBit o n ≡ hasBit p n) × (x ≡ y)
-unfolding literal digit and
+unfolding literal isDigit and
 literal-told o p n x y e = go (hasBit o n) (hasBit p n) e
   where
     go : (b c : Bool) → (cond b (ascii "") (ascii "!") ++ decimal n) ++ x ≡ (cond c (ascii "") (ascii "!") ++ decimal n) ++ y → (b ≡ c) × (x ≡ y)
@@ -61,24 +58,24 @@ literal-told o p n x y e = go (hasBit o n) (hasBit p n) e
     go false true e = absurd (clash refl (ap begun e ∙ decimal-begun n y))
     go false false e = (refl, append-cancel-left (decimal n) x y (tail-eq-of-cons-eq e))
 
-literals-told : (o p s k : ℕ) (x y : List ℕ) → literalsFrom o s k ++ x ≡ literalsFrom p s k ++ y → ((i : ℕ) → s ≤ i → i < s + k → hasBit o i ≡ hasBit p i) × (x ≡ y)
-unfolding literalsFrom spread flatMap numbers
+literals-told : (o p s k : ℕ) (x y : List ℕ) → literals o s k ++ x ≡ literals p s k ++ y → ((i : ℕ) → s ≤ i → i < s + k → hasBit o i ≡ hasBit p i) × (x ≡ y)
+unfolding literals spread flatMap numbers
 literals-told o p s zero x y e = (λ i a b. absurd (omega arith), e)
 literals-told o p s (suc k) x y e =
-    let t = literal-told o p s (literalsFrom o (suc s) k ++ x) (literalsFrom p (suc s) k ++ y)
-    (sym (append-assoc (literal o s) (literalsFrom o (suc s) k) x) ∙ tail-eq-of-cons-eq e ∙ append-assoc (literal p s) (literalsFrom p (suc s) k) y) in
+    let t = literal-told o p s (literals o (suc s) k ++ x) (literals p (suc s) k ++ y)
+    (sym (append-assoc (literal o s) (literals o (suc s) k) x) ∙ tail-eq-of-cons-eq e ∙ append-assoc (literal p s) (literals p (suc s) k) y) in
     let r = literals-told o p (suc s) k x y (t .1) in
     (λ i a b. by-cases (decLt s i) (λ l. r .0 i l (omega arith)) (λ l. let z : s ≡ i = omega arith in subst (λ (j : ℕ). hasBit o j ≡ hasBit p j) z (t .0)), r .1)
 
 label-told : (o p : ℕ) (x y : List ℕ) → o < 256 → p < 256 → label o ++ x ≡ label p ++ y → (o ≡ p) × (x ≡ y)
-unfolding label joined literalsFrom spread flatMap numbers
+unfolding label joined literals spread flatMap numbers
 label-told o p x y ho hp e =
     let t = literals-told o p 0 8 x y (ap (λ (u : List ℕ). 38 ∷ u) e) in
     (mask-ext 8 o p ho hp (λ i l. t .0 i (omega arith) (omega arith)), t .1)
 
 -- ---- the sets of a state, in braces, up to the end of the line
 braces-told : (x y : List ℕ) {l k : List ℕ} → Small l → Small k → spread (ascii " ") (inBraces l) ++ (10 ∷ x) ≡ spread (ascii " ") (inBraces k) ++ (10 ∷ y) → (l ≡ k) × (x ≡ y)
-unfolding digit and
+unfolding isDigit and
 braces-told x y small-none small-none e = (refl, tail-eq-of-cons-eq (simp braces-end at e))
 braces-told x y small-none (small-next b h) e = absurd (omega (arith, head-eq-of-cons-eq (simp (braces-end, braces-next) at e)))
 braces-told x y (small-next a g) small-none e = absurd (omega (arith, head-eq-of-cons-eq (simp (braces-end, braces-next) at e)))
@@ -87,7 +84,7 @@ braces-told x y (small-next a g) (small-next b h) e =
     (append-cancel-left (ascii " {") _ _ (simp braces-next at e)) in
     (t .0, tail-eq-of-cons-eq (t .1))
 
--- ---- the lines of a state, with what stands behind them
+-- ---- what the lines of a state write
 module _ (m : Machine) (s : ℕ) where
   sets-small : WellMachine 8 m → Small (setsWith m s)
   unfolding setsWith
@@ -109,7 +106,7 @@ record Told (a b : Machine) : Type 0 where
 
 module _ (a b : Machine) (ra : RepresentableMachine a) (rb : RepresentableMachine b) (wa : WellMachine 8 a) (wb : WellMachine 8 b) where
   state-told : (s : ℕ) (x y : List ℕ) → stateLines a s ++ x ≡ stateLines b s ++ y → SameState a b s × (x ≡ y)
-  unfolding digit and observation successors
+  unfolding isDigit and observation successors
   state-told s x y e =
       let t = label-told (observation a s) (observation b s) _ _ (ra .observation-byte s) (rb .observation-byte s)
       (append-cancel-left (ascii "State: [") _ _ (sym (state-lines a s x) ∙ e ∙ state-lines b s y)) in
@@ -133,7 +130,7 @@ module _ (a b : Machine) (ra : RepresentableMachine a) (rb : RepresentableMachin
       by-cases (decLt s i) (λ l. states-lines-told (suc s) k x y (t .1) i l (omega arith)) (λ l. let z : s ≡ i = omega arith in subst (SameState a b) z (t .0))
 
   text-told : hoaText a ≡ hoaText b → Told a b
-  unfolding digit and startLines
+  unfolding isDigit and startLines
   text-told e =
       let end = ascii "--END--\n" in
       let whole-a = text-lines a ∙ head-behind (a .states) (a .sets) (a .start) (flatMap (stateLines a) (below (a .states)) ++ end) in
@@ -142,7 +139,7 @@ module _ (a b : Machine) (ra : RepresentableMachine a) (rb : RepresentableMachin
       (append-cancel-left (ascii "HOA: v1\nStates: ") _ _ (sym whole-a ∙ e ∙ whole-b)) in
       let u = starts-told _ _ (λ z. omega arith) (λ z. omega arith) (states-small (a .start)) (states-small (b .start)) (tail-eq-of-cons-eq (t .1)) in
       let v = number-told (a .sets) (b .sets) _ _ (omega (arith, wa .sets-high)) (omega (arith, wb .sets-high)) refl refl
-      (append-cancel-left (ascii "AP: 8 \"o0\" \"o1\" \"o2\" \"o3\" \"o4\" \"o5\" \"o6\" \"o7\"\nacc-name: generalized-Buchi ") _ _ (u .1)) in
+      (append-cancel-left (namesWord ++ countWord) _ _ (u .1)) in
       let r = append-cancel-left (ascii "\nAcceptance: ") _ _ (v .1) ∙ ap₂ (λ (n k : ℕ). middle n ++ (flatMap (stateLines b) (below k) ++ end)) (sym (v .0)) (sym (t .0)) in
       record {
         same-states = t .0;

@@ -19,13 +19,19 @@ line items = joined (ascii " ") items ++ ascii "\n"
 unfoldable pub startLine : ℕ → List ℕ
 startLine s = line (ascii "Start:" ∷ decimal s ∷ [])
 
--- "the quoted names o0 to o7"
+-- "`AP: 8` and the quoted names o0 to o7"
 unfoldable pub name : ℕ → List ℕ
 name i = ascii "\"o" ++ decimal i ++ ascii "\""
 
+unfoldable pub namesLine : List ℕ
+namesLine = line (ascii "AP:" ∷ ascii "8" ∷ map name (below 8))
+
 -- "Inf(0)&Inf(1) onwards", for n sets
+unfoldable pub infinitely : ℕ → List ℕ
+infinitely k = ascii "Inf(" ++ decimal k ++ ascii ")"
+
 unfoldable pub acceptance : ℕ → List ℕ
-acceptance n = joined (ascii "&") (map (λ k. ascii "Inf(" ++ decimal k ++ ascii ")") (below n))
+acceptance n = joined (ascii "&") (map infinitely (below n))
 
 -- "The label is the numbers 0 to 7 joined by &, each with ! before it where that bit of the observation is zero"
 unfoldable pub literal : ℕ → ℕ → List ℕ
@@ -55,7 +61,7 @@ hoaText m = flatten
     (line (ascii "HOA:" ∷ ascii "v1" ∷ [])
     ∷ line (ascii "States:" ∷ decimal (m .states) ∷ [])
     ∷ flatMap startLine (statesOf (m .start))
-    ∷ line (ascii "AP:" ∷ ascii "8" ∷ map name (below 8))
+    ∷ namesLine
     ∷ line (ascii "acc-name:" ∷ ascii "generalized-Buchi" ∷ decimal (m .sets) ∷ [])
     ∷ line (ascii "Acceptance:" ∷ decimal (m .sets) ∷ acceptance (m .sets) ∷ [])
     ∷ line (ascii "properties:" ∷ ascii "state-labels" ∷ ascii "state-acc" ∷ [])

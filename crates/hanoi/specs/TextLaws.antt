@@ -1,5 +1,5 @@
 -- The parts that the code puts are the text: lines of states by masks, and the whole.
-use mathlib.Core.List.{List, [], _∷_, _++_, map, flatMap, flatten, append-nil}
+use mathlib.Core.List.{List, [], _++_, map, flatMap, flatten, append-nil}
 use mathlib.Core.Logic.{by-cases}
 use mathlib.Core.Path.{_≡_, refl, sym, ap, ap₂, _∙_}
 use Prim.Native.Nat.{ℕ, zero, suc, _+_, _^_, _≤_, _<_}
@@ -14,7 +14,7 @@ use Rattle.machine.specs.Machines.{observation, successors, fairSet, inFairSet}
 use Rattle.hanoi.specs.Words.{ascii, numbers, statesOf, spread, joined}
 use Rattle.hanoi.specs.WordsLaws.{states-none, states-next, states-mask}
 use Rattle.hanoi.specs.Text.{label, setsWith, inBraces, stateLines, hoaText}
-use Rattle.hanoi.specs.Parts.{items, braces, stateText, setsMask, linesAt, statesText, headText}
+use Rattle.hanoi.specs.Parts.{items, braces, stateText, setsMask, linesAt, linesBelow, headText, textParts}
 use Rattle.hanoi.specs.PartsLaws.{braces-none, braces-some}
 use Rattle.hanoi.specs.LinesLaws.{braces-next, braces-end, state-lines, text-lines}
 
@@ -23,9 +23,9 @@ sets-are : (m : Machine) (s : ℕ) → m .sets ≤ 64 → setsWith m s ≡ state
 unfolding setsWith setsMask inFairSet fairSet
 sets-are m s h = sym (states-mask (m .sets) _ h)
 
-sets-small : (k : ℕ) (fairness : List ℕ) (s : ℕ) → k ≤ 64 → setsMask k fairness s < 2 ^ 64
+members-small : (k : ℕ) (fairness : List ℕ) (s : ℕ) → k ≤ 64 → setsMask k fairness s < 2 ^ 64
 unfolding setsMask
-sets-small k fairness s h = lt-of-lt-of-le (maskOf-lt k _) (pow-le-pow-right (omega arith) h)
+members-small k fairness s h = lt-of-lt-of-le (maskOf-lt k _) (pow-le-pow-right (omega arith) h)
 
 braces-are : (m : ℕ) → m < 2 ^ 64 → spread (ascii " ") (inBraces (statesOf m)) ≡ braces m
 unfolding flatten items
@@ -51,7 +51,7 @@ module _ (m : Machine) (few : m .sets ≤ 64) where
       sym (append-nil _)
       ∙ state-lines m s []
       ∙ ap (λ (w : List ℕ). ascii "State: [" ++ (label (observation m s) ++ (ascii "] " ++ (decimal s ++ (w ++ (ascii "\n" ++ next))))))
-      (ap (λ (l : List ℕ). spread (ascii " ") (inBraces l)) (sets-are m s few) ∙ braces-are (setsMask (m .sets) (m .fairness) s) (sets-small (m .sets) (m .fairness) s few))
+      (ap (λ (l : List ℕ). spread (ascii " ") (inBraces l)) (sets-are m s few) ∙ braces-are (setsMask (m .sets) (m .fairness) s) (members-small (m .sets) (m .fairness) s few))
 
   states-are : (first count : ℕ)
       → flatMap (stateLines m) (numbers first count) ≡ flatMap (linesAt (m .sets) (m .observations) (m .successors) (m .fairness)) (numbers first count)
@@ -60,13 +60,8 @@ module _ (m : Machine) (few : m .sets ≤ 64) where
   states-are first (suc count) = ap₂ (λ (x y : List ℕ). x ++ y) (state-is first) (states-are (suc first) count)
 
   -- ---- the whole
-  pub text-parts : hoaText m
-      ≡ flatten
-      (headText (m .states) (m .sets) (m .start)
-      ∷ statesText (m .states) (m .sets) (m .observations) (m .successors) (m .fairness)
-      ∷ ascii "--END--\n"
-      ∷ [])
-  unfolding flatten statesText
+  pub text-parts : hoaText m ≡ flatten (textParts m)
+  unfolding flatten linesBelow
   text-parts =
       text-lines m
       ∙ ap (λ (lines : List ℕ). headText (m .states) (m .sets) (m .start) ++ (lines ++ ascii "--END--\n")) (states-are 0 (m .states))

@@ -15,7 +15,7 @@ use Rattle.machine.specs.WellFormed.{countsOk, beyond, stateBeyond, setBeyond, 
 use Rattle.machine.specs.WellFormedLaws.{valid-machine}
 use Rattle.codec.specs.Statements.{RepresentableMachine}
 use Rattle.hanoi.specs.Words.{numbers, chosen, statesOf, spread, joined}
-use Rattle.hanoi.specs.Text.{line, startLine, name, acceptance, literal, label, setsWith, inBraces, stateLines, hoaText}
+use Rattle.hanoi.specs.Text.{line, startLine, name, namesLine, infinitely, acceptance, literal, label, setsWith, inBraces, stateLines, hoaText}
 use Rattle.hanoi.specs.Statements.{TextFits, LongestText, largest, TextTellsMachine}
 use Rattle.hanoi.specs.FitsLaws.{text-most}
 use Rattle.hanoi.specs.TellsLaws as tells
@@ -27,8 +27,8 @@ pub text-fits : TextFits
 text-fits m e = let most = text-most m (valid-machine 8 m (omega arith) e) in (most, omega arith)
 
 -- ---- the largest machine
-alike : (n v b s : ℕ) → v < b → getD (replicate n v) s 0 < b
-alike n v b s h = by-cases (decLt s n)
+repeated : (n v b s : ℕ) → v < b → getD (replicate n v) s 0 < b
+repeated n v b s h = by-cases (decLt s n)
     (λ l. omega (arith, getD-replicate n s v 0 l))
     (λ l. let past : length (replicate n v) ≤ s = omega (arith, length-replicate {A = ℕ} n v) in omega (arith, List·getD-eq-default (replicate n v) 0 past))
 
@@ -38,14 +38,14 @@ representable = record {
   observations-length = refl;
   successors-length = refl;
   fairness-length = refl;
-  observation-byte = λ s. alike 64 0 256 s (omega arith);
+  observation-byte = λ s. repeated 64 0 256 s (omega arith);
   start-mask = omega arith;
-  successors-mask = λ s. alike 64 (2 ^ 64 - 1) (2 ^ 64) s (omega arith);
-  fairness-mask = λ k. alike 8 (2 ^ 64 - 1) (2 ^ 64) k (omega arith);
+  successors-mask = λ s. repeated 64 (2 ^ 64 - 1) (2 ^ 64) s (omega arith);
+  fairness-mask = λ k. repeated 8 (2 ^ 64 - 1) (2 ^ 64) k (omega arith);
 }
 
 -- its tests and its text's length, by computation
 
 pub longest-text : LongestText
-unfolding largest flatMap flatten hoaText line startLine name acceptance literal label setsWith inBraces stateLines numbers chosen statesOf spread joined decimal digitsUpTo observation successors inFairSet fairSet hasBit not and or countsOk beyond stateBeyond setBeyond beyondCounts firstEmpty contentValidity machineValidity some first someIn
+unfolding largest flatMap flatten hoaText line startLine name namesLine infinitely acceptance literal label setsWith inBraces stateLines numbers chosen statesOf spread joined decimal digitsUpTo observation successors inFairSet fairSet hasBit not and or countsOk beyond stateBeyond setBeyond beyondCounts firstEmpty contentValidity machineValidity some first someIn
 longest-text = (representable, refl, refl)

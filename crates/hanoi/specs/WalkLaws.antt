@@ -2,14 +2,14 @@
 use mathlib.Core.Bool.{Bool, cond}
 use mathlib.Core.List.{List, [], _∷_, _++_}
 use mathlib.Core.Path.{_≡_, refl, sym, ap, subst, _∙_}
-use Prim.Native.Nat.{ℕ, _+_, _^_, _≤_, _<_}
+use Prim.Native.Nat.{ℕ, _+_, _-_, _^_, _≤_, _<_}
 use lib.ListN.{getD}
 use Rattle.mask.specs.Bits.{hasBit, lowestOf, restOf}
 use Rattle.text.specs.Decimal.{decimal}
 use Rattle.hanoi.specs.Words.{ascii}
 use Rattle.hanoi.specs.Text.{acceptance, label}
-use Rattle.hanoi.specs.Parts.{items, startLines, braces, stateText, setsMask, linesAt, headText}
-use Rattle.hanoi.specs.PartsLaws.{braces-some, spaced, items-next, spaced-none, spaced-next, starts-none, starts-next, conditions, acceptance-first, conditions-next, conditions-past, literals, label-first, literals-next, literals-past, linesFrom, lines-next, lines-past}
+use Rattle.hanoi.specs.Parts.{items, startLines, bracesParts, braces, stateParts, stateText, setsMask, linesAt, headParts, headText, spaced, conditions, literals, linesFrom}
+use Rattle.hanoi.specs.PartsLaws.{items-next, spaced-none, spaced-next, starts-none, starts-next, acceptance-first, conditions-next, conditions-past, label-first, literals-next, literals-past, braces-some, lines-next, lines-past}
 use Rattle.hanoi.specs.Puts.{Room, Placed}
 use Rattle.hanoi.specs.PutLaws.{Left, left-all, left-parts, left-split, left-none, left-done}
 
@@ -23,7 +23,7 @@ pub conditions-start : (out : List ℕ) (at n : ℕ) → 0 < n → Room at (acce
 conditions-start out at n h r = left-split (left-all out at (acceptance n) r) _ _ (acceptance-first n h)
 
 pub literals-start : (out : List ℕ) (at o : ℕ) → Room at (label o)
-    → Left out at (label o) out at ((cond (hasBit o 0) (ascii "") (ascii "!") ++ decimal 0) ∷ literals o 1 ∷ [])
+    → Left out at (label o) out at ((cond (hasBit o 0) (ascii "") (ascii "!") ++ decimal 0) ∷ literals o 1 7 ∷ [])
 literals-start out at o r = left-split (left-all out at (label o) r) _ _ (label-first o)
 
 module _ {out₀ : List ℕ} {at₀ : ℕ} {all out : List ℕ} {to : ℕ} where
@@ -53,11 +53,11 @@ module _ {out₀ : List ℕ} {at₀ : ℕ} {all out : List ℕ} {to : ℕ} where
   conditions-end k n h l = left-done (left-none l (conditions-past k n h))
 
   -- ---- the label
-  pub literals-more : (o i : ℕ) → Left out₀ at₀ all out to (literals o i ∷ []) → i < 8
-      → Left out₀ at₀ all out to ((cond (hasBit o i) (ascii "&") (ascii "&!") ++ decimal i) ∷ literals o (i + 1) ∷ [])
+  pub literals-more : (o i : ℕ) → Left out₀ at₀ all out to (literals o i (8 - i) ∷ []) → i < 8
+      → Left out₀ at₀ all out to ((cond (hasBit o i) (ascii "&") (ascii "&!") ++ decimal i) ∷ literals o (i + 1) (8 - (i + 1)) ∷ [])
   literals-more o i l h = left-split l _ _ (literals-next o i h)
 
-  pub literals-end : (o i : ℕ) → 8 ≤ i → Left out₀ at₀ all out to (literals o i ∷ []) → Placed out₀ at₀ all out to
+  pub literals-end : (o i : ℕ) → 8 ≤ i → Left out₀ at₀ all out to (literals o i (8 - i) ∷ []) → Placed out₀ at₀ all out to
   literals-end o i h l = left-done (left-none l (literals-past o i h))
 
   -- ---- the states
@@ -87,25 +87,15 @@ module _ (one zero digits : List ℕ) where
   word-placed b c {before} {at} {after} {to} e p = subst (λ (w : List ℕ). Placed before at w after to) (sym (chosen-word b c e)) p
 
 -- ---- the parts of what is put without a loop
-pub braces-start : (out : List ℕ) (at m : ℕ) → (m ≡ 0 → ⊥) → Room at (braces m) → Left out at (braces m) out at (ascii " {" ∷ items m ∷ ascii "}" ∷ [])
+pub braces-start : (out : List ℕ) (at m : ℕ) → (m ≡ 0 → ⊥) → Room at (braces m) → Left out at (braces m) out at (bracesParts m)
 braces-start out at m some h = left-parts out at (braces m) _ (braces-some m some) h
 
 pub state-start : (out : List ℕ) (at s o members successors : ℕ) → Room at (stateText s o members successors)
-    → Left out at (stateText s o members successors) out at
-    (ascii "State: [" ∷ label o ∷ (ascii "] " ++ decimal s) ∷ braces members ∷ ascii "\n" ∷ items successors ∷ ascii "\n" ∷ [])
+    → Left out at (stateText s o members successors) out at (stateParts s o members successors)
 unfolding stateText
 state-start out at s o members successors h = left-parts out at (stateText s o members successors) _ refl h
 
 pub head-start : (out : List ℕ) (n k start : ℕ) → Room 0 (headText n k start)
-    → Left out 0 (headText n k start) out 0
-    ((ascii "HOA: v1\nStates: " ++ decimal n)
-    ∷ ascii "\n"
-    ∷ startLines start
-    ∷ (ascii "AP: 8 \"o0\" \"o1\" \"o2\" \"o3\" \"o4\" \"o5\" \"o6\" \"o7\"\nacc-name: generalized-Buchi " ++ decimal k)
-    ∷ (ascii "\nAcceptance: " ++ decimal k)
-    ∷ ascii " "
-    ∷ acceptance k
-    ∷ ascii "\nproperties: state-labels state-acc\n--BODY--\n"
-    ∷ [])
+    → Left out 0 (headText n k start) out 0 (headParts n k start)
 unfolding headText
 head-start out n k start h = left-parts out 0 (headText n k start) _ refl h

@@ -11,7 +11,7 @@ ghost use Rattle.machine.specs.Refusals.{valid};
 ghost use Rattle.machine.specs.WellFormed.{machineValidity};
 ghost use Rattle.codec.specs.Answers.{sizedOf};
 ghost use Rattle.hanoi.specs.Text.{acceptance, label, hoaText, textAnswer, textBuffer};
-ghost use Rattle.hanoi.specs.Parts.{items, startLines, braces, stateText, setsMask, statesText, headText};
+ghost use Rattle.hanoi.specs.Parts.{items, startLines, braces, stateText, setsMask, linesBelow, headText};
 ghost use Rattle.hanoi.specs.Puts.{Room, Placed};
 use codec::Size;
 use machine::Machine;
@@ -50,10 +50,10 @@ fn put_items(out: &mut [u8], at: usize, m: u64) -> usize
         return at;
     }
     let mut to = put_numbered(out, at, b"", mask::lowest(m));
-    let mut left = mask::rest(m);
-    while left != 0 {
-        to = put_numbered(out, to, b" ", mask::lowest(left));
-        left = mask::rest(left);
+    let mut later = mask::rest(m);
+    while later != 0 {
+        to = put_numbered(out, to, b" ", mask::lowest(later));
+        later = mask::rest(later);
     }
     to
 }
@@ -66,11 +66,11 @@ fn put_starts(out: &mut [u8], at: usize, start: u64) -> usize
     ensures { λ r. ⌜ Placed (now (out .entry)) at (startLines start) (now (out .exit)) r ⌝ }
 {
     let mut to = at;
-    let mut remaining = start;
-    while remaining != 0 {
-        let end = put_numbered(out, to, b"Start: ", mask::lowest(remaining));
+    let mut left = start;
+    while left != 0 {
+        let end = put_numbered(out, to, b"Start: ", mask::lowest(left));
         to = put_word(out, end, b"\n");
-        remaining = mask::rest(remaining);
+        left = mask::rest(left);
     }
     to
 }
@@ -141,15 +141,15 @@ fn put_label(out: &mut [u8], at: usize, o: u8) -> usize
 }
 
 // Puts a blank and the sets of a state in braces; nothing where it is in no set.
-fn put_braces(out: &mut [u8], at: usize, m: u64) -> usize
-    requires { ⌜ Room at (braces m) ⌝ }
-    ensures { λ r. ⌜ Placed (now (out .entry)) at (braces m) (now (out .exit)) r ⌝ }
+fn put_braces(out: &mut [u8], at: usize, members: u64) -> usize
+    requires { ⌜ Room at (braces members) ⌝ }
+    ensures { λ r. ⌜ Placed (now (out .entry)) at (braces members) (now (out .exit)) r ⌝ }
 {
-    if m < 1 {
+    if members == 0 {
         return at;
     }
     let first = put_word(out, at, b" {");
-    let end = put_items(out, first, m);
+    let end = put_items(out, first, members);
     put_word(out, end, b"}")
 }
 
@@ -193,8 +193,8 @@ fn put_states(
 ) -> usize
     requires { ⌜ n ≤ 64 ⌝ }
     requires { ⌜ k ≤ 8 ⌝ }
-    requires { ⌜ Room at (statesText n k (now observations) (now successors) (now fairness)) ⌝ }
-    ensures { λ r. ⌜ Placed (now (out .entry)) at (statesText n k (now (observations .entry)) (now (successors .entry)) (now (fairness .entry))) (now (out .exit)) r ⌝ }
+    requires { ⌜ Room at (linesBelow n k (now observations) (now successors) (now fairness)) ⌝ }
+    ensures { λ r. ⌜ Placed (now (out .entry)) at (linesBelow n k (now (observations .entry)) (now (successors .entry)) (now (fairness .entry))) (now (out .exit)) r ⌝ }
 {
     let mut to = at;
     for s in 0..n {

@@ -104,7 +104,8 @@ no-start-partner = 16
 abbrev pub misplaced : ℕ
 misplaced = 19
 
--- Document 02, No. 6: "It refuses with 20, after all else, a look-up whose section or state is out of range."
+-- Document 02, No. 6: "It refuses with 20, after all else, a look-up whose section or state is out of range." A machine of a file that is asked for by
+-- another number than 0 and 1 has it too.
 abbrev pub out-of-range : ℕ
 out-of-range = 20
 

@@ -3,16 +3,13 @@ use mathlib.Core.Bool.{Bool, true, false, cond}
 use mathlib.Core.List.{List, [], _∷_, _++_}
 use Prim.Native.Nat.{ℕ, suc, _+_, _*_, _-_, min}
 use lib.ListN.{length, getD, take, drop}
-use lib.Dec.{eqb, leb, ltb}
+use lib.Dec.{eqb, ltb}
 use Rattle.mask.specs.Logic.{and, or}
 use Rattle.mask.specs.Bounded.{every, first}
-use Rattle.text.specs.Decimal.{decimal}
+use Rattle.text.specs.Decimal.{decimal, isDigit}
 use Rattle.machine.specs.Lassos.{Lasso, given}
 
 -- ---- reading
-unfoldable pub isDigit : ℕ → Bool
-isDigit b = and (leb 48 b) (leb b 57)
-
 -- the number with one digit more; a number over 255 counts as 255, which is no state either
 unfoldable pub grown : ℕ → ℕ → ℕ
 grown n b = min 255 (n * 10 + (b - 48))

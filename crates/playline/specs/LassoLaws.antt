@@ -11,7 +11,7 @@ use borrow.Author.Tests.{leb-true, ltb-true, le-leb, lt-leb, lt-ltb, le-ltb, eq-
 use lib.Dec.{leb, ltb, eqb}
 use lib.ListN.{length, getD, take, drop, set, length-append, length-take, drop-of-length-le, List·getD-append}
 use lib.Seq.{drop-cons, take-all, take-append-le, take-suc-set, getD-append-seam, getD-append-add, take-append-seam, drop-append-add}
-use Rattle.text.specs.Decimal.{decimal}
+use Rattle.text.specs.Decimal.{decimal, isDigit}
 use Rattle.text.specs.DecimalLaws.{decimal-one, decimal-more}
 use Rattle.machine.specs.Lassos.{given}
 use Rattle.mask.specs.Logic.{and, or}
@@ -19,7 +19,7 @@ use Rattle.mask.specs.Bounded.{every}
 use Rattle.mask.specs.LogicLaws.{and-l, and-i, and-false-l, and-false-r, and-true-l, or-l, or-r, or-false-l}
 use Rattle.mask.specs.BoundedLaws.{every-of, every-not, first-is, first-none}
 use Rattle.playline.specs.declared.Numbers.{Numbers}
-use Rattle.playline.specs.Lasso.{isDigit, grown, numbersFrom, numbersIn, isPlain, strokeAt, readable, lassoIn}
+use Rattle.playline.specs.Lasso.{grown, numbersFrom, numbersIn, isPlain, strokeAt, readable, lassoIn}
 
 -- ---- bytes
 pub digit-low : (b : ℕ) → b < 48 → false ≡ isDigit b

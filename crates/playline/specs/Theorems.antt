@@ -9,10 +9,10 @@ use lib.ListN.{length, take}
 use lib.Seq.{take-all}
 use Rattle.mask.specs.Logic.{and, or}
 use Rattle.mask.specs.LogicLaws.{and-i}
-use Rattle.text.specs.Decimal.{decimal}
+use Rattle.text.specs.Decimal.{decimal, isDigit}
 use Rattle.codec.specs.Statements.{AreBytes}
 use Rattle.machine.specs.Lassos.{given}
-use Rattle.playline.specs.Lasso.{isDigit, grown, isPlain, numbersFrom, numbersIn, readable, lassoIn, statesText, lassoText}
+use Rattle.playline.specs.Lasso.{grown, isPlain, numbersFrom, numbersIn, readable, lassoIn, statesText, lassoText}
 use Rattle.playline.specs.LassoLaws.{Decimal, one-digit, digit-more, byte-decimal, Plain, none, more, plain-append, plain-digit, numbers-digit, numbers-end, numbers-blank, readable-between, lasso-between}
 use Rattle.playline.specs.Statements.{LassoReadsBack}
 

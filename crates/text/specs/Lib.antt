@@ -5,3 +5,4 @@ pub mod Answers
 pub mod DecimalLaws
 pub mod DigitsLaws
 pub mod PutLaws
+pub mod EndsLaws

@@ -5,7 +5,7 @@ use Prim.Native.Nat.{_-_, _≤_}
 use native.Mathlib.Omega.{arith}
 use borrow.Author.Needs.{needs}
 use Rattle.hanoi.specs.Words.{ascii}
-use Rattle.hanoi.specs.PartsLaws.{conditions}
+use Rattle.hanoi.specs.Parts.{conditions}
 use Rattle.hanoi.specs.PutLaws.{Left, left-all, left-split, left-next, left-room, left-last, placed-same}
 use Rattle.hanoi.specs.WalkLaws.{conditions-start, conditions-more, conditions-end}
 use Rattle.hanoi.proofs.put_acceptance.Statement.{statement}

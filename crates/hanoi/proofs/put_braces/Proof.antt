@@ -1,22 +1,20 @@
 -- Nothing for the empty mask, and else the parts one behind the other.
-use mathlib.Core.List.{[], _∷_}
 use mathlib.Core.Path.{_≡_, ap, _∙_}
 use native.Mathlib.Omega.{arith}
 use borrow.Author.Needs.{needs}
-use Rattle.hanoi.specs.Words.{ascii}
-use Rattle.hanoi.specs.Parts.{items, braces}
+use Rattle.hanoi.specs.Parts.{bracesParts, braces}
 use Rattle.hanoi.specs.PartsLaws.{braces-none}
 use Rattle.hanoi.specs.PutLaws.{Left, left-next, left-room, left-done, placed-none}
 use Rattle.hanoi.specs.WalkLaws.{braces-start}
 use Rattle.hanoi.proofs.put_braces.Statement.{statement}
 use Rattle.hanoi.proofs.put_braces.Tie as tie
 
-all : (c : tie.Start) → let x = c .args in (x .m ≡ 0 → ⊥)
-    → Left (x .out .now) (x .at) (braces (x .m)) (x .out .now) (x .at) (ascii " {" ∷ items (x .m) ∷ ascii "}" ∷ [])
-all c some = let x = c .args in braces-start (x .out .now) (x .at) (x .m) some (c .pre)
+all : (c : tie.Start) → let x = c .args in (x .members ≡ 0 → ⊥)
+    → Left (x .out .now) (x .at) (braces (x .members)) (x .out .now) (x .at) (bracesParts (x .members))
+all c some = let x = c .args in braces-start (x .out .now) (x .at) (x .members) some (c .pre)
 
 returns : tie.Need-returns
-returns c = let none : c .before .before .args .m ≡ 0 = omega arith in placed-none _ _ _ (ap braces none ∙ braces-none)
+returns c = let none : c .before .before .args .members ≡ 0 = omega arith in placed-none _ _ _ (ap braces none ∙ braces-none)
 
 slice-aggregate-put-word : tie.Need-slice-aggregate-put-word
 slice-aggregate-put-word c = search needs

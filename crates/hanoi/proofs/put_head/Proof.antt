@@ -1,26 +1,13 @@
 -- The parts of the lines, one behind the other.
-use mathlib.Core.List.{[], _∷_, _++_}
 use borrow.Author.Needs.{needs}
-use Rattle.text.specs.Decimal.{decimal}
-use Rattle.hanoi.specs.Words.{ascii}
-use Rattle.hanoi.specs.Text.{acceptance}
-use Rattle.hanoi.specs.Parts.{startLines, headText}
+use Rattle.hanoi.specs.Parts.{headParts, headText}
 use Rattle.hanoi.specs.PutLaws.{Left, left-next, left-room, left-done}
 use Rattle.hanoi.specs.WalkLaws.{head-start}
 use Rattle.hanoi.proofs.put_head.Statement.{statement}
 use Rattle.hanoi.proofs.put_head.Tie as tie
 
 all : (c : tie.Start) → let x = c .args in
-    Left (x .out .now) 0 (headText (x .states) (x .sets) (x .start)) (x .out .now) 0
-    ((ascii "HOA: v1\nStates: " ++ decimal (x .states))
-    ∷ ascii "\n"
-    ∷ startLines (x .start)
-    ∷ (ascii "AP: 8 \"o0\" \"o1\" \"o2\" \"o3\" \"o4\" \"o5\" \"o6\" \"o7\"\nacc-name: generalized-Buchi " ++ decimal (x .sets))
-    ∷ (ascii "\nAcceptance: " ++ decimal (x .sets))
-    ∷ ascii " "
-    ∷ acceptance (x .sets)
-    ∷ ascii "\nproperties: state-labels state-acc\n--BODY--\n"
-    ∷ [])
+    Left (x .out .now) 0 (headText (x .states) (x .sets) (x .start)) (x .out .now) 0 (headParts (x .states) (x .sets) (x .start))
 all c = let x = c .args in head-start (x .out .now) (x .states) (x .sets) (x .start) (c .pre .1)
 
 slice-aggregate-put-numbered : tie.Need-slice-aggregate-put-numbered

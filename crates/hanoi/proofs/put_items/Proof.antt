@@ -7,18 +7,18 @@ use mir.Val.{Fits}
 use mir.Syntax.{w64}
 use borrow.Author.Needs.{needs}
 use Rattle.mask.specs.BitsLaws.{rest-lt}
-use Rattle.hanoi.specs.Parts.{items}
-use Rattle.hanoi.specs.PartsLaws.{spaced, items-none}
+use Rattle.hanoi.specs.Parts.{items, spaced}
+use Rattle.hanoi.specs.PartsLaws.{items-none}
 use Rattle.hanoi.specs.PutLaws.{Left, left-all, left-to, left-next, left-room, left-last, placed-same, placed-none}
 use Rattle.hanoi.specs.WalkLaws.{items-start, items-more, items-end}
 use Rattle.hanoi.proofs.put_items.Statement.{statement}
 use Rattle.hanoi.proofs.put_items.Tie as tie
 
 abbrev Inv-loop : tie.InvT-loop
-Inv-loop out₀ at m to₀ left₀ t7 out to left = (left < 2 ^ 64) × Left out₀ to₀ (spaced left₀) out to (spaced left ∷ [])
+Inv-loop out₀ at m to₀ later₀ t7 out to later = (later < 2 ^ 64) × Left out₀ to₀ (spaced later₀) out to (spaced later ∷ [])
 
 abbrev μ-loop : tie.MeasureT-loop
-μ-loop out₀ at m to₀ left₀ t7 out to left = left
+μ-loop out₀ at m to₀ later₀ t7 out to later = later
 
 small : (c : tie.Start Inv-loop μ-loop) → c .args .m < 2 ^ 64
 small c = let f : Fits w64 (c .args .m) = search needs in f .fits
@@ -58,13 +58,13 @@ rest-requires-2 : tie.Need-rest-requires-2 Inv-loop μ-loop
 rest-requires-2 c κs = search needs
 
 loop-less : tie.Need-loop-less Inv-loop μ-loop
-loop-less c = omega (arith, c .rest2 .ensures, rest-lt (c .before .before .before .before .before .before .before .before .loop .left) (omega arith))
+loop-less c = omega (arith, c .rest2 .ensures, rest-lt (c .before .before .before .before .before .before .before .before .loop .later) (omega arith))
 
 loop-again : tie.Need-loop-again Inv-loop μ-loop
 loop-again c =
     let l = c .before .before .before .before .before .before .before .before .loop in
     let next = items-more _ _ (l .inv .1) (c .before .before .before .before .before .before .before .loop-test .taken) (l .inv .0) (c .before .before .before .before .lowest2 .ensures) in
-    (omega (arith, l .inv .0, c .rest2 .ensures, rest-lt (l .left) (omega arith)), left-to (left-next next (c .before .before .before .put-numbered2 .ensures)) _ (ap spaced (sym (c .rest2 .ensures))))
+    (omega (arith, l .inv .0, c .rest2 .ensures, rest-lt (l .later) (omega arith)), left-to (left-next next (c .before .before .before .put-numbered2 .ensures)) _ (ap spaced (sym (c .rest2 .ensures))))
 
 same-length : tie.Need-same-length Inv-loop μ-loop
 same-length c = c .before .loop .inv .1 .same ∙ placed-same (c .before .before .before .before .before .put-numbered .ensures)

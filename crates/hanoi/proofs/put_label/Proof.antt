@@ -4,14 +4,14 @@ use mathlib.Core.Path.{refl, _∙_}
 use Prim.Native.Nat.{_-_, _≤_}
 use native.Mathlib.Omega.{arith}
 use borrow.Author.Needs.{needs}
-use Rattle.hanoi.specs.PartsLaws.{literals}
+use Rattle.hanoi.specs.Parts.{literals}
 use Rattle.hanoi.specs.PutLaws.{Left, left-all, left-next, left-room, left-last, placed-same}
 use Rattle.hanoi.specs.WalkLaws.{literals-start, literals-more, literals-end}
 use Rattle.hanoi.proofs.put_label.Statement.{statement}
 use Rattle.hanoi.proofs.put_label.Tie as tie
 
 abbrev Inv-loop : tie.InvT-loop
-Inv-loop out₀ at o to₀ i₀ t8 t9 out to i = (i ≤ 8) × Left out₀ to₀ (literals o 1) out to (literals o i ∷ [])
+Inv-loop out₀ at o to₀ i₀ t8 t9 out to i = (i ≤ 8) × Left out₀ to₀ (literals o 1 7) out to (literals o i (8 - i) ∷ [])
 
 abbrev μ-loop : tie.MeasureT-loop
 μ-loop out₀ at o to₀ i₀ t8 t9 out to i = 8 - i

@@ -15,10 +15,10 @@ use Rattle.hanoi.proofs.put_starts.Statement.{statement}
 use Rattle.hanoi.proofs.put_starts.Tie as tie
 
 abbrev Inv-loop : tie.InvT-loop
-Inv-loop out₀ at start to₀ remaining₀ t7 t8 out to remaining = Left out₀ at (startLines start) out to (startLines remaining ∷ []) × (remaining < 2 ^ 64)
+Inv-loop out₀ at start to₀ left₀ t7 t8 out to left = Left out₀ at (startLines start) out to (startLines left ∷ []) × (left < 2 ^ 64)
 
 abbrev μ-loop : tie.MeasureT-loop
-μ-loop out₀ at start to₀ remaining₀ t7 t8 out to remaining = remaining
+μ-loop out₀ at start to₀ left₀ t7 t8 out to left = left
 
 small : (c : tie.Start Inv-loop μ-loop) → c .args .start < 2 ^ 64
 small c = let f : Fits w64 (c .args .start) = search needs in f .fits
@@ -52,10 +52,10 @@ loop-again c =
     let l = c .before .before .before .before .before .before .before .before .before .before .before .before .before .loop in
     let line = starts-more _ _ (l .inv .0) (c .before .before .before .before .before .before .before .before .before .before .before .before .loop-test .taken) (l .inv .1) (c .before .before .before .before .before .before .before .before .before .lowest .ensures) in
     let end = left-next (left-split (left-next line (c .before .before .before .before .before .before .before .before .put-numbered .ensures)) (ascii "\n") _ refl) (c .before .before .before .put-word .ensures) in
-    (left-to end _ (ap startLines (sym (c .rest .ensures))), omega (arith, l .inv .1, c .rest .ensures, rest-lt (l .remaining) (omega arith)))
+    (left-to end _ (ap startLines (sym (c .rest .ensures))), omega (arith, l .inv .1, c .rest .ensures, rest-lt (l .left) (omega arith)))
 
 loop-less : tie.Need-loop-less Inv-loop μ-loop
-loop-less c = omega (arith, c .rest .ensures, rest-lt (c .before .before .before .before .before .before .before .before .before .before .before .before .before .loop .remaining) (omega arith))
+loop-less c = omega (arith, c .rest .ensures, rest-lt (c .before .before .before .before .before .before .before .before .before .before .before .before .before .loop .left) (omega arith))
 
 same-length : tie.Need-same-length Inv-loop μ-loop
 same-length c = c .before .loop .inv .0 .same

@@ -1,10 +1,6 @@
 -- The parts of the two lines, one behind the other.
-use mathlib.Core.List.{[], _∷_, _++_}
 use borrow.Author.Needs.{needs}
-use Rattle.text.specs.Decimal.{decimal}
-use Rattle.hanoi.specs.Words.{ascii}
-use Rattle.hanoi.specs.Text.{label}
-use Rattle.hanoi.specs.Parts.{items, braces, stateText}
+use Rattle.hanoi.specs.Parts.{stateParts, stateText}
 use Rattle.hanoi.specs.PutLaws.{Left, left-next, left-room, left-done}
 use Rattle.hanoi.specs.WalkLaws.{state-start}
 use Rattle.hanoi.proofs.put_state.Statement.{statement}
@@ -12,7 +8,7 @@ use Rattle.hanoi.proofs.put_state.Tie as tie
 
 all : (c : tie.Start) → let x = c .args in
     Left (x .out .now) (x .at) (stateText (x .s) (x .o) (x .members) (x .successors)) (x .out .now) (x .at)
-    (ascii "State: [" ∷ label (x .o) ∷ (ascii "] " ++ decimal (x .s)) ∷ braces (x .members) ∷ ascii "\n" ∷ items (x .successors) ∷ ascii "\n" ∷ [])
+    (stateParts (x .s) (x .o) (x .members) (x .successors))
 all c = let x = c .args in state-start (x .out .now) (x .at) (x .s) (x .o) (x .members) (x .successors) (c .pre)
 
 slice-aggregate-put-word : tie.Need-slice-aggregate-put-word

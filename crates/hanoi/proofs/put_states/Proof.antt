@@ -3,15 +3,15 @@ use mathlib.Core.List.{[], _∷_}
 use Prim.Native.Nat.{_-_, _≤_}
 use native.Mathlib.Omega.{arith}
 use borrow.Author.Needs.{needs}
-use Rattle.hanoi.specs.Parts.{statesText}
-use Rattle.hanoi.specs.PartsLaws.{linesFrom, lines-all}
+use Rattle.hanoi.specs.Parts.{linesBelow, linesFrom}
+use Rattle.hanoi.specs.PartsLaws.{lines-all}
 use Rattle.hanoi.specs.PutLaws.{Left, left-all, left-to, left-next, left-room}
 use Rattle.hanoi.specs.WalkLaws.{lines-more, lines-end}
 use Rattle.hanoi.proofs.put_states.Statement.{statement}
 use Rattle.hanoi.proofs.put_states.Tie as tie
 
 abbrev Inv-loop : tie.InvT-loop
-Inv-loop out₀ at n k observations successors fairness to₀ s₀ out to s = (s ≤ n) × Left out₀ at (statesText n k observations successors fairness) out to (linesFrom k observations successors fairness s n ∷ [])
+Inv-loop out₀ at n k observations successors fairness to₀ s₀ out to s = (s ≤ n) × Left out₀ at (linesBelow n k observations successors fairness) out to (linesFrom k observations successors fairness s n ∷ [])
 
 abbrev μ-loop : tie.MeasureT-loop
 μ-loop out₀ at n k observations successors fairness to₀ s₀ out to s = n - s

@@ -1,11 +1,9 @@
 -- The parts of the text, one behind the other; a well-formed machine's text has room.
-use mathlib.Core.List.{[], _∷_}
 use native.Mathlib.Omega.{arith}
 use borrow.Author.Needs.{needs}
 use Rattle.machine.specs.WellFormedLaws.{WellMachine, valid-machine}
-use Rattle.hanoi.specs.Words.{ascii}
 use Rattle.hanoi.specs.Text.{hoaText}
-use Rattle.hanoi.specs.Parts.{statesText, headText}
+use Rattle.hanoi.specs.Parts.{textParts}
 use Rattle.hanoi.specs.PutLaws.{Left, left-next, left-room, left-done}
 use Rattle.hanoi.specs.CallLaws.{text-start}
 use Rattle.hanoi.proofs.put_text.Statement.{statement}
@@ -14,9 +12,7 @@ use Rattle.hanoi.proofs.put_text.Tie as tie
 well : (c : tie.Start) → WellMachine 8 (c .args .m)
 well c = valid-machine 8 (c .args .m) (omega arith) (c .pre)
 
-all : (c : tie.Start) → let x = c .args in let m = x .m in
-    Left (x .out .now) 0 (hoaText m) (x .out .now) 0
-    (headText (m .states) (m .sets) (m .start) ∷ statesText (m .states) (m .sets) (m .observations) (m .successors) (m .fairness) ∷ ascii "--END--\n" ∷ [])
+all : (c : tie.Start) → let x = c .args in Left (x .out .now) 0 (hoaText (x .m)) (x .out .now) 0 (textParts (x .m))
 all c = text-start (c .args .out .now) (c .args .m) (well c)
 
 put-head-requires : tie.Need-put-head-requires
