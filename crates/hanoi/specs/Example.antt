@@ -1,6 +1,6 @@
 -- A whole text by computation, of a machine that has each form of a line: two start states, two sets, a state in no set and one in both, a state with two
 -- successors, a bit that is one.
-use mathlib.Core.List.{[], _∷_, _++_, flatMap, flatten}
+use mathlib.Core.List.{_∷_, _++_, flatMap, flatten}
 use mathlib.Core.Path.{_≡_, refl}
 use lib.ListN.{replicate}
 use Rattle.mask.specs.Bits.{hasBit}

@@ -4,12 +4,11 @@ use mathlib.Core.List.{List, [], _∷_, _++_, append-assoc, append-nil}
 use mathlib.Core.Path.{_≡_, refl, sym, ap, ap₂, _∙_}
 use Prim.Native.Nat.{ℕ, suc, _+_, _*_, _/_, _%_, _≤_, _<_}
 use native.Mathlib.Omega.{arith}
-use borrow.Author.Tests.{le-leb}
 use lib.ListN.{length, take}
 use lib.Seq.{take-all}
 use Rattle.mask.specs.Logic.{and, or}
-use Rattle.mask.specs.LogicLaws.{and-i}
 use Rattle.text.specs.Decimal.{decimal, isDigit}
+use Rattle.text.specs.EndsLaws.{digit-is}
 use Rattle.codec.specs.Statements.{AreBytes}
 use Rattle.machine.specs.Lassos.{given}
 use Rattle.playline.specs.Lasso.{grown, isPlain, numbersFrom, numbersIn, readable, lassoIn, statesText, lassoText}
@@ -17,10 +16,6 @@ use Rattle.playline.specs.LassoLaws.{Decimal, one-digit, digit-more, byt
 use Rattle.playline.specs.Statements.{LassoReadsBack}
 
 -- ---- a number
-digit-is : (d : ℕ) → d < 10 → isDigit (48 + d) ≡ true
-unfolding isDigit
-digit-is d h = and-i (le-leb 48 (48 + d) (omega arith)) (le-leb (48 + d) 57 (omega arith))
-
 -- a digit behind the digits of n
 digit-reads : (inside : Bool) (n d s : ℕ) (t : List ℕ) → d < 10 → s < 256 → n * 10 + d ≡ s → numbersFrom inside n ((48 + d) ∷ t) ≡ numbersFrom true s t
 unfolding grown

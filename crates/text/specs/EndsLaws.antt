@@ -13,6 +13,10 @@ use Rattle.text.specs.Decimal.{digitsUpTo, decimal, isDigit}
 use Rattle.text.specs.DecimalLaws.{upTo-one, upTo-more, decimal-some, decimal-apart}
 
 -- ---- digits
+pub digit-is : (d : ℕ) → d < 10 → isDigit (48 + d) ≡ true
+unfolding isDigit
+digit-is d h = and-i (le-leb 48 (48 + d) (omega arith)) (le-leb (48 + d) 57 (omega arith))
+
 data Digits : List ℕ → Type 0 where
   none : Digits []
   next : {d : ℕ} {u : List ℕ} → isDigit d ≡ true → Digits u → Digits (d ∷ u)
@@ -22,8 +26,7 @@ digits-append none h = h
 digits-append (next d g) h = next d (digits-append g h)
 
 one-digit : (n : ℕ) → n < 10 → Digits ((48 + n) ∷ [])
-unfolding isDigit
-one-digit n l = next (and-i (le-leb 48 (48 + n) (omega arith)) (le-leb (48 + n) 57 (omega arith))) none
+one-digit n l = next (digit-is n l) none
 
 upTo-digits : (k n : ℕ) → Digits (digitsUpTo k n)
 unfolding digitsUpTo
