@@ -1,4 +1,5 @@
 // Masks of 64 bits: bit s of a mask means state s. Every call is total: a bit number of 64 or more is in no mask.
+#![tactic(auto)]
 ghost use Rattle.std.specs.Prelude.{◌≡◌, min};
 ghost use Rattle.mask.specs.Bits.{hasBit, lowestOf, rest_of, withBit, fullMask};
 ghost use Rattle.mask.specs.Bounded.{count};
