@@ -1,5 +1,6 @@
 // Machines, pairs of machines, refusals, the single step, and where a table's sections and entries lie. The definitions of well-formedness stand
 // here too; crate `validity` tests it.
+#![tactic(auto)]
 ghost use Rattle.std.specs.Prelude.{◌≡◌, ℕ, get_or};
 ghost use Rattle.std.proofs.lemmas.List.Edits.{sets};
 ghost use Rattle.mask.specs.Bits.{hasBit};

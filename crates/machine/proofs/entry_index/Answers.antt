@@ -6,8 +6,7 @@ use mir.Val.{Fits}
 use native.Mathlib.Omega.{arith}
 use Rattle.machine.specs.WellFormedLaws.{mul-bound}
 use Rattle.machine.specs.Table.{entryIndex, place_of}
-use Rattle.machine.proofs.entry_index.Statement.{statement}
-use Rattle.machine.proofs.entry_index.Tie as tie
+use Rattle.machine.proofs.entry_index.Goals as goal
 
 rest : (x : ℕ) → x % 256 ≤ 255
 rest x = omega arith
@@ -30,21 +29,18 @@ row_fits x y z u = omega (arith, row x y z u)
 place-fits : (x y z u v : ℕ) → Fits w64 ((x % 256 * (y % 256) + z % 256) * (u % 256) + v % 256)
 place-fits x y z u v = omega (arith, row x y z u, rest v)
 
-mul-result : tie.Need-overflow-mul-result
-mul-result c = section-fits _ _
+pub overflow_mul-result : goal.overflow_mul-result
+overflow_mul-result c = section-fits _ _
 
-add-result : tie.Need-overflow-add-result
-add-result c = state-fits _ _ _
+pub overflow_add-result : goal.overflow_add-result
+overflow_add-result c = state-fits _ _ _
 
-mul-result-2 : tie.Need-overflow-mul-result-2
-mul-result-2 c = row_fits _ _ _ _
+pub overflow_mul-result-2 : goal.overflow_mul-result-2
+overflow_mul-result-2 c = row_fits _ _ _ _
 
-add-result-2 : tie.Need-overflow-add-result-2
-add-result-2 c = place-fits _ _ _ _ _
+pub overflow_add-result-2 : goal.overflow_add-result-2
+overflow_add-result-2 c = place-fits _ _ _ _ _
 
-returns : tie.Need-returns
+pub returns : goal.returns
 unfolding place_of entryIndex
 returns c = refl
-
-pub entry-index-spec : {M : Type 1} → statement M
-entry-index-spec = tie.close (tie.spec mul-result add-result mul-result-2 add-result-2 returns)
