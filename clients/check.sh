@@ -1,5 +1,5 @@
 #!/bin/sh
-# Builds the programs in C from the archives. Holds `console` to the number of each sample and of damaged copies, `restore` to the samples whose
+# Builds the programs in C over the archive. Holds `console` to the number of each sample and of damaged copies, `restore` to the samples whose
 # table is the solver's and to what `shelf` says of a hard show and of altered ones, `play` to runs and refusals, `watch` and the program `turns` to
 # each other and to stored turns, `export` and the program `hoa` to each other and to a reader of the Hanoi format, which is tried on its own too,
 # and all of them and the programs for the shell to the refusals of badly joined copies and to shows with an empty set. Looks for divide instructions
@@ -8,17 +8,20 @@ set -eu
 cd "$(dirname "$0")/.."
 work=$(mktemp -d)
 trap 'rm -rf "$work"' EXIT
-# all at once first, since crates that do not depend on each other are proved side by side
-rt check console restore playback watch export shelf solve turns play hoa >"$work/log" 2>&1 || { tail -n 20 "$work/log"; exit 1; }
-for name in console restore playback watch export; do
-    rt staticlib "$name" >"$work/log" 2>&1 || { tail -n 20 "$work/log"; exit 1; }
-done
+# with the argument `built` the archive and the programs are those that `rt ci` has just made
+if [ "${1-}" != built ]; then
+    (cd crates/hawkrusset && rt lib) >"$work/log" 2>&1 || { tail -n 20 "$work/log"; exit 1; }
+    for name in shelf solve turns play hoa; do
+        (cd "crates/$name" && rt run </dev/null) >"$work/log" 2>&1 || { tail -n 20 "$work/log"; exit 1; }
+    done
+fi
+archive=crates/hawkrusset/out/libhawkrusset.a
 flags='-std=c11 -O2 -Wall -Wextra -Werror'
-cc $flags -o "$work/console" clients/console.c target/staticlib/libconsole.a
-cc $flags -o "$work/restore" clients/restore.c target/staticlib/librestore.a target/staticlib/libconsole.a
-cc $flags -o "$work/playback" clients/playback.c target/staticlib/libplayback.a
-cc $flags -o "$work/watch" clients/watch.c target/staticlib/libwatch.a target/staticlib/librestore.a
-cc $flags -o "$work/export" clients/export.c target/staticlib/libexport.a
+cc $flags -o "$work/console" clients/console.c "$archive"
+cc $flags -o "$work/restore" clients/restore.c "$archive"
+cc $flags -o "$work/playback" clients/playback.c "$archive"
+cc $flags -o "$work/watch" clients/watch.c "$archive"
+cc $flags -o "$work/export" clients/export.c "$archive"
 cc $flags -o "$work/hoa_reader" clients/hoa_reader.c
 
 failed=0
@@ -98,8 +101,8 @@ unsigned quotient(unsigned x, unsigned y) { return x / y; }
 unsigned called(unsigned x, unsigned y) { return __udivsi3(x, y) + 1; }
 END
 divides 2 "$work/quotient.o" quotient
-divides 0 target/staticlib/libconsole.a console_answer
-divides 0 target/staticlib/libplayback.a play_file
+divides 0 "$archive" console_answer
+divides 0 "$archive" play_file
 
 # the shelf examples, a large show, shows with a hidden mask, one in which the player stays, and shows without a table
 for n in 01 03 05 06 10 12; do expect 100 "samples/case-$n.dom"; done
@@ -132,15 +135,15 @@ from stuck case-05; byte 61 0; seal; expect 11 "$file"
 stopped() {
     expect "$1" "$file"
     line="refused $1 $2 $3 0"
-    same "shelf $file" "$line" "$(target/bin/shelf <"$file")"
+    same "shelf $file" "$line" "$(crates/shelf/out/shelf <"$file")"
     same "restore $file" "$line" "$("$work/restore" "$file" "$work/none")"
     plays "$line" "$file" / 0
-    same "solve $file" "$line" "$(target/bin/solve <"$file" 2>&1)"
-    same "program play $file" "$line" "$(target/bin/play / 0 <"$file")"
-    same "turns $file" "$line" "$(target/bin/turns <"$file")"
+    same "solve $file" "$line" "$(crates/solve/out/solve <"$file" 2>&1)"
+    same "program play $file" "$line" "$(crates/play/out/play / 0 <"$file")"
+    same "turns $file" "$line" "$(crates/turns/out/turns <"$file")"
     watches "$line" "$file"
     watches "$line" "$file" 28672
-    same "hoa $file" "$line" "$(target/bin/hoa <"$file")"
+    same "hoa $file" "$line" "$(crates/hoa/out/hoa <"$file")"
     exports "$line" "$file" 0
 }
 from exchanged large; block 2 large 5; block 5 large 2; stopped 19 2 5
@@ -192,7 +195,7 @@ for name in large lamp choice stay; do restores "samples/$name.dom" 100 "samples
 # restored NUMBER LINE NAME: the copy is restored with this number, and then gets this line
 restored() {
     same "restore $3" "$1" "$("$work/restore" "$work/$3" "$work/$3.new")"
-    same "shelf $3" "$2" "$(target/bin/shelf <"$work/$3.new")"
+    same "shelf $3" "$2" "$(crates/shelf/out/shelf <"$work/$3.new")"
 }
 # a hidden mask is kept, and decides what the table is
 restored 100 'carried 1' four-with-1
@@ -201,7 +204,7 @@ restored 200 'not carried 0 0' lamp-shown
 restored 100 'carried 2' choice-shown
 # a show that is hard to solve: its number, its count of entries, and its table once more
 same 'restore hard' 200 "$("$work/restore" samples/hard.dom "$work/hard")"
-same 'shelf hard' 'not carried 0 539' "$(target/bin/shelf <"$work/hard")"
+same 'shelf hard' 'not carried 0 539' "$(crates/shelf/out/shelf <"$work/hard")"
 restores "$work/hard" 200 "$work/hard"
 same 'restore later' 'refused 7 3 0 0' "$("$work/restore" "$work/later" "$work/none")"
 same 'restore stuck' 'refused 11 1 1 0' "$("$work/restore" "$work/stuck" "$work/none")"
@@ -211,11 +214,11 @@ same 'restore longer' 'refused 2 0 0 0' "$("$work/restore" "$file" "$work/none")
 # unsolved LINE SHELF PLAY FILE
 unsolved() {
     same "restore $4" "$1" "$("$work/restore" "$4" "$work/none")"
-    same "solve $4" "$1" "$(target/bin/solve <"$4" 2>&1 >"$work/out")"
+    same "solve $4" "$1" "$(crates/solve/out/solve <"$4" 2>&1 >"$work/out")"
     [ ! -s "$work/out" ] || { echo "solve $4: a refusal wrote a file"; failed=1; }
-    same "shelf $4" "$2" "$(target/bin/shelf <"$4")"
+    same "shelf $4" "$2" "$(crates/shelf/out/shelf <"$4")"
     plays "$3" "$4" / 0
-    same "turns $4" "$1" "$(target/bin/turns <"$4")"
+    same "turns $4" "$1" "$(crates/turns/out/turns <"$4")"
     watches "$1" "$4"
     watches "$1" "$4" 28672
     watches "$1" "$4" 9 0 0
@@ -253,7 +256,7 @@ plays 'no table' samples/lost.dom / 0
 # the solver by turns: the program's lines, which the client gets by looking every pair up
 # turned LINES FILE
 turned() {
-    same "turns $2" "$1" "$(target/bin/turns <"$2")"
+    same "turns $2" "$1" "$(crates/turns/out/turns <"$2")"
     watches "$1
 solve_file's table" "$2"
 }
@@ -269,7 +272,7 @@ finished 1' "samples/$name.dom"; done
 turned 'turn 1 512 512 512 512 512 512 512
 finished 1' samples/large.dom
 # 37 turns: how many lines, the first, the last two and a checksum
-target/bin/turns <samples/hard.dom >"$work/turns"
+crates/turns/out/turns <samples/hard.dom >"$work/turns"
 same 'turns hard, lines' 38 "$(wc -l <"$work/turns" | tr -d ' ')"
 same 'turns hard, first' 'turn 1 112 112 112 112 112 112 112' "$(head -n 1 "$work/turns")"
 same 'turns hard, last' 'turn 37 77 77 77 77 77 77 77
@@ -295,13 +298,13 @@ watches 'refused 7 3 0 0' "$work/later" 9 9 9
 for spot in '0 0 0' '3 0 0' '1 3 0' '2 0 4' '18446744073709551615 0 0' '1 18446744073709551615 0' '1 0 64'; do
     watches 'refused 20 0 0 0' samples/falling.dom 0 $spot
 done
-same 'turns longer' 'refused 6 0 0 0' "$(target/bin/turns <"$work/longer")"
-same 'turns empty' 'refused 2 0 0 0' "$(target/bin/turns <"$work/empty")"
+same 'turns longer' 'refused 6 0 0 0' "$(crates/turns/out/turns <"$work/longer")"
+same 'turns empty' 'refused 2 0 0 0' "$(crates/turns/out/turns <"$work/empty")"
 
 # the Hanoi format: the program's text is read back as the machines of the show, and is that of the two calls, one after the other
 # exported FILE
 exported() {
-    target/bin/hoa <"$1" >"$work/both"
+    crates/hoa/out/hoa <"$1" >"$work/both"
     same "hoa $1" '2 machines read back' "$("$work/hoa_reader" "$1" <"$work/both" 2>&1)"
     same "export $1" '' "$({ "$work/export" "$1" 0 && "$work/export" "$1" 1; } | cmp - "$work/both" 2>&1)"
 }
@@ -354,11 +357,11 @@ for room in 20000 20001 40000; do exports "$("$work/export" "$file" 1)" "$file" 
 for name in empty short check number letters first-zero last-zero table-byte no-states eight-sets long cut later padding \
     beyond no-start stuck odd set-and-stuck; do
     file=$work/$name
-    line=$(target/bin/shelf <"$file")
-    same "hoa $file" "$line" "$(target/bin/hoa <"$file")"
+    line=$(crates/shelf/out/shelf <"$file")
+    same "hoa $file" "$line" "$(crates/hoa/out/hoa <"$file")"
     for machine in 0 1; do exports "$line" "$file" $machine; done
 done
-same 'hoa longer' 'refused 6 0 0 0' "$(target/bin/hoa <"$work/longer")"
+same 'hoa longer' 'refused 6 0 0 0' "$(crates/hoa/out/hoa <"$work/longer")"
 exports 'refused 2 0 0 0' "$work/longer" 0
 # 1 before the file is looked at; then the reader's refusals, and last 20
 for room in 0 19999; do exports 'refused 1 0 0 0' samples/case-05.dom 0 $room; done

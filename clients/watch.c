@@ -7,8 +7,8 @@
  * each section.
  * A refusal is printed in their place, and `changed` if a call changed what it says that it leaves alone. Exit status 1 if the file cannot be read.
  *
- *     rt staticlib watch && rt staticlib restore
- *     cc -o watch clients/watch.c target/staticlib/libwatch.a target/staticlib/librestore.a
+ *     (cd crates/hawkrusset && rt lib)
+ *     cc -o watch clients/watch.c crates/hawkrusset/out/libhawkrusset.a
  */
 #include "hawkrusset.h"
 #include "whole_file.h"

@@ -1,6 +1,7 @@
 // A brute-force version of solver, solver by turns, check and player, for tests: plain loops over all states, no walks of masks, no rows of masks but
 // those of the families that it is handed. It shares machines, partners and their numbers, refusals, sizes, when observations are the same, the order
 // of sections, the meaning of a bit and the full mask with the product, and nothing else.
+#![tactic(auto)]
 mod families;
 mod lassos;
 mod lifting;

@@ -16,7 +16,7 @@ use crate::machines::{has_empty_set, has_move, has_start, in_set, is_matched, va
 use machine::{Pair, Refusal, Validity};
 
 // What the check says: Carried with the count, NotCarried with c and the count, each with whether a concrete set is empty; or where it was stopped.
-#[derive(Drop)]
+#[derive(Clone, Copy)]
 pub enum Verdict {
     Carried(usize, bool),
     NotCarried(usize, usize, bool),
@@ -24,7 +24,7 @@ pub enum Verdict {
 }
 
 // The entries that a line steps into: those that are not blank, those that are 0 or have a smaller l, those that are at most a number.
-#[derive(Drop)]
+#[derive(Clone, Copy)]
 pub enum Target {
     NonBlank,
     Lower(usize),
@@ -32,7 +32,7 @@ pub enum Target {
 }
 
 // An entry's l and k, k counted from 0.
-#[derive(Drop)]
+#[derive(Clone, Copy)]
 struct Level {
     level: usize,
     set: usize,

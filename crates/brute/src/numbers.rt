@@ -7,7 +7,7 @@ ghost use Rattle.brute.specs.Numbers.{digitOf, entryOf, numberedTable, statesOf,
 use machine::{Machine, Pair};
 
 // How many states and sets a machine has; each of its masks is a digit from 0 to `top`. The observations of the states of `twos` have 2 added.
-#[derive(Drop)]
+#[derive(Clone, Copy)]
 pub struct Shape {
     pub states: usize,
     pub sets: usize,

@@ -17,14 +17,14 @@ use crate::machines::{is_matched, successors_of, validity};
 use machine::{Pair, Partner, Refusal, Validity};
 
 // What the player says: the run's stem length and loop length, or where it was stopped.
-#[derive(Drop)]
+#[derive(Clone, Copy)]
 pub enum Played {
     Run(usize, usize),
     Refused(Refusal),
 }
 
 // The abstract state a and the section j.
-#[derive(Drop)]
+#[derive(Clone, Copy)]
 struct Spot {
     state: usize,
     section: usize,

@@ -1,4 +1,5 @@
 // Files: document 01, "Files". The reader, the writer, and a file's length from its first block.
+#![tactic(auto)]
 ghost use Rattle.std.specs.Prelude.{◌≡◌, ◌+◌, ◌≤◌, length, drop};
 ghost use Rattle.std.proofs.Math.Seq.{paste};
 ghost use Rattle.codec.specs.Format.{checkAt};
@@ -6,21 +7,21 @@ ghost use Rattle.codec.specs.Format.{checkAt};
 use machine::{Pair, Refusal};
 
 // What the reader says: the file was taken, with the note whether a table came, or where it was stopped.
-#[derive(Drop)]
+#[derive(Clone, Copy)]
 pub enum Reading {
     Taken(bool),
     Refused(Refusal),
 }
 
 // The machines that were read, beside what the reader says; beside a refusal all their numbers are zero.
-#[derive(Drop)]
+#[derive(Clone, Copy)]
 pub struct Show {
     pub pair: Pair,
     pub reading: Reading,
 }
 
 // A file's length in bytes, or where the call was stopped.
-#[derive(Drop)]
+#[derive(Clone, Copy)]
 pub enum Size {
     Bytes(usize),
     Refused(Refusal),

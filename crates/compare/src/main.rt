@@ -1,52 +1,53 @@
 // Compares solver, solver by turns, check and player with brute force on series of small pairs, and writes a line of counts for each.
+#![tactic(auto)]
 ghost use Rattle.std.specs.Prelude.{true, false, ◌≡◌};
 
 use brute::Shape;
 use comparison::{Numbers, Series, Tally, Trial};
-use libc::STDOUT_FILENO;
 use rings::Rings;
+use std::io;
 
 // Writes a word and a number.
-fn show(word: &[u8], n: u64) {
-    io::write_all(STDOUT_FILENO, word);
-    io::print_decimal(STDOUT_FILENO, n);
+fn show(rt: &impl Print, word: &[u8], n: u64) -> io::Result<()> {
+    rt.write_all(word)?;
+    rt.print(n)
 }
 
 // Writes the rest of a series' line.
-fn counts(t: Tally) {
-    show(b": pairs ", t.pairs);
-    show(b", well formed ", t.formed);
-    show(b", solved ", t.solved);
-    show(b", carried ", t.carried);
-    show(b"; tables ", t.tables);
-    show(b", passing ", t.passing);
-    show(b", carried ", t.carrying);
-    show(b", beside an empty set ", t.empty);
-    show(b"; lassos ", t.lassos);
-    show(b", runs ", t.runs);
-    show(b"; turns ", t.turns);
-    show(b", finished ", t.finished);
-    show(b"; look-ups ", t.lookups);
-    show(b", still in ", t.held);
-    show(b"; differing ", t.differing);
-    io::write_all(STDOUT_FILENO, b"\n");
+fn counts(rt: &impl Print, t: Tally) -> io::Result<()> {
+    show(rt, b": pairs ", t.pairs)?;
+    show(rt, b", well formed ", t.formed)?;
+    show(rt, b", solved ", t.solved)?;
+    show(rt, b", carried ", t.carried)?;
+    show(rt, b"; tables ", t.tables)?;
+    show(rt, b", passing ", t.passing)?;
+    show(rt, b", carried ", t.carrying)?;
+    show(rt, b", beside an empty set ", t.empty)?;
+    show(rt, b"; lassos ", t.lassos)?;
+    show(rt, b", runs ", t.runs)?;
+    show(rt, b"; turns ", t.turns)?;
+    show(rt, b", finished ", t.finished)?;
+    show(rt, b"; look-ups ", t.lookups)?;
+    show(rt, b", still in ", t.held)?;
+    show(rt, b"; differing ", t.differing)?;
+    rt.write_all(b"\n")
 }
 
 // Compares a series and writes its line.
-fn line(s: Series) {
+fn line(rt: &impl Print, s: Series) -> io::Result<()> {
     let c = s.concrete;
     let a = s.abstraction;
     let t = comparison::compare(s);
     // of series with observations over 1 it tells the mask, 0 too
     if c.twos != 0 {
-        show(b"hidden ", s.hidden as u64);
-        io::write_all(STDOUT_FILENO, b", ");
+        show(rt, b"hidden ", s.hidden as u64)?;
+        rt.write_all(b", ")?;
     }
-    show(b"states ", c.states as u64);
-    show(b" and ", a.states as u64);
-    show(b", sets ", c.sets as u64);
-    show(b" and ", a.sets as u64);
-    counts(t);
+    show(rt, b"states ", c.states as u64)?;
+    show(rt, b" and ", a.states as u64)?;
+    show(rt, b", sets ", c.sets as u64)?;
+    show(rt, b" and ", a.sets as u64)?;
+    counts(rt, t)
 }
 
 // A machine's states and sets, the greatest digit, 2^states - 1, so that a mask can be any set of states, and the states whose observation has
@@ -105,46 +106,70 @@ fn altered_tables(tables: u64) -> Trial
 }
 
 // Pairs under a hidden mask.
-fn under(hidden: u8, c: Shape, x: Numbers, a: Shape, y: Numbers, trial: Trial) {
-    line(Series {
+fn under(
+    rt: &impl Print,
+    hidden: u8,
+    c: Shape,
+    x: Numbers,
+    a: Shape,
+    y: Numbers,
+    trial: Trial,
+) -> io::Result<()> {
+    line(rt, Series {
         concrete: c,
         concretes: x,
         abstraction: a,
         abstractions: y,
         hidden,
         trial,
-    });
+    })
 }
 
 // Tiny pairs, with all the tables and families that they have.
-fn tiny(c: Shape, x: Numbers, a: Shape, y: Numbers, trial: Trial) {
-    under(0, c, x, a, y, trial);
+fn tiny(
+    rt: &impl Print,
+    c: Shape,
+    x: Numbers,
+    a: Shape,
+    y: Numbers,
+    trial: Trial,
+) -> io::Result<()> {
+    under(rt, 0, c, x, a, y, trial)
 }
 
 // Other pairs, with the solver's table, or the lifted one, and all that differ from it in one entry.
-fn small(c: Shape, x: Numbers, a: Shape, y: Numbers, tables: u64) {
-    under(0, c, x, a, y, altered_tables(tables));
+fn small(
+    rt: &impl Print,
+    c: Shape,
+    x: Numbers,
+    a: Shape,
+    y: Numbers,
+    tables: u64,
+) -> io::Result<()> {
+    under(rt, 0, c, x, a, y, altered_tables(tables))
 }
 
 // Pairs with observations from 0 to 3 under a hidden mask, which are two of the other series but for the observations: with mask 2 their counts
 // are the same.
-fn masked(hidden: u8) {
+fn masked(rt: &impl Print, hidden: u8) -> io::Result<()> {
     under(
+        rt,
         hidden,
         shape_with(1, 1, 1, 1),
         numbers(16, 1),
         shape_with(2, 1, 3, 2),
         numbers(1024, 1),
         every_table(25, 16, 7),
-    );
+    )?;
     under(
+        rt,
         hidden,
         shape_with(2, 2, 3, 2),
         numbers(32, 119),
         shape_with(3, 2, 7, 5),
         numbers(32, 60811),
         altered_tables(180),
-    );
+    )
 }
 
 // The lengths of a machine's rings, and its sets.
@@ -195,113 +220,136 @@ fn leading_back() -> Tally {
     compare_rings(t, true, 0, ring(2, 2, 1), ring(3, 60, 1), 6318)
 }
 
-fn main() {
+// Pairs with every table that they have.
+fn all_tables(rt: &impl Print) -> io::Result<()> {
     let all1 = numbers(16, 1);
     let all2 = numbers(1024, 1);
     tiny(
+        rt,
         shape(1, 1, 1),
         all1,
         shape(1, 1, 1),
         all1,
         every_table(4, 8, 3),
-    );
+    )?;
     tiny(
+        rt,
         shape(1, 1, 1),
         all1,
         shape(2, 1, 3),
         all2,
         every_table(25, 16, 7),
-    );
+    )?;
     tiny(
+        rt,
         shape(2, 1, 3),
         all2,
         shape(1, 1, 1),
         all1,
         every_table(25, 20, 3),
-    );
+    )?;
     tiny(
+        rt,
         shape(1, 2, 1),
         numbers(32, 1),
         shape(1, 3, 1),
         numbers(64, 1),
         every_table(125, 68, 3),
-    );
+    )?;
     tiny(
+        rt,
         shape(1, 1, 1),
         all1,
         shape(2, 2, 3),
         numbers(512, 7),
         every_table(625, 72, 7),
-    );
+    )?;
     tiny(
+        rt,
         shape(2, 2, 3),
         numbers(512, 7),
         shape(1, 1, 1),
         all1,
         every_table(49, 20, 3),
-    );
+    )?;
     tiny(
+        rt,
         shape(2, 1, 3),
         numbers(32, 29),
         shape(2, 1, 3),
         numbers(32, 27),
         every_table(2401, 72, 7),
-    );
+    )?;
     tiny(
+        rt,
         shape(2, 2, 3),
         numbers(16, 235),
         shape(2, 1, 3),
         numbers(16, 59),
         every_table(14641, 72, 7),
-    );
+    )
+}
+
+// Pairs with the tables that differ from one in at most one entry.
+fn near_tables(rt: &impl Print) -> io::Result<()> {
     small(
+        rt,
         shape(2, 2, 3),
         numbers(64, 59),
         shape(2, 2, 3),
         numbers(64, 61),
         88,
-    );
+    )?;
     small(
+        rt,
         shape(2, 2, 3),
         numbers(128, 31),
         shape(2, 2, 3),
         numbers(128, 29),
         88,
-    );
+    )?;
     small(
+        rt,
         shape(2, 2, 3),
         numbers(32, 119),
         shape(3, 2, 7),
         numbers(32, 60811),
         180,
-    );
+    )?;
     small(
+        rt,
         shape(3, 2, 7),
         numbers(32, 60811),
         shape(2, 2, 3),
         numbers(32, 119),
         180,
-    );
+    )?;
     small(
+        rt,
         shape(3, 1, 7),
         numbers(24, 10007),
         shape(3, 2, 7),
         numbers(24, 80021),
         216,
-    );
+    )?;
     small(
+        rt,
         shape(3, 2, 7),
         numbers(16, 120011),
         shape(3, 2, 7),
         numbers(16, 121013),
         378,
-    );
-    masked(0);
-    masked(1);
-    masked(2);
-    masked(3);
-    io::write_all(STDOUT_FILENO, b"rings with ends that stay");
-    counts(staying());
-    io::write_all(STDOUT_FILENO, b"rings with an end that leads back");
-    counts(leading_back());
+    )
+}
+
+fn main(rt: HostRuntime) -> io::Result<()> {
+    all_tables(&rt)?;
+    near_tables(&rt)?;
+    for hidden in 0..4u8 {
+        masked(&rt, hidden)?;
+    }
+    rt.write_all(b"rings with ends that stay")?;
+    counts(&rt, staying())?;
+    rt.write_all(b"rings with an end that leads back")?;
+    counts(&rt, leading_back())
 }

@@ -13,7 +13,7 @@ use brute::Shape;
 use machine::{Pair, Validity};
 
 // The numbers 0, step, 2 x step, .., so many of them.
-#[derive(Drop)]
+#[derive(Clone, Copy)]
 pub struct Numbers {
     pub count: u32,
     pub step: u32,
@@ -22,7 +22,7 @@ pub struct Numbers {
 // What is tried of a pair. Tables: the first `tables` of all tables, or of the solver's with one entry changed (of a pair that the solver refuses,
 // of the lifted one). Lassos: those with a stem of at most `stem` states. Families, beside those from the first to the finish: the first `families`
 // of all whose rows are digits from 0 to `row`.
-#[derive(Drop)]
+#[derive(Clone, Copy)]
 pub struct Trial {
     pub every: bool,
     pub tables: u64,
@@ -32,7 +32,7 @@ pub struct Trial {
 }
 
 // The pairs of some concrete and some abstract machines under a hidden mask, and what is tried of each.
-#[derive(Drop)]
+#[derive(Clone, Copy)]
 pub struct Series {
     pub concrete: Shape,
     pub concretes: Numbers,

@@ -2,7 +2,7 @@
 ghost use Rattle.std.specs.Prelude.{◌≡◌, if◌then◌else◌};
 ghost use Rattle.comparison.specs.Tallies.{nothing, plus, ofPair, ofSolution, ofUnsolved, ofTable, ofLasso, of_test, ofTurn, ofLookUp};
 
-#[derive(Drop)]
+#[derive(Clone, Copy)]
 pub struct Tally {
     // pairs tried, those that are well formed, those that the solver takes, and of these those that its table carries
     pub pairs: u64,

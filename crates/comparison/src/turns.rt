@@ -16,7 +16,7 @@ use machine::{Pair, Refusal};
 const MARK: u16 = 40000;
 
 // What brute force says of a pair: the four numbers of its tests, and if it refuses nothing how many entries, sections and states there are.
-#[derive(Drop)]
+#[derive(Clone, Copy)]
 pub struct Known {
     pub plain: Refusal,
     pub entries: usize,
@@ -26,7 +26,7 @@ pub struct Known {
 }
 
 // A family that was compared: the counts, whether its turn is finished, and the next family.
-#[derive(Drop)]
+#[derive(Clone, Copy)]
 struct Step {
     tally: Tally,
     finished: bool,

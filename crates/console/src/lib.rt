@@ -1,4 +1,5 @@
 // The console's calls, for C: a file's bytes in, one number out; and a file's first block in, the whole file's length out.
+#![tactic(auto)]
 ghost use Rattle.std.specs.Prelude.{◌≡◌, take};
 ghost use Rattle.codec.specs.Reader.{size_of};
 ghost use Rattle.verdict.specs.Outcomes.{fileOutcome, outcomeNumber};
@@ -13,8 +14,7 @@ pub const CARRIED: u32 = 100;
 pub const NOT_CARRIED: u32 = 200;
 
 // What is said of the file with these bytes, as one number: a refusal's, 101 without a table, or one of those above.
-#[unsafe(no_mangle)]
-pub extern "C" fn console_answer(bytes: &[u8]) -> u32
+pub fn console_answer(bytes: &[u8]) -> u32
     ensures { result ≡ outcomeNumber (fileOutcome bytes.now) }
 {
     match verdict::file_verdict(bytes) {
@@ -27,8 +27,7 @@ pub extern "C" fn console_answer(bytes: &[u8]) -> u32
 
 // The length in bytes that the whole file must have, by its first block, or a refusal's number, which is less than any length. It looks at
 // no more than the first block; fewer bytes are refused.
-#[unsafe(no_mangle)]
-pub extern "C" fn first_block_answer(bytes: &[u8]) -> u32
+pub fn first_block_answer(bytes: &[u8]) -> u32
     ensures { result ≡ sizeNumber (size_of (take 512 bytes.now)) }
 {
     let end = if bytes.len() < 512 { bytes.len() } else { 512 };

@@ -1,4 +1,5 @@
 // The text of a machine of a file, in the Hanoi Omega-Automata format.
+#![tactic(auto)]
 ghost use Rattle.std.specs.Prelude.{◌≡◌, length};
 ghost use Rattle.machine.specs.Refusals.{spotAfter};
 ghost use Rattle.codec.specs.Answers.{sizedOf, length_of};
@@ -32,8 +33,7 @@ pub fn text_bytes(bytes: &[u8], which: usize, out: &mut [u8]) -> Size
 }
 
 // The same for C: the text's length, or 0 with the refusal's number and spot in `spot`, which is unchanged beside a length.
-#[unsafe(no_mangle)]
-pub extern "C" fn hoa_file(bytes: &[u8], which: usize, out: &mut [u8], spot: &mut [u64; 4]) -> usize
+pub fn hoa_file(bytes: &[u8], which: usize, out: &mut [u8], spot: &mut [u64; 4]) -> usize
     ensures value { result ≡ length_of (exportAnswer bytes.now which (length out.old)) }
     ensures out_after { out.new ≡ exportBuffer bytes.now which out.old }
     ensures spot_after { spot.new ≡ spotAfter (exportAnswer bytes.now which (length out.old)) spot.old }

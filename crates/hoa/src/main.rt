@@ -1,32 +1,32 @@
 // Reads a show from standard input and writes its two machines as one stream of the Hanoi Omega-Automata format to standard output, the concrete
 // machine first; or the line of a refusal. A read that fails ends the input.
+#![tactic(auto)]
 use codec::Size;
-use libc::{STDIN_FILENO, STDOUT_FILENO};
+use std::io;
 
 // Writes the text of a machine of the file, and says whether it did; or writes the line of the refusal, which is the same for both machines.
-fn write_machine(bytes: &[u8], which: usize) -> bool {
+fn write_machine(rt: &impl Print, bytes: &[u8], which: usize) -> io::Result<bool> {
     let mut out = [0u8; hanoi::TEXT_ROOM];
-    let size = export::text_bytes(bytes, which, &mut out);
-    match size {
+    match export::text_bytes(bytes, which, &mut out) {
         Size::Bytes(n) => {
-            io::write_all(STDOUT_FILENO, &out[..n]);
-            true
+            rt.write_all(&out[..n])?;
+            Ok(true)
         }
         Size::Refused(r) => {
             let line = report::refusal_line(r);
             let text = line.text;
             let length = line.length;
-            io::write_all(STDOUT_FILENO, &text[..length]);
-            false
+            rt.write_all(&text[..length])?;
+            Ok(false)
         }
     }
 }
 
-fn main() {
+fn main(rt: HostRuntime) -> io::Result<()> {
     let mut input = [0u8; codec::INPUT_ROOM];
-    let count = io::read_full(STDIN_FILENO, &mut input);
-    let written = write_machine(&input[..count], 0);
-    if written {
-        write_machine(&input[..count], 1);
+    let count = stream::read_full(&mut rt.stdin(), &mut input);
+    if write_machine(&rt, &input[..count], 0)? {
+        write_machine(&rt, &input[..count], 1)?;
     }
+    Ok(())
 }

@@ -2,6 +2,7 @@
 // Cost: for each non-blank entry and each successor of its concrete state, one search among the successors of its abstract state, which stops
 // at the first that serves: at most n x nC x nA x nC x nA looks at an entry, and on passing tables far fewer. Nothing divides but by fixed powers
 // of two.
+#![tactic(auto)]
 ghost use Rattle.std.specs.Prelude.{true, ◌≡◌, ◌<◌, ◌≤◌, length, get_or, eqb};
 ghost use Rattle.mask.specs.Logic.{not};
 ghost use Rattle.mask.specs.Bounded.{count};
@@ -20,7 +21,7 @@ use machine::{Pair, Refusal, Validity};
 
 // What the check says: Carried with the count, NotCarried with c and the count, each with whether a set of the concrete machine is empty, so that
 // no play of it is fair; or where it was stopped.
-#[derive(Drop)]
+#[derive(Clone, Copy)]
 pub enum Checked {
     Carried(usize, bool),
     NotCarried(usize, usize, bool),
@@ -28,7 +29,7 @@ pub enum Checked {
 }
 
 // What an entry asks of each step: partners in `section` whose entry is at most `bound`; unless `holds`, the entry fails before any step.
-#[derive(Drop)]
+#[derive(Clone, Copy)]
 struct Line {
     holds: bool,
     section: usize,
@@ -36,7 +37,7 @@ struct Line {
 }
 
 // An entry's l and k, k counted from 0.
-#[derive(Drop)]
+#[derive(Clone, Copy)]
 struct Level {
     level: usize,
     set: usize,

@@ -11,7 +11,7 @@ ghost use Rattle.machine.specs.Observed.{sameMask, matchedMasks};
 ghost use Rattle.machine.specs.Table.{place_of};
 
 // A finite machine with fairness sets. Document 01: the rig is the concrete machine, the score the abstract one.
-#[derive(Drop)]
+#[derive(Clone, Copy)]
 pub struct Machine {
     pub states: usize,
     pub sets: usize,
@@ -23,7 +23,7 @@ pub struct Machine {
 
 // The concrete machine (document 01: rig) and its abstraction, the abstract one (document 01: score), and the mask of the observation bits
 // that are not compared, any byte (document 02: hidden mask).
-#[derive(Drop)]
+#[derive(Clone, Copy)]
 pub struct Pair {
     pub concrete: Machine,
     pub abstraction: Machine,
@@ -31,7 +31,7 @@ pub struct Pair {
 }
 
 // Where a call was stopped: a number of document 01's table or one that document 02 adds, and the three numbers of its spot, 0 where unused.
-#[derive(Drop)]
+#[derive(Clone, Copy)]
 pub struct Refusal {
     pub number: u32,
     pub first: usize,
@@ -90,14 +90,14 @@ pub const EMPTY_SET: u32 = 21;
 pub const NO_TABLE: u32 = 101;
 
 // Whether the tests of a call pass, and if not where the first stopped it.
-#[derive(Drop)]
+#[derive(Clone, Copy)]
 pub enum Validity {
     Valid,
     Refused(Refusal),
 }
 
 // The abstract state that a single step names, if there is one.
-#[derive(Drop)]
+#[derive(Clone, Copy)]
 pub enum Partner {
     State(usize),
     Nobody,

@@ -1,4 +1,5 @@
 // A file's bytes and a lasso of its concrete machine in, the abstract machine's run out.
+#![tactic(auto)]
 ghost use Rattle.std.specs.Prelude.{◌≡◌};
 ghost use Rattle.machine.specs.Refusals.{spotAfter};
 ghost use Rattle.machine.specs.Lassos.{given};
@@ -9,7 +10,7 @@ use machine::Refusal;
 use player::Played;
 
 // What is said of a file and a lasso: the run's stem length and loop length, that the file has no table, or where it was stopped.
-#[derive(Drop)]
+#[derive(Clone, Copy)]
 pub enum FileRun {
     Run(usize, usize),
     NoTable,
@@ -42,8 +43,7 @@ pub fn play_bytes(bytes: &[u8], stem: &[u8], cycle: &[u8], run: &mut [u8]) -> Fi
 
 // The same for C: stem length x 65,536 + loop length, or 0 with the refusal's number and spot in `spot`, which is unchanged beside a run. A
 // file without a table has the number 101.
-#[unsafe(no_mangle)]
-pub extern "C" fn play_file(
+pub fn play_file(
     bytes: &[u8],
     stem: &[u8],
     cycle: &[u8],

@@ -1,5 +1,6 @@
 // The player of lassos: document 01, "Player", with the single step of document 02, No. 10.
 // Cost: the line check, and then at most 28,672 steps, each one search among the successors of an abstract state.
+#![tactic(auto)]
 ghost use Rattle.std.specs.Prelude.{true, cond, ◌≡◌, ℕ, ◌+◌, ◌<◌, ◌≤◌, eqb, length, get_or};
 ghost use Rattle.mask.specs.Bits.{hasBit};
 ghost use Rattle.mask.specs.Bounded.{first};
@@ -22,14 +23,14 @@ use machine::{Machine, Pair, Partner, Refusal, Validity};
 pub const RUN_ROOM: usize = 28672;
 
 // What the player says: the run's stem length and loop length, or where it was stopped.
-#[derive(Drop)]
+#[derive(Clone, Copy)]
 pub enum Played {
     Run(usize, usize),
     Refused(Refusal),
 }
 
 // Where the player is: at a position of the lasso, from 0 through stem and loop, after so many rounds, in the abstract state a and section j.
-#[derive(Drop)]
+#[derive(Clone, Copy)]
 struct Place {
     position: usize,
     a: usize,

@@ -1,4 +1,5 @@
 // A lasso read from text, and the line that `play` writes.
+#![tactic(auto)]
 ghost use Rattle.std.specs.Prelude.{true, ◌∷◌, [], ◌++◌, ◌≡◌, ℕ, suc, ◌+◌, ◌*◌, ◌≤◌, eqb, length, take, drop};
 ghost use Rattle.std.proofs.lemmas.List.Edits.{sets};
 ghost use Rattle.mask.specs.Logic.{or};
@@ -17,7 +18,7 @@ use playback::FileRun;
 pub const LINE_ROOM: usize = 114700;
 
 // Numbers that were read, at most 65: the first `count` of `states`.
-#[derive(Drop)]
+#[derive(Clone, Copy)]
 struct Numbers {
     states: [u8; 65],
     count: usize,

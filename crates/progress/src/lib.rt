@@ -1,6 +1,7 @@
 // The solver by turns, for a caller who wants to go on between turns. A family of sets of pairs is 448 masks, 7 x 64 rows, row j x 64 + c
 // for section j, counted from 0, and concrete state c: the abstract states beside c that are still in. It goes in and comes back by value, and any
 // content has a meaning: turn and look-up see only the matched pairs of the machines.
+#![tactic(auto)]
 ghost use Rattle.std.specs.Prelude.{true, ◌≡◌, ◌<◌, ◌≤◌, eqb, length, get_or};
 ghost use Rattle.mask.specs.Bounded.{every};
 ghost use Rattle.mask.specs.Tables.{front};
@@ -14,14 +15,14 @@ ghost use Rattle.progress.specs.Turns.{firstRows, firstGiven, turnAnswer, turnFa
 use machine::{Pair, Refusal, Validity};
 
 // The first family, or where the call was stopped: zeros beside a refusal.
-#[derive(Drop)]
+#[derive(Clone, Copy)]
 pub struct FirstFamily {
     pub validity: Validity,
     pub family: [u64; 448],
 }
 
 // What a turn says.
-#[derive(Drop)]
+#[derive(Clone, Copy)]
 pub enum Turned {
     Finished,
     Unfinished,
@@ -29,14 +30,14 @@ pub enum Turned {
 }
 
 // What a turn says, and the next family: beside a refusal the one that was handed in.
-#[derive(Drop)]
+#[derive(Clone, Copy)]
 pub struct TurnMade {
     pub said: Turned,
     pub family: [u64; 448],
 }
 
 // What a look-up says of a pair in a section.
-#[derive(Drop)]
+#[derive(Clone, Copy)]
 pub enum LookedUp {
     StillIn,
     StruckOut,

@@ -1,4 +1,5 @@
 // The lines that the programs write: document 01, "Console and program".
+#![tactic(auto)]
 ghost use Rattle.std.specs.Prelude.{List, [], ◌∷◌, ◌++◌, ◌≡◌, ℕ, ◌+◌, ◌≤◌, length};
 ghost use Rattle.text.specs.Decimal.{decimal};
 ghost use Rattle.verdict.specs.Outcomes.{outcomeOf};
@@ -9,7 +10,7 @@ use machine::Refusal;
 use verdict::FileVerdict;
 
 // A line of text with its line feed: the first `length` bytes of `text`, and zeros after them.
-#[derive(Drop)]
+#[derive(Clone, Copy)]
 pub struct Line {
     pub text: [u8; 128],
     pub length: usize,

@@ -1,4 +1,5 @@
 // A show in, the same show with the solver's table out.
+#![tactic(auto)]
 ghost use Rattle.std.specs.Prelude.{◌≡◌};
 ghost use Rattle.machine.specs.Refusals.{spotAfter};
 ghost use Rattle.codec.specs.Answers.{sizedOf, length_of};
@@ -31,8 +32,7 @@ pub fn solve_bytes(bytes: &[u8], out: &mut [u8]) -> Size
 }
 
 // The same for C: the file's length, or 0 with the refusal's number and spot in `spot`, which is unchanged beside a length.
-#[unsafe(no_mangle)]
-pub extern "C" fn solve_file(bytes: &[u8], out: &mut [u8], spot: &mut [u64; 4]) -> usize
+pub fn solve_file(bytes: &[u8], out: &mut [u8], spot: &mut [u64; 4]) -> usize
     ensures value { result ≡ length_of (restoreAnswer bytes.now out.old) }
     ensures out_after { out.new ≡ restoreBuffer bytes.now out.old }
     ensures spot_after { spot.new ≡ spotAfter (restoreAnswer bytes.now out.old) spot.old }

@@ -4,6 +4,8 @@
 // The pairs of a concrete and an abstract ring of coprime lengths make one chain, each leading to the next. Of the first rings' chain a turn
 // loses one pair. Of the concrete first and the abstract second ring's a round of X(l, k) loses one; in the second family it is covered, one
 // level above the whole third chain. Of the second rings' a level gains one pair, as only one of them leads to the universal state.
+#![tactic(auto)]
+
 ghost use Rattle.std.specs.Prelude.{cond, ◌≡◌, ◌<◌, ◌≤◌, get_or, length, ltb};
 ghost use Rattle.mask.specs.Tables.{table};
 ghost use Rattle.rings.specs.Rings.{threeStates, ringMoves, concreteState, furtherStates, lastState, abstractState, ringStates, ringState, ringMachine, ringPair};
@@ -11,7 +13,7 @@ ghost use Rattle.rings.specs.Rings.{threeStates, ringMoves, concreteState, furth
 use machine::{Machine, Pair};
 
 // The lengths of a machine's two rings, and how many sets it has. A machine of over 64 states is made, and is not well formed.
-#[derive(Drop)]
+#[derive(Clone, Copy)]
 pub struct Rings {
     pub first: u32,
     pub second: u32,
@@ -19,7 +21,7 @@ pub struct Rings {
 }
 
 // What a state is like; `fair` states are in every set.
-#[derive(Drop)]
+#[derive(Clone, Copy)]
 struct State {
     observation: u8,
     successors: u64,

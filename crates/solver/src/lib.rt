@@ -2,6 +2,7 @@
 // A set of pairs is 64 rows, for each concrete state the mask of the abstract states beside it (crate `rows`).
 // `solve` makes the table in place. The entries of matched pairs begin at 0, and none is ever above its pair's rank; a section's ranks are made from its entries so far,
 // and a section is made again while the set of the next one changes. `turn_family` makes every section afresh from a family that it is handed.
+#![tactic(auto)]
 ghost use Rattle.std.specs.Prelude.{◌≡◌, true, ◌++◌, ◌+◌, ◌-◌, ◌*◌, ◌<◌, ◌≤◌, length, take, drop, replicate};
 ghost use Rattle.mask.specs.Bits.{fullMask};
 ghost use Rattle.mask.specs.Tables.{table};
@@ -22,7 +23,7 @@ ghost use Rattle.solver.specs.Solver.{solveValidity, solvedTable, turnedFamily, 
 use machine::{Pair, Validity};
 
 // Whether the tests of `turn_family` pass, and the family that it gives.
-#[derive(Drop)]
+#[derive(Clone, Copy)]
 pub struct TurnedFamily {
     pub validity: Validity,
     pub family: [u64; 448],

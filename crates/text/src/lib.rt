@@ -1,11 +1,13 @@
 // Text: the decimal digits of a number, and bytes put at a place of a lent buffer.
+#![tactic(auto)]
+
 ghost use Rattle.std.specs.Prelude.{◌≡◌, length};
 ghost use Rattle.std.proofs.lemmas.List.Edits.{sets};
 ghost use Rattle.text.specs.Decimal.{decimal};
 ghost use Rattle.text.specs.Answers.{digitsFor};
 
 // The decimal digits of a number, which stand at the end of `bytes`, from `start` on; before them are zeros.
-#[derive(Drop)]
+#[derive(Clone, Copy)]
 pub struct Digits {
     pub bytes: [u8; 20],
     pub start: usize,

@@ -1,4 +1,5 @@
 // From a file's bytes to the whole answer: the file is read, and its table checked.
+#![tactic(auto)]
 ghost use Rattle.std.specs.Prelude.{◌≡◌};
 ghost use Rattle.verdict.specs.Outcomes.{outcomeOf, fileOutcome};
 
@@ -7,7 +8,7 @@ use linecheck::Checked;
 use machine::Refusal;
 
 // What is said of a file: what the check says of its table, that it has none, or where it was stopped.
-#[derive(Drop)]
+#[derive(Clone, Copy)]
 pub enum FileVerdict {
     Carried(usize),
     NotCarried(usize, usize),

@@ -1,4 +1,5 @@
 // The solver by turns on a file's bytes, for a drawing program that goes on between turns: it keeps the family and the table and lends them to each call.
+#![tactic(auto)]
 ghost use Rattle.std.specs.Prelude.{◌≡◌, length};
 ghost use Rattle.machine.specs.Refusals.{valid, tested_of, spotAfter};
 ghost use Rattle.machine.specs.Table.{tableRoom};
@@ -11,7 +12,7 @@ use machine::{Pair, Validity};
 use progress::{FirstFamily, LookedUp, TurnMade, Turned};
 
 // The machines of a file, or where its reader was stopped.
-#[derive(Drop)]
+#[derive(Clone, Copy)]
 struct Machines {
     validity: Validity,
     pair: Pair,
@@ -103,8 +104,7 @@ pub fn look_up_bytes(
 // ---- The same for C. The four numbers of a refusal go to `spot`, which is unchanged beside an answer.
 
 // 1, and the first family; 0 for a refusal, which leaves `family` as it is.
-#[unsafe(no_mangle)]
-pub extern "C" fn first_family_file(
+pub fn first_family_file(
     bytes: &[u8],
     family: &mut [u64; 448],
     spot: &mut [u64; 4],
@@ -130,8 +130,7 @@ pub extern "C" fn first_family_file(
 
 // 1 for a turn that is not finished, 2 for one that is, with the next family, and the table where it is finished; 0 for a refusal, which
 // leaves both as they are.
-#[unsafe(no_mangle)]
-pub extern "C" fn turn_file(
+pub fn turn_file(
     bytes: &[u8],
     family: &mut [u64; 448],
     table: &mut [u16],
@@ -157,8 +156,7 @@ pub extern "C" fn turn_file(
 }
 
 // 1 for a pair that is struck out, 2 for one that is still in, 0 for a refusal.
-#[unsafe(no_mangle)]
-pub extern "C" fn look_up_file(
+pub fn look_up_file(
     bytes: &[u8],
     family: &[u64; 448],
     section: usize,

@@ -1,0 +1,114 @@
+// The calls for C, in one archive. Each is the call of the same name of its library, and has its clauses.
+#![tactic(auto)]
+ghost use Rattle.std.specs.Prelude.{◌≡◌, take, length};
+ghost use Rattle.verdict.specs.Outcomes.{fileOutcome, outcomeNumber};
+ghost use Rattle.codec.specs.Reader.{size_of};
+ghost use Rattle.console.specs.FirstBlock.{sizeNumber};
+ghost use Rattle.machine.specs.Refusals.{spotAfter};
+ghost use Rattle.codec.specs.Answers.{length_of};
+ghost use Rattle.restore.specs.Restoring.{restoreAnswer, restoreBuffer};
+ghost use Rattle.machine.specs.Lassos.{given};
+ghost use Rattle.playback.specs.Playing.{fileRun, fileRunBuffer, toldToC, runNumber};
+ghost use Rattle.watch.specs.Watching.{firstFile, firstFileRows, readyNumber, turnFile, turnFileRows, turnFileTable, toldNumber, lookUpFile};
+ghost use Rattle.export.specs.Exporting.{exportAnswer, exportBuffer};
+
+// What is said of the file with these bytes, as one number: a refusal's, 101 without a table, or one of those above.
+#[unsafe(no_mangle)]
+pub extern "C" fn console_answer(bytes: &[u8]) -> u32
+    ensures { result ≡ outcomeNumber (fileOutcome bytes.now) }
+{
+    console::console_answer(bytes)
+}
+
+// The length in bytes that the whole file must have, by its first block, or a refusal's number, which is less than any length. It looks at
+// no more than the first block; fewer bytes are refused.
+#[unsafe(no_mangle)]
+pub extern "C" fn first_block_answer(bytes: &[u8]) -> u32
+    ensures { result ≡ sizeNumber (size_of (take 512 bytes.now)) }
+{
+    console::first_block_answer(bytes)
+}
+
+// The same for C: the file's length, or 0 with the refusal's number and spot in `spot`, which is unchanged beside a length.
+#[unsafe(no_mangle)]
+pub extern "C" fn solve_file(bytes: &[u8], out: &mut [u8], spot: &mut [u64; 4]) -> usize
+    ensures value { result ≡ length_of (restoreAnswer bytes.now out.old) }
+    ensures out_after { out.new ≡ restoreBuffer bytes.now out.old }
+    ensures spot_after { spot.new ≡ spotAfter (restoreAnswer bytes.now out.old) spot.old }
+{
+    restore::solve_file(bytes, out, spot)
+}
+
+// The same for C: stem length x 65,536 + loop length, or 0 with the refusal's number and spot in `spot`, which is unchanged beside a run. A
+// file without a table has the number 101.
+#[unsafe(no_mangle)]
+pub extern "C" fn play_file(
+    bytes: &[u8],
+    stem: &[u8],
+    cycle: &[u8],
+    run: &mut [u8],
+    spot: &mut [u64; 4],
+) -> u64
+    ensures value { result ≡ runNumber (toldToC (fileRun bytes.now (given stem.now cycle.now) run.old)) }
+    ensures run_after { run.new ≡ fileRunBuffer bytes.now (given stem.now cycle.now) run.old }
+    ensures spot_after { spot.new ≡ spotAfter (toldToC (fileRun bytes.now (given stem.now cycle.now) run.old)) spot.old }
+{
+    playback::play_file(bytes, stem, cycle, run, spot)
+}
+
+// 1, and the first family; 0 for a refusal, which leaves `family` as it is.
+#[unsafe(no_mangle)]
+pub extern "C" fn first_family_file(
+    bytes: &[u8],
+    family: &mut [u64; 448],
+    spot: &mut [u64; 4],
+) -> u32
+    ensures number { result ≡ readyNumber (firstFile bytes.now) }
+    ensures rows { family.new ≡ firstFileRows bytes.now family.old }
+    ensures numbers { spot.new ≡ spotAfter (firstFile bytes.now) spot.old }
+{
+    watch::first_family_file(bytes, family, spot)
+}
+
+// 1 for a turn that is not finished, 2 for one that is, with the next family, and the table where it is finished; 0 for a refusal, which
+// leaves both as they are.
+#[unsafe(no_mangle)]
+pub extern "C" fn turn_file(
+    bytes: &[u8],
+    family: &mut [u64; 448],
+    table: &mut [u16],
+    spot: &mut [u64; 4],
+) -> u32
+    ensures number { result ≡ toldNumber (turnFile bytes.now family.old (length table.old)) }
+    ensures rows { family.new ≡ turnFileRows bytes.now family.old (length table.old) }
+    ensures entries { table.new ≡ turnFileTable bytes.now family.old table.old }
+    ensures numbers { spot.new ≡ spotAfter (turnFile bytes.now family.old (length table.old)) spot.old }
+{
+    watch::turn_file(bytes, family, table, spot)
+}
+
+// 1 for a pair that is struck out, 2 for one that is still in, 0 for a refusal.
+#[unsafe(no_mangle)]
+pub extern "C" fn look_up_file(
+    bytes: &[u8],
+    family: &[u64; 448],
+    section: usize,
+    c: usize,
+    a: usize,
+    spot: &mut [u64; 4],
+) -> u32
+    ensures number { result ≡ toldNumber (lookUpFile bytes.now family.now section c a) }
+    ensures numbers { spot.new ≡ spotAfter (lookUpFile bytes.now family.now section c a) spot.old }
+{
+    watch::look_up_file(bytes, family, section, c, a, spot)
+}
+
+// The same for C: the text's length, or 0 with the refusal's number and spot in `spot`, which is unchanged beside a length.
+#[unsafe(no_mangle)]
+pub extern "C" fn hoa_file(bytes: &[u8], which: usize, out: &mut [u8], spot: &mut [u64; 4]) -> usize
+    ensures value { result ≡ length_of (exportAnswer bytes.now which (length out.old)) }
+    ensures out_after { out.new ≡ exportBuffer bytes.now which out.old }
+    ensures spot_after { spot.new ≡ spotAfter (exportAnswer bytes.now which (length out.old)) spot.old }
+{
+    export::hoa_file(bytes, which, out, spot)
+}

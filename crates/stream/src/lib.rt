@@ -1,0 +1,21 @@
+// Standard input into a lent buffer, for the programs.
+#![tactic(auto)]
+ghost use Rattle.std.specs.Prelude.{◌≤◌, length};
+
+use std::io::Read;
+
+// Reads until the buffer is full or the input ends, and gives how many bytes it holds. A read that fails ends the input, so that a file that is
+// cut short by one is refused like any other.
+pub fn read_full<R: Read>(reader: &mut R, buffer: &mut [u8]) -> usize
+    ensures { result ≤ length buffer.new }
+{
+    let mut at = 0;
+    while at < buffer.len() {
+        match reader.read(&mut buffer[at..]) {
+            Ok(0) => break,
+            Ok(n) => at += n,
+            Err(_) => break,
+        }
+    }
+    at
+}
