@@ -2,6 +2,7 @@
 // those of the families that it is handed. It shares machines, partners and their numbers, refusals, sizes, when observations are the same, the order
 // of sections, the meaning of a bit and the full mask with the product, and nothing else.
 #![tactic(auto)]
+
 mod families;
 mod lassos;
 mod lifting;

@@ -3,6 +3,7 @@
 // masks have a meaning; and `largest`, which leaves its result open for some, says for which.
 // Cost: the partners of a row are the union of the predecessors of its states, and a pair's step meets one row for each concrete move.
 #![tactic(auto)]
+
 ghost use Rattle.std.specs.Prelude.{◌≡◌, cond, ◌<◌, ◌≤◌, ◌^◌, min, length};
 ghost use Rattle.std.specs.Int.Bits.{bit_or};
 ghost use Rattle.mask.specs.Tables.{table};

@@ -1,5 +1,6 @@
 -- A proof of each statement about ranks, the solver's table and the check's answer, by name.
-use Rattle.std.proofs.Math.Logic.{Iff·symm, Iff·trans, Iff·not, Dec·not-not}
+use Rattle.std.proofs.Math.Logic.Iff
+use Rattle.std.proofs.Math.Logic.Dec
 use Rattle.std.proofs.Math.Decide.{ℕ_discrete}
 use Rattle.mask.specs.LogicLaws.{refute}
 use Rattle.machine.specs.declared.Pair.{Pair}
@@ -34,17 +35,17 @@ module _ (p : Pair) where
 
   -- ---- over document 000's figure 2
   pub rank-is-goal : RankIsGoal p
-  rank-is-goal j c a hj hc ha = Iff·trans (rank-of-goals j c a hj hc ha) (Iff·symm (figure-goal-is p j hj c a hc ha))
+  rank-is-goal j c a hj hc ha = Iff.trans (rank-of-goals j c a hj hc ha) (Iff.symm (figure-goal-is p j hj c a hc ha))
 
   pub rank-is-figure2 : RankIsFigure2 p
   rank-is-figure2 well j c a hj hc ha =
-      let covered = Iff·trans (rank-covered p (well-pair p well) j c a hj hc ha) (Iff·symm (figure2-is p j hj c a hc ha)) in
-      (covered, Iff·trans (Iff·symm (Dec·not-not (ℕ_discrete (rank p j c a) blank))) (Iff·not covered))
+      let covered = Iff.trans (rank-covered p (well-pair p well) j c a hj hc ha) (Iff.symm (figure2-is p j hj c a hc ha)) in
+      (covered, Iff.trans (Iff.symm (Dec.not-not (ℕ_discrete (rank p j c a) blank))) (Iff.not covered))
 
   pub rank-is-least : RankIsLeast p
   rank-is-least j c a hj hc ha t g =
       let q = rank-is-first j c a hj hc ha (refute _ (λ u. g ((figure-goal-is p j hj c a hc ha).1 u))) ((figure2-is p j hj c a hc ha).0 t) in
-      (q.0, q.1, first-same p (λ l k pos. Iff·symm (figure-x-is p j hj l k pos c a hc ha)) q.2)
+      (q.0, q.1, first-same p (λ l k pos. Iff.symm (figure-x-is p j hj l k pos c a hc ha)) q.2)
 
   -- ---- the solver's table and the check's answer
   pub solver-table-passes : SolverTablePasses p

@@ -1,6 +1,7 @@
 // Tests of machines: whether one machine, or a pair, is well formed, and if not where the first refusal of document 01 stops it; and for the calls
 // that take no empty set, refusal 21 of document 02 behind these.
 #![tactic(auto)]
+
 ghost use Rattle.std.specs.Prelude.{◌≡◌, cond, ltb, eqb, length};
 ghost use Rattle.mask.specs.Logic.{not, or};
 ghost use Rattle.mask.specs.Bounded.{some};

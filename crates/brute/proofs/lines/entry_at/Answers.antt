@@ -1,0 +1,27 @@
+-- The place of the entry is a small number, and past the table's end both sides are 0.
+use Prim.Native.Nat.{◌*◌, ◌+◌, ◌≤◌}
+use native.Mathlib.Omega.{arith}
+use Rattle.machine.specs.Table.{entry, entryIndex}
+use Rattle.machine.specs.WellFormedLaws.{well-pair}
+use Rattle.brute.specs.TargetLaws.{place-small}
+use Rattle.brute.proofs.lines.entry_at.Goals as goal
+use Rattle.brute.proofs.lines.entry_at.Goals.{Start}
+
+room : (c : Start) → (c.args.j * c.args.p.concrete.states ≤ 384) × ((c.args.j * c.args.p.concrete.states + c.args.c) * c.args.p.abstraction.states ≤ 40896)
+room c = let x = c.args in place-small x.p (well-pair x.p c.requires.0) x.j x.c (omega arith) (omega arith)
+
+pub overflow_mul-j : goal.overflow_mul-j
+overflow_mul-j c = omega (arith, room (goal.at.overflow_mul-j c).Start)
+
+pub overflow_add-j : goal.overflow_add-j
+overflow_add-j c = omega (arith, room (goal.at.overflow_add-j c).Start)
+
+pub overflow_mul-j-2 : goal.overflow_mul-j-2
+overflow_mul-j-2 c = omega (arith, room (goal.at.overflow_mul-j-2 c).Start)
+
+pub overflow_add-j-2 : goal.overflow_add-j-2
+overflow_add-j-2 c = omega (arith, room (goal.at.overflow_add-j-2 c).Start)
+
+pub returns : goal.returns
+unfolding entry entryIndex
+returns c = c.value_at.ensures

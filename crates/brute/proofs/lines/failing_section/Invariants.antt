@@ -1,0 +1,11 @@
+use mathlib.Core.Bool.{false}
+use mathlib.Core.Path.{◌≡◌}
+use Prim.Native.Nat.{◌<◌, ℕ}
+use Rattle.mask.specs.Bounded.{every}
+use Rattle.mask.specs.Logic.{not}
+use Rattle.machine.specs.Lines.{passes}
+use Rattle.machine.specs.Machines.{nA, nC}
+use Rattle.brute.proofs.lines.failing_section.Given as goal
+
+abbrev pub invariant-loop-j : goal.invariant-loop-j
+invariant-loop-j l = (k : ℕ) → k < l.j → not (every (nC l.p) (λ c. every (nA l.p) (passes l.p l.table k c))) ≡ false

@@ -1,0 +1,36 @@
+-- The entry's k is asked at c, and tells into which entries the pair has to step.
+use mathlib.Core.Path.{◌∙◌, ◌≡◌, sym}
+use native.Mathlib.Omega.{arith}
+use Rattle.machine.specs.Machines.{inFairSet, setsC}
+use Rattle.machine.specs.Ranks.{setOf}
+use Rattle.machine.specs.WellFormedLaws.{WellPair, well-pair}
+use Rattle.brute.specs.TargetLaws.{rank-inside, rank-outside}
+use Rattle.brute.proofs.lines.rank_holds.Goals as goal
+use Rattle.brute.proofs.lines.rank_holds.Goals.{After-in_set, Start}
+
+well : (c : Start) → WellPair c.args.p
+well c = well-pair c.args.p c.requires.0
+
+-- set k, asked at c
+asked : (c : After-in_set) → let x = c.args in c.in_set.result ≡ inFairSet x.p.concrete (setOf (setsC x.p) x.e) x.c
+asked c = c.in_set.ensures ∙ rw c.level_of-rank.ensures
+
+pub level_of-rank-requires : goal.level_of-rank-requires
+level_of-rank-requires c = let w = well (goal.at.level_of-rank-requires c).Start in (w.concrete.sets-low, c.requires.1.1)
+
+pub steps_into-requires : goal.steps_into-requires
+steps_into-requires c = (c.requires.0, omega arith)
+
+pub steps_into-requires-else-in_set : goal.steps_into-requires-else-in_set
+steps_into-requires-else-in_set c = (c.requires.0, omega arith)
+
+pub returns-then-in_set : goal.returns-then-in_set
+returns-then-in_set c =
+    let x = c.args in
+    c.steps_into.ensures ∙ rw c.level_of-rank.ensures
+    (sym (rank-inside x.p x.table.now x.j x.c x.a x.e (sym (asked (goal.at.returns-then-in_set c).After-in_set) ∙ c.if-in_set.true)))
+
+pub returns-else-in_set : goal.returns-else-in_set
+returns-else-in_set c =
+    let x = c.args in
+    c.steps_into-else-in_set.ensures ∙ sym (rank-outside x.p x.table.now x.j x.c x.a x.e (sym (asked (goal.at.returns-else-in_set c).After-in_set) ∙ c.if-in_set.false))

@@ -1,0 +1,7 @@
+use mathlib.Core.Path.{◌∙◌}
+use Rattle.machine.specs.Machines.{matched}
+use Rattle.brute.proofs.machines.is_matched.Goals as goal
+
+pub returns : goal.returns
+unfolding matched
+returns c = c.same_observation.ensures ∙ rw (c.observed.ensures, c.observed-2.ensures)

@@ -1,0 +1,63 @@
+-- The invariant: the best of the states passed, and what a later key has to be below: that of a blank entry before there is one.
+use mathlib.Core.Bool.{true}
+use mathlib.Core.Path.{◌∙◌, ◌≡◌, sym}
+use Prim.Native.Nat.{◌*◌, ◌-◌, ◌<◌, ◌≤◌, ℕ}
+use native.Mathlib.Omega.{arith}
+use lib.ListN.{get_or}
+use borrow.Author.Rules.{rules}
+use Rattle.mask.specs.LogicLaws.{and-false-l, and_i, and_r, clash, refute}
+use Rattle.machine.specs.LinesLaws.{covers_of, nonBlank-at, nonBlank-of}
+use Rattle.machine.specs.Step.{partner, staying, singleStep}
+use Rattle.machine.specs.SingleStepLaws.{staying-low, staying-high}
+use Rattle.machine.specs.Table.{blank, covers, entry}
+use Rattle.brute.specs.ScanLaws.{entry-below, scan-keep, scan-miss, scan-start, scan-take, keyed}
+use Rattle.brute.proofs.runs.least_partner.Goals as goal
+use Rattle.brute.proofs.runs.least_partner.Invariants.{wanted}
+use Rattle.brute.proofs.runs.least_partner.Goals.{At-loop-a, else-has, then-has+else-is_matched, then-has+then-is_matched+else-key-limit, then-has+then-is_matched+then-key-limit}
+
+small : (c : At-loop-a) → (i : ℕ) → get_or c.args.table.now i 0 ≤ blank
+small c i = omega (arith, c.type_inv.table i)
+
+pub loop-a-init : goal.loop-a-init
+loop-a-init c = (search rules, scan-start _ _ _)
+
+pub entry_at-requires : goal.entry_at-requires
+entry_at-requires c = (c.requires.0, omega arith)
+
+pub loop-a-preserved : goal.loop-a-preserved
+loop-a-preserved c =
+    let x = c.args in
+    let T = x.table.now in
+    let l = c.loop-a in
+    let q = wanted x.p T x.moves x.j x.d in
+    let e = entry x.p T x.j x.d in
+    let key = staying x.present e in
+    let bound = 2 * blank - 1 in
+    let bit = sym c.has.ensures in (
+      search rules,
+      elim c.if-has.branch [
+        | then-has+then-is_matched+then-key-limit w ↦
+            let m = sym w.is_matched.ensures ∙ w.if-is_matched.true in
+            let k : w.staying_key-key.result ≡ key l.a = keyed x.present e l.a _ _ w.entry_at.ensures w.staying_key-key.ensures in
+            let h : key l.a < l.limit = rw (← k) w.if-key-limit.true in
+            let n : covers x.p T x.j x.d l.a ≡ true =
+            covers_of x.p T x.j x.d l.a (λ z. omega (arith, l.invariant.1.limit-le, staying-low x.present e l.a)) in
+            rw (w.best-is, w.limit-is, k) (scan-take q key bound l.a l.best l.limit l.invariant.1 (and_i (bit ∙ w.if-has.true) (nonBlank-of x.p T x.j x.d l.a m n)) h)
+        | then-has+then-is_matched+else-key-limit w ↦ rw (w.best-is, w.limit-is) (scan-keep q key bound l.a l.best l.limit l.invariant.1
+            (λ t. omega (
+              arith,
+              staying-high x.present e l.a,
+              entry-below x.p T (small (goal.at.loop-a-preserved c).At-loop-a) x.j x.d l.a (nonBlank-at x.p T x.j x.d l.a (and_r _ _ t)).1,
+            ))
+            (rw (← keyed x.present e l.a _ _ w.entry_at.ensures w.staying_key-key.ensures) w.if-key-limit.false))
+        | then-has+else-is_matched w ↦ rw (w.best-is, w.limit-is) (scan-miss q key bound l.a l.best l.limit l.invariant.1 (refute _ (λ t. clash (sym w.is_matched.ensures ∙ w.if-is_matched.false) (nonBlank-at x.p T x.j x.d l.a (and_r _ _ t)).0)))
+        | else-has w ↦ rw (w.best-is, w.limit-is) (scan-miss q key bound l.a l.best l.limit l.invariant.1 (and-false-l _ (bit ∙ w.if-has.false)))
+      ],
+    )
+
+pub returns : goal.returns
+unfolding singleStep partner
+returns c =
+    let l = c.loop-a in
+    let e : l.a ≡ 64 = omega arith in
+    sym (rw e at l.invariant.1.best-is)

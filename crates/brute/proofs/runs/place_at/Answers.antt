@@ -1,0 +1,46 @@
+-- The invariant: the place at moment i.
+use mathlib.Core.Path.{◌∙◌, ◌≡◌, ap}
+use native.Mathlib.Numerals.{add-one}
+use native.Mathlib.Omega.{arith}
+use borrow.Author.Rules.{rules}
+use Rattle.machine.specs.Lassos.{given}
+use Rattle.machine.specs.Player.{startPartner}
+use Rattle.machine.specs.PlayerLaws.{start-single}
+use Rattle.machine.specs.WellFormedLaws.{WellPair, well-pair}
+use Rattle.brute.specs.Runs.{asPlace}
+use Rattle.brute.specs.ScanLaws.{Placed, place-next, place-start, placed}
+use Rattle.brute.proofs.runs.place_at.Goals as goal
+use Rattle.brute.proofs.runs.place_at.Goals.{At-loop-i, Start}
+
+well : (c : Start) → WellPair c.args.p
+well c = well-pair c.args.p c.requires
+
+here : (c : At-loop-i) → Placed c.args.p c.args.table.now (asPlace c.loop-i.at)
+here c =
+    let x = c.args in
+    let w = well-pair x.p c.requires in
+    rw c.loop-i.invariant.1 (placed x.p x.table.now (given x.stem.now x.cycle.now) w.abstraction.sets-low c.loop-i.i)
+
+pub least_partner-found-requires : goal.least_partner-found-requires
+least_partner-found-requires c = (c.requires, omega (arith, c.moment_at.type_inv))
+
+pub loop-i-init : goal.loop-i-init
+loop-i-init c =
+    let x = c.args in
+    let l = given x.stem.now x.cycle.now in
+    (search rules, rw c.state_of.ensures (place-start x.p x.table.now l _ (c.least_partner-found.ensures ∙ start-single x.p x.table.now _ _ (omega arith) ∙ ap (startPartner x.p x.table.now) c.moment_at.ensures)))
+
+pub step_to-at-requires : goal.step_to-at-requires
+step_to-at-requires c = let h = here (goal.at.step_to-at-requires c).At-loop-i in (c.requires, omega (arith, c.moment_at-c.type_inv, c.moment_at-d.type_inv, h.state-in, h.section-in))
+
+pub loop-i-preserved : goal.loop-i-preserved
+loop-i-preserved c =
+    let x = c.args in
+    let T = x.table.now in
+    let l = given x.stem.now x.cycle.now in (
+      search rules,
+      rw add-one (c.step_to-at.ensures ∙ rw (c.moment_at-c.ensures, c.moment_at-d.ensures, add-one) (place-next x.p T l c.loop-i.i (asPlace c.loop-i.at) c.loop-i.invariant.1)),
+    )
+
+pub returns : goal.returns
+returns c = let e : c.loop-i.i ≡ c.args.t = omega arith in rw (← e) c.loop-i.invariant.1

@@ -1,0 +1,22 @@
+-- The entry of the pair tells whether the section changes.
+use mathlib.Core.Path.{◌∙◌, sym}
+use native.Mathlib.Omega.{arith}
+use borrow.Author.Tests.{eq-eqb, ne_eqb}
+use Rattle.machine.specs.Player.{sectionAfter}
+use Rattle.machine.specs.WellFormedLaws.{WellPair, well-pair}
+use Rattle.brute.proofs.runs.section_after.Goals as goal
+use Rattle.brute.proofs.runs.section_after.Goals.{Start}
+
+well : (c : Start) → WellPair c.args.p
+well c = well-pair c.args.p c.requires.0
+
+pub entry_at-requires : goal.entry_at-requires
+entry_at-requires c = let w = well (goal.at.entry_at-requires c).Start in (c.requires.0, omega (arith, w.abstraction.sets-high))
+
+pub returns-then-entry_at-eq0 : goal.returns-then-entry_at-eq0
+unfolding sectionAfter
+returns-then-entry_at-eq0 c = c.next_section.ensures ∙ rw (eq-eqb _ 0 (sym c.entry_at.ensures ∙ c.if-entry_at-eq0.true))
+
+pub returns-else-entry_at-eq0 : goal.returns-else-entry_at-eq0
+unfolding sectionAfter
+returns-else-entry_at-eq0 c = rw (ne_eqb _ 0 (λ e. c.if-entry_at-eq0.false (c.entry_at.ensures ∙ e)))

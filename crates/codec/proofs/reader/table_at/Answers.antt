@@ -1,0 +1,45 @@
+-- The entries stand behind the machines, end where the payload does, and have room in a lent table.
+use Prim.Native.Nat.{ℕ, ◌+◌, ◌*◌}
+use mathlib.Core.Path.{◌≡◌, ap₂, ◌∙◌}
+use native.Mathlib.Omega.{arith}
+use Rattle.codec.specs.Format.{numberAt}
+use Rattle.codec.specs.Loading.{entriesPlace, entriesCount}
+use Rattle.mask.specs.Tables.{front}
+use Rattle.codec.specs.ReaderLaws.{pairs-room, entries_fit, entries-end, table_is}
+use Rattle.codec.proofs.reader.table_at.Goals as goal
+use Rattle.codec.proofs.reader.table_at.Goals.{After-payload_length-at}
+
+-- what the calls gave, of the file
+counted : (c : After-payload_length-at)
+    → c.header_byte-n.result * (c.header_byte-c.result * c.header_byte-a.result)
+    ≡ entriesCount c.args.bytes.now
+counted c =
+    rw (c.header_byte-c.ensures.value, c.header_byte-a.ensures.value, c.header_byte-n.ensures.value)
+
+placed : (c : After-payload_length-at) → c.payload_length-at.result ≡ entriesPlace c.args.bytes.now
+placed c =
+    c.payload_length-at.ensures.value
+    ∙ rw (
+      c.header_byte-c.ensures.value,
+      c.header_byte-a.ensures.value,
+      c.header_byte-m.ensures.value,
+      c.header_byte-n.ensures.value,
+    )
+
+pub overflow_mul-c : goal.overflow_mul-c
+overflow_mul-c c = omega (arith, pairs-room c.header_byte-c.result c.header_byte-a.result (omega arith) (omega arith))
+
+pub overflow_mul-n : goal.overflow_mul-n
+overflow_mul-n c =
+    omega (arith, counted (goal.at.overflow_mul-n c).After-payload_length-at, entries_fit c.args.bytes.now c.requires.loaded.counts)
+
+pub entries_at-requires : goal.entries_at-requires
+entries_at-requires c =
+    let f = c.args.bytes.now in
+    omega (arith, counted (goal.at.entries_at-requires c).After-payload_length-at, placed (goal.at.entries_at-requires c).After-payload_length-at, entries_fit f c.requires.loaded.counts, entries-end f c.requires.bytes_value, c.requires.table_room_in_bounds, c.requires.loaded)
+
+pub returns : goal.returns
+returns c =
+    let T = c.args.table.now in
+    c.entries_at.ensures ∙ ap₂ (λ (n at : ℕ). front n (λ e. numberAt 2 c.args.q.now (at + 2 * e)) T) (counted (goal.at.returns c).After-payload_length-at) (placed (goal.at.returns c).After-payload_length-at)
+    ∙ table_is c.args.bytes.now c.args.q.now T c.requires.loaded

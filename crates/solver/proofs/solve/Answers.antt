@@ -1,0 +1,37 @@
+-- The lent table is tested, then the pair: a refusal leaves the table as it was, and otherwise its front is the solver's table.
+use mathlib.Core.Path.{sym, ap, ◌∙◌}
+use lib.ListN.{length}
+use Rattle.machine.specs.Refusals.{refused, tested_of}
+use Rattle.machine.specs.RefusalsLaws.{buffer-short, tested-valid, tested-refused}
+use Rattle.machine.specs.WellFormedLaws.{valid-is-well}
+use Rattle.machine.specs.EmptySetsLaws.{nonempty-at}
+use Rattle.solver.specs.SolverLaws.{solve-short, solve-long, solved-refused, solved-valid}
+use Rattle.solver.proofs.solve.Goals as goal
+
+pub returns-then-table-lt-TABLE_ROOM : goal.returns-then-table-lt-TABLE_ROOM
+unfolding tested_of
+returns-then-table-lt-TABLE_ROOM c =
+    let s = c.args in
+    let short = buffer-short _ (length s.table.now) c.if-table-lt-TABLE_ROOM.true in
+    let e = solve-short s.p (length s.table.now) short in
+    (ap refused c.refuse.ensures ∙ sym e, solved-refused s.p s.table.now _ e)
+
+pub rank_all-requires : goal.rank_all-requires
+rank_all-requires c = 
+    let p = c.args.p in
+    (valid-is-well p (nonempty-at p (tested-valid c.pair_validity-valid.ensures c.enum_told.given.1)).0, c.if-table-lt-TABLE_ROOM.false)
+
+pub returns-in-Refused : goal.returns-in-Refused
+unfolding tested_of
+returns-in-Refused c = 
+    let s = c.args in
+    let e = solve-long s.p (length s.table.now) c.if-table-lt-TABLE_ROOM.false ∙ tested-refused c.pair_validity-valid.ensures c.in-Refused.is in
+    (sym e, solved-refused s.p s.table.now _ e)
+
+pub returns-in-Valid : goal.returns-in-Valid
+unfolding tested_of
+returns-in-Valid c = 
+    let s = c.args in
+    let told = c.in-Valid.is in
+    let e = solve-long s.p (length s.table.now) c.if-table-lt-TABLE_ROOM.false ∙ tested-valid c.pair_validity-valid.ensures told in
+    (sym e, c.rank_all.ensures ∙ solved-valid s.p s.table.now e)

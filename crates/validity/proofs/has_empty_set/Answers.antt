@@ -1,0 +1,10 @@
+-- There is an empty set exactly if the lowest is one of the 8.
+use mathlib.Core.Path.{ap}
+use Prim.Native.Nat.{ℕ}
+use lib.Dec.{ltb}
+use Rattle.machine.specs.WellFormed.{hasEmptySet}
+use Rattle.validity.proofs.has_empty_set.Goals as goal
+
+pub returns : goal.returns
+unfolding hasEmptySet
+returns c = ap (λ (k : ℕ). ltb k 8) c.empty_set.ensures
