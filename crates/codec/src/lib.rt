@@ -1,5 +1,6 @@
 // Files: document 01, "Files". The reader, the writer, and a file's length from its first block.
 #![tactic(auto)]
+
 ghost use Rattle.std.specs.Prelude.{◌≡◌, ◌+◌, ◌≤◌, length, drop};
 ghost use Rattle.std.proofs.Math.Seq.{paste};
 ghost use Rattle.codec.specs.Format.{checkAt};

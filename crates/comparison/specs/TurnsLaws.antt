@@ -3,10 +3,10 @@ use Rattle.std.specs.Prelude.{◌≡◌, ℕ, suc, ◌+◌, ◌-◌, ◌*◌, �
 use Rattle.std.proofs.Common.{◌∙◌, sym, arith}
 use borrow.Author.Tests.{eq-eqb, le-leb, le-ltb, lt-leb, lt-ltb, ne_eqb}
 use Rattle.mask.specs.BoundedLaws.{every-not, every_of}
-use Rattle.mask.specs.Logic.{and, not, or}
+use Rattle.mask.specs.Logic.{not, or}
 use Rattle.mask.specs.LogicLaws.{and-false-l, and-true-l, clash, not_f, not-i, or-false, or_l, or_r}
 use Rattle.machine.specs.Refusals.{Result, Tested, out_of_range, refusal}
-use Rattle.machine.specs.Table.{blank, entries, place_of, tableRoom}
+use Rattle.machine.specs.Table.{blank, place_of, tableRoom}
 use Rattle.machine.specs.WellFormed.{nonemptyValidity}
 use Rattle.machine.specs.declared.Pair.{Pair}
 use Rattle.machine.specs.declared.Refusal.{Refusal}

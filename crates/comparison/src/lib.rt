@@ -1,5 +1,6 @@
 // Solver, solver by turns, check and player beside their brute-force versions, on series of small pairs. What is compared is counted, and so is what differs.
 #![tactic(auto)]
+
 mod answers;
 mod lassos;
 mod pairs;

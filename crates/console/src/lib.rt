@@ -1,5 +1,6 @@
 // The console's calls, for C: a file's bytes in, one number out; and a file's first block in, the whole file's length out.
 #![tactic(auto)]
+
 ghost use Rattle.std.specs.Prelude.{◌≡◌, take};
 ghost use Rattle.codec.specs.Reader.{size_of};
 ghost use Rattle.verdict.specs.Outcomes.{fileOutcome, outcomeNumber};

@@ -1,5 +1,6 @@
 // The text of a machine of a file, in the Hanoi Omega-Automata format.
 #![tactic(auto)]
+
 ghost use Rattle.std.specs.Prelude.{◌≡◌, length};
 ghost use Rattle.machine.specs.Refusals.{spotAfter};
 ghost use Rattle.codec.specs.Answers.{sizedOf, length_of};

@@ -1,6 +1,7 @@
 // The text of a machine in the Hanoi Omega-Automata format, HOA v1 (document 02, No. 1). Each function that puts a part of the text is handed the
 // place where the part begins, and gives the place behind it.
 #![tactic(auto)]
+
 ghost use Rattle.std.specs.Prelude.{cond, ◌++◌, ◌≡◌, ◌≤◌, ◌<◌, length};
 ghost use Rattle.mask.specs.Bits.{hasBit};
 ghost use Rattle.text.specs.Decimal.{decimal};

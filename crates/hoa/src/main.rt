@@ -1,6 +1,7 @@
 // Reads a show from standard input and writes its two machines as one stream of the Hanoi Omega-Automata format to standard output, the concrete
 // machine first; or the line of a refusal. A read that fails ends the input.
 #![tactic(auto)]
+
 use codec::Size;
 use std::io;
 

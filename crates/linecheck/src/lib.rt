@@ -3,6 +3,7 @@
 // at the first that serves: at most n x nC x nA x nC x nA looks at an entry, and on passing tables far fewer. Nothing divides but by fixed powers
 // of two.
 #![tactic(auto)]
+
 ghost use Rattle.std.specs.Prelude.{true, ◌≡◌, ◌<◌, ◌≤◌, length, get_or, eqb};
 ghost use Rattle.mask.specs.Logic.{not};
 ghost use Rattle.mask.specs.Bounded.{count};

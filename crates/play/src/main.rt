@@ -1,6 +1,7 @@
 // Plays a lasso of the concrete machine, written in the arguments as `0 1 / 2 3`, by the table of the show on standard input, and writes the
 // abstract machine's run as one line. A read that fails ends the input.
 #![tactic(auto)]
+
 ghost use Rattle.std.specs.Prelude.{◌≤◌, length};
 
 use std::env::FillError;

@@ -1,5 +1,6 @@
 // A file's bytes and a lasso of its concrete machine in, the abstract machine's run out.
 #![tactic(auto)]
+
 ghost use Rattle.std.specs.Prelude.{◌≡◌};
 ghost use Rattle.machine.specs.Refusals.{spotAfter};
 ghost use Rattle.machine.specs.Lassos.{given};

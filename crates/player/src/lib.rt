@@ -1,6 +1,7 @@
 // The player of lassos: document 01, "Player", with the single step of document 02, No. 10.
 // Cost: the line check, and then at most 28,672 steps, each one search among the successors of an abstract state.
 #![tactic(auto)]
+
 ghost use Rattle.std.specs.Prelude.{true, cond, ◌≡◌, ℕ, ◌+◌, ◌<◌, ◌≤◌, eqb, length, get_or};
 ghost use Rattle.mask.specs.Bits.{hasBit};
 ghost use Rattle.mask.specs.Bounded.{first};

@@ -1,5 +1,6 @@
 // A lasso read from text, and the line that `play` writes.
 #![tactic(auto)]
+
 ghost use Rattle.std.specs.Prelude.{true, ◌∷◌, [], ◌++◌, ◌≡◌, ℕ, suc, ◌+◌, ◌*◌, ◌≤◌, eqb, length, take, drop};
 ghost use Rattle.std.proofs.lemmas.List.Edits.{sets};
 ghost use Rattle.mask.specs.Logic.{or};

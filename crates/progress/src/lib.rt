@@ -2,6 +2,7 @@
 // for section j, counted from 0, and concrete state c: the abstract states beside c that are still in. It goes in and comes back by value, and any
 // content has a meaning: turn and look-up see only the matched pairs of the machines.
 #![tactic(auto)]
+
 ghost use Rattle.std.specs.Prelude.{true, ◌≡◌, ◌<◌, ◌≤◌, eqb, length, get_or};
 ghost use Rattle.mask.specs.Bounded.{every};
 ghost use Rattle.mask.specs.Tables.{front};

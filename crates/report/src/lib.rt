@@ -1,5 +1,6 @@
 // The lines that the programs write: document 01, "Console and program".
 #![tactic(auto)]
+
 ghost use Rattle.std.specs.Prelude.{List, [], ◌∷◌, ◌++◌, ◌≡◌, ℕ, ◌+◌, ◌≤◌, length};
 ghost use Rattle.text.specs.Decimal.{decimal};
 ghost use Rattle.verdict.specs.Outcomes.{outcomeOf};

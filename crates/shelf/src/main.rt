@@ -1,5 +1,6 @@
 // Reads one file from standard input and writes what is said of it, as one line, to standard output. A read that fails ends the input.
 #![tactic(auto)]
+
 use std::io;
 
 fn main(rt: HostRuntime) -> io::Result<()> {

@@ -3,6 +3,7 @@
 // `solve` makes the table in place. The entries of matched pairs begin at 0, and none is ever above its pair's rank; a section's ranks are made from its entries so far,
 // and a section is made again while the set of the next one changes. `turn_family` makes every section afresh from a family that it is handed.
 #![tactic(auto)]
+
 ghost use Rattle.std.specs.Prelude.{◌≡◌, true, ◌++◌, ◌+◌, ◌-◌, ◌*◌, ◌<◌, ◌≤◌, length, take, drop, replicate};
 ghost use Rattle.mask.specs.Bits.{fullMask};
 ghost use Rattle.mask.specs.Tables.{table};

@@ -1,5 +1,6 @@
 // The lines of the solver by turns: document 02, No. 6, for the eye.
 #![tactic(auto)]
+
 ghost use Rattle.std.specs.Prelude.{◌∷◌, ◌≡◌, suc, ◌+◌, ◌<◌, ◌≤◌, min, length};
 ghost use Rattle.std.proofs.lemmas.List.Edits.{sets};
 ghost use Rattle.text.specs.Decimal.{decimal};

@@ -1,6 +1,7 @@
 // Reads a show from standard input and takes turns of the solver until one is finished: a line for each turn as it ends, with how many pairs
 // are still in, and last the line of the finish; or the line of a refusal. A read that fails ends the input.
 #![tactic(auto)]
+
 ghost use Rattle.std.specs.Prelude.{◌≤◌};
 
 use codec::Reading;
@@ -45,7 +46,10 @@ fn main(rt: HostRuntime) -> io::Result<()> {
     let show = codec::reader::read_file(&input[..count], &mut table);
     let reading = show.reading;
     let Reading::Taken(_) = reading else {
-        return write_line(&rt, report::refusal_line(codec::reader::refusal_of(reading)));
+        return write_line(
+            &rt,
+            report::refusal_line(codec::reader::refusal_of(reading)),
+        );
     };
     let pair = show.pair;
     let first = progress::first_family(pair);

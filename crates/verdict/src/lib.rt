@@ -1,5 +1,6 @@
 // From a file's bytes to the whole answer: the file is read, and its table checked.
 #![tactic(auto)]
+
 ghost use Rattle.std.specs.Prelude.{◌≡◌};
 ghost use Rattle.verdict.specs.Outcomes.{outcomeOf, fileOutcome};
 

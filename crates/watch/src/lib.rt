@@ -1,5 +1,6 @@
 // The solver by turns on a file's bytes, for a drawing program that goes on between turns: it keeps the family and the table and lends them to each call.
 #![tactic(auto)]
+
 ghost use Rattle.std.specs.Prelude.{◌≡◌, length};
 ghost use Rattle.machine.specs.Refusals.{valid, tested_of, spotAfter};
 ghost use Rattle.machine.specs.Table.{tableRoom};
@@ -104,11 +105,7 @@ pub fn look_up_bytes(
 // ---- The same for C. The four numbers of a refusal go to `spot`, which is unchanged beside an answer.
 
 // 1, and the first family; 0 for a refusal, which leaves `family` as it is.
-pub fn first_family_file(
-    bytes: &[u8],
-    family: &mut [u64; 448],
-    spot: &mut [u64; 4],
-) -> u32
+pub fn first_family_file(bytes: &[u8], family: &mut [u64; 448], spot: &mut [u64; 4]) -> u32
     ensures number { result ≡ readyNumber (firstFile bytes.now) }
     ensures rows { family.new ≡ firstFileRows bytes.now family.old }
     ensures numbers { spot.new ≡ spotAfter (firstFile bytes.now) spot.old }

@@ -1,6 +1,5 @@
 -- The invariant: the lines of the start states that are left are still to be put.
 use mathlib.Core.Path.{refl, sym, ap}
-use Prim.Native.Nat.{◌^◌, ◌<◌}
 use native.Mathlib.Omega.{arith}
 use mir.Val.{Fits}
 use mir.Syntax.{w64}
@@ -11,41 +10,30 @@ use Rattle.hanoi.specs.Parts.{startLines}
 use Rattle.hanoi.specs.PutLaws.{left-all, left-to, left_split, left-next, left-room}
 use Rattle.hanoi.specs.WalkLaws.{starts_more, starts-end}
 use Rattle.hanoi.proofs.put_starts.Goals as goal
-use Rattle.hanoi.proofs.put_starts.Goals.{Start}
-
-small : (c : Start) → c.args.start < 2 ^ 64
-small c = let f : Fits w64 c.args.start = search rules in f.fits
 
 pub loop-left-init : goal.loop-left-init
-loop-left-init c = (left-all _ _ _ c.requires, small (goal.at.loop-left-init c).Start)
+loop-left-init c = let f : Fits w64 c.args.start = search rules in (left-all _ _ _ c.requires, f.fits)
 
-pub lowest-requires : goal.lowest-requires
-lowest-requires c = refl
+pub put_numbered-end-requires : goal.put_numbered-end-requires
+put_numbered-end-requires c =
+    let l = c.loop-left in
+    left-room (starts_more _ _ l.invariant.0 c.loop-left-test.true l.invariant.1 c.lowest.ensures)
 
 pub put_word-to-requires : goal.put_word-to-requires
-put_word-to-requires c = let l = c.loop-left in left-room (starts_more _ _ l.invariant.0 c.loop-left-test.true l.invariant.1 c.put_numbered-end.ensures)
-
-pub rest-left-requires : goal.rest-left-requires
-rest-left-requires c = refl
+put_word-to-requires c =
+    let l = c.loop-left in
+    let line = starts_more _ _ l.invariant.0 c.loop-left-test.true l.invariant.1 c.lowest.ensures in
+    left-room (left_split (left-next line c.put_numbered-end.ensures) (ascii "\n") _ refl)
 
 pub loop-left-smaller : goal.loop-left-smaller
-loop-left-smaller c =
-    let l = c.loop-left in
-    let line = starts_more _ _ l.invariant.0 c.loop-left-test.true l.invariant.1 c.put_numbered-end.ensures in
-    left-room (left_split (left-next line c.put_word-to.ensures) (ascii "\n") _ refl)
+loop-left-smaller c = omega (arith, c.rest-left.ensures, rest_lt c.loop-left.left (omega arith))
 
-pub returns : goal.returns
-returns c =
+pub loop-left-preserved : goal.loop-left-preserved
+loop-left-preserved c =
     let l = c.loop-left in
-    let line = starts_more _ _ l.invariant.0 c.loop-left-test.true l.invariant.1 c.put_numbered-end.ensures in
-    let end = left-next (left_split (left-next line c.put_word-to.ensures) (ascii "\n") _ refl) c.put_word-arg-1.ensures in
+    let line = starts_more _ _ l.invariant.0 c.loop-left-test.true l.invariant.1 c.lowest.ensures in
+    let end = left-next (left_split (left-next line c.put_numbered-end.ensures) (ascii "\n") _ refl) c.put_word-to.ensures in
     (left-to end _ (ap startLines (sym c.rest-left.ensures)), omega (arith, l.invariant.1, c.rest-left.ensures, rest_lt l.left (omega arith)))
 
-pub shape_of-out : goal.shape_of-out
-shape_of-out c = omega (arith, c.rest-left.ensures, rest_lt c.loop-left.left (omega arith))
-
-same_length : goal.Need-same-length
-same_length c = c.loop-left.invariant.0.same
-
-returns : goal.Need-returns
+pub returns : goal.returns
 returns c = starts-end _ c.loop-left-test.false c.loop-left.invariant.0

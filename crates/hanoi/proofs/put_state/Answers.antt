@@ -1,5 +1,4 @@
 -- The parts of the two lines, one behind the other.
-use borrow.Author.Rules.{rules}
 use Rattle.hanoi.specs.Parts.{stateParts, stateText}
 use Rattle.hanoi.specs.PutLaws.{Left, left-next, left-room, left-done}
 use Rattle.hanoi.specs.WalkLaws.{state-start}
@@ -11,32 +10,26 @@ all : (c : Start) → let x = c.args in
     (stateParts x.s x.o x.members x.successors)
 all c = let x = c.args in state-start x.out.now x.at x.s x.o x.members x.successors c.requires
 
+pub put_word-first-requires : goal.put_word-first-requires
+put_word-first-requires c = left-room (all (goal.at.put_word-first-requires c).Start)
+
 pub put_label-labelled-requires : goal.put_label-labelled-requires
-put_label-labelled-requires c = left-room (all (goal.at.put_label-labelled-requires c).Start)
+put_label-labelled-requires c = left-room (left-next (all (goal.at.put_label-labelled-requires c).Start) c.put_word-first.ensures)
 
 pub put_numbered-numbered-requires : goal.put_numbered-numbered-requires
-put_numbered-numbered-requires c = left-room (left-next (all (goal.at.put_numbered-numbered-requires c).Start) c.put_word.ensures)
+put_numbered-numbered-requires c = left-room (left-next (left-next (all (goal.at.put_numbered-numbered-requires c).Start) c.put_word-first.ensures) c.put_label-labelled.ensures)
+
+pub put_braces-end-requires : goal.put_braces-end-requires
+put_braces-end-requires c = left-room (left-next (left-next (left-next (all (goal.at.put_braces-end-requires c).Start) c.put_word-first.ensures) c.put_label-labelled.ensures) c.put_numbered-numbered.ensures)
 
 pub put_word-next-requires : goal.put_word-next-requires
-put_word-next-requires c = left-room (left-next (left-next (all (goal.at.put_word-next-requires c).Start) c.put_word.ensures) c.put_numbered-numbered.ensures)
+put_word-next-requires c = left-room (left-next (left-next (left-next (left-next (all (goal.at.put_word-next-requires c).Start) c.put_word-first.ensures) c.put_label-labelled.ensures) c.put_numbered-numbered.ensures) c.put_braces-end.ensures)
 
 pub put_items-last-requires : goal.put_items-last-requires
-put_items-last-requires c = left-room (left-next (left-next (left-next (all (goal.at.put_items-last-requires c).Start) c.put_word.ensures) c.put_numbered-numbered.ensures) c.put_word-next.ensures)
+put_items-last-requires c = left-room (left-next (left-next (left-next (left-next (left-next (all (goal.at.put_items-last-requires c).Start) c.put_word-first.ensures) c.put_label-labelled.ensures) c.put_numbered-numbered.ensures) c.put_braces-end.ensures) c.put_word-next.ensures)
 
-pub shape_of-out : goal.shape_of-out
-shape_of-out c = left-room (left-next (left-next (left-next (left-next (all (goal.at.shape_of-out c).Start) c.put_word.ensures) c.put_numbered-numbered.ensures) c.put_word-next.ensures) c.put_items-last.ensures)
+pub put_word-requires : goal.put_word-requires
+put_word-requires c = left-room (left-next (left-next (left-next (left-next (left-next (left-next (all (goal.at.put_word-requires c).Start) c.put_word-first.ensures) c.put_label-labelled.ensures) c.put_numbered-numbered.ensures) c.put_braces-end.ensures) c.put_word-next.ensures) c.put_items-last.ensures)
 
 pub returns : goal.returns
-returns c = left-room (left-next (left-next (left-next (left-next (left-next (all (goal.at.returns c).Start) c.put_word.ensures) c.put_numbered-numbered.ensures) c.put_word-next.ensures) c.put_items-last.ensures) c.put_word-arg-2-1.ensures)
-
-slice-aggregate-put-word-3 : goal.Need-slice-aggregate-put-word-3
-slice-aggregate-put-word-3 c = search rules
-
-put-word-requires-3 : goal.Need-put-word-requires-3
-put-word-requires-3 c κs = left-room (left-next (left-next (left-next (left-next (left-next (left-next (all c.before) c.put_word.ensures) c.put_numbered-numbered.ensures) c.put_word-next.ensures) c.put_items-last.ensures) c.put_word-arg-2-1.ensures) c.put_items-arg-1.ensures)
-
-same_length : goal.Need-same-length
-same_length c = search rules
-
-returns : goal.Need-returns
-returns c = left-done (left-next (left-next (left-next (left-next (left-next (left-next (left-next (all c.before) c.put_word.ensures) c.put_numbered-numbered.ensures) c.put_word-next.ensures) c.put_items-last.ensures) c.put_word-arg-2-1.ensures) c.put_items-arg-1.ensures) c.put_word-arg-3-1.ensures)
+returns c = left-done (left-next (left-next (left-next (left-next (left-next (left-next (left-next (all (goal.at.returns c).Start) c.put_word-first.ensures) c.put_label-labelled.ensures) c.put_numbered-numbered.ensures) c.put_braces-end.ensures) c.put_word-next.ensures) c.put_items-last.ensures) c.put_word.ensures)

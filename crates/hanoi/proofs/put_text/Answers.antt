@@ -14,14 +14,23 @@ well c = valid-machine 8 c.args.m (omega arith) c.requires
 all : (c : Start) → let x = c.args in Left x.out.now 0 (hoaText x.m) x.out.now 0 (textParts x.m)
 all c = text-start c.args.out.now c.args.m (well c)
 
-pub put_head-states-requires : goal.put_head-states-requires
-put_head-states-requires c = ((well (goal.at.put_head-states-requires c).Start).sets-low, left-room (all (goal.at.put_head-states-requires c).Start))
+pub put_head-states-requires-clause-sets_nonzero : goal.put_head-states-requires-clause-sets_nonzero
+put_head-states-requires-clause-sets_nonzero c = (well (goal.at.put_head-states-requires-clause-sets_nonzero c).Start).sets-low
 
-pub put_states-end-requires : goal.put_states-end-requires
-put_states-end-requires c = let w = well (goal.at.put_states-end-requires c).Start in (w.states-high, (w.sets-high, left-room (left-next (all (goal.at.put_states-end-requires c).Start) c.put_head-states.ensures)))
+pub put_states-end-requires-clause-n_bound : goal.put_states-end-requires-clause-n_bound
+put_states-end-requires-clause-n_bound c = (well (goal.at.put_states-end-requires-clause-n_bound c).Start).states-high
 
-pub shape_of-out : goal.shape_of-out
-shape_of-out c = left-room (left-next (left-next (all (goal.at.shape_of-out c).Start) c.put_head-states.ensures) c.put_states-end.ensures)
+pub put_states-end-requires-clause-k_bound : goal.put_states-end-requires-clause-k_bound
+put_states-end-requires-clause-k_bound c = (well (goal.at.put_states-end-requires-clause-k_bound c).Start).sets-high
 
-returns : goal.Need-returns
-returns c = left-done (left-next (left-next (left-next (all c.before) c.put_head-states.ensures) c.put_states-end.ensures) c.put_word.ensures)
+pub put_head-states-requires-clause-room : goal.put_head-states-requires-clause-room
+put_head-states-requires-clause-room c = left-room (all (goal.at.put_head-states-requires-clause-room c).Start)
+
+pub put_states-end-requires-clause-room : goal.put_states-end-requires-clause-room
+put_states-end-requires-clause-room c = left-room (left-next (all (goal.at.put_states-end-requires-clause-room c).Start) c.put_head-states.ensures)
+
+pub put_word-requires : goal.put_word-requires
+put_word-requires c = left-room (left-next (left-next (all (goal.at.put_word-requires c).Start) c.put_head-states.ensures) c.put_states-end.ensures)
+
+pub returns : goal.returns
+returns c = left-done (left-next (left-next (left-next (all (goal.at.returns c).Start) c.put_head-states.ensures) c.put_states-end.ensures) c.put_word.ensures)

@@ -1,14 +1,9 @@
 -- The tests are made in the order of the definition, and each return is the first that refuses, or the answer.
-use mathlib.Core.Bool.{true}
-use mathlib.Core.Path.{◌≡◌, sym, ap, ◌∙◌}
-use Prim.Native.Nat.{◌≤◌}
+use mathlib.Core.Path.{sym, ap, ◌∙◌}
 use native.Mathlib.Omega.{arith}
-use lib.ListN.{length}
-use Rattle.machine.specs.Refusals.{valid, refused}
+use Rattle.machine.specs.Refusals.{refused}
 use Rattle.machine.specs.RefusalsLaws.{tested-valid, tested-refused}
-use Rattle.machine.specs.Table.{tableRoom}
 use Rattle.machine.specs.VerdictLaws.{check-short, check-invalid, check-fails, check-passes, empty-told-refused, empty-told-beside}
-use Rattle.machine.specs.WellFormed.{pairValidity, wellFormed}
 use Rattle.machine.specs.WellFormedLaws.{valid-is-well}
 use Rattle.linecheck.specs.Answers.{verdictOf, emptySetOf}
 use Rattle.linecheck.proofs.check_table.Goals as goal

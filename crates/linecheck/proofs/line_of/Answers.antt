@@ -48,13 +48,13 @@ pub bounds-concrete_sets-k : goal.bounds-concrete_sets-k
 bounds-concrete_sets-k c = omega (arith, c.level_of-rank.ensures.1, set-lt c.args.m c.args.e (omega arith))
 
 pub returns-then-inside : goal.returns-then-inside
-returns-then-inside c = 
+returns-then-inside c =
     let x = c.args in
     line-inside x.m x.most x.j x.next x.c x.a x.e x.matched x.concrete_sets.now x.abstract_set (sym c.has.ensures ∙ c.if-not-has.false) (omega arith) c.if-e-eq0.false
     c.level_of-rank.result.level c.level_of-rank.result.set c.level_of-rank.ensures.0 c.level_of-rank.ensures.1 (sym c.has-inside.ensures ∙ c.if-inside.true)
 
 pub returns-else-inside : goal.returns-else-inside
-returns-else-inside c = 
+returns-else-inside c =
     let x = c.args in
     line-outside x.m x.most x.j x.next x.c x.a x.e x.matched x.concrete_sets.now x.abstract_set (sym c.has.ensures ∙ c.if-not-has.false) (omega arith) c.if-e-eq0.false
     c.level_of-rank.result.level c.level_of-rank.result.set c.level_of-rank.ensures.0 c.level_of-rank.ensures.1 (sym c.has-inside.ensures ∙ c.if-inside.false)

@@ -1,7 +1,6 @@
 -- At the loops' heads all earlier sections, rows and entries pass and nothing is refused; in the walk the entry passes exactly if every
 -- successor that is left is served.
-use mathlib.Core.Bool.{true, false}
-use mathlib.Core.List.{List}
+use mathlib.Core.Bool.{false}
 use mathlib.Core.Path.{◌≡◌, refl, sym, ap, ◌∙◌}
 use Prim.Native.Nat.{ℕ, ◌+◌, ◌-◌, ◌^◌, ◌≤◌, ◌<◌}
 use native.Mathlib.Numerals.{add-one}
@@ -23,7 +22,7 @@ use Rattle.machine.specs.Machines.{nC, nA, setsA}
 use Rattle.machine.specs.WellFormedLaws.{WellPair, well-pair, pairs_small, ranks-small}
 use Rattle.machine.specs.Step.{singleStep, in_row, found}
 use Rattle.machine.specs.StepLaws.{next-lt}
-use Rattle.machine.specs.Table.{blank, entryIndex}
+use Rattle.machine.specs.Table.{entryIndex}
 use Rattle.machine.specs.RowLaws.{row_room, entry-room}
 use Rattle.machine.specs.Lines.{passes, linesValidity}
 use Rattle.machine.specs.LinesLaws.{lines-fail, lines-valid, each_of}

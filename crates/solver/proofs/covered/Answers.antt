@@ -12,7 +12,7 @@ returns c =
     let x = c.args in
     let P = x.nc * x.na in
     let a = x.j * P in
-    let e : a + P - a ≡ P = omega arith in 
+    let e : a + P - a ≡ P = omega arith in
     let part = take (a + P - a) (drop a x.table.now) in
     c.upto.ensures ∙ upto_is x.nc x.na part 65534 c.requires.0.0 c.requires.0.1 (cut-long (a + P - a) a x.table.now (omega (arith, c.requires.1.1)) ∙ e)
     ∙ ap (λ (k : ℕ). uptoRows x.nc x.na (take k (drop a x.table.now)) 65534) e

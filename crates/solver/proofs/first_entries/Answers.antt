@@ -11,11 +11,11 @@ use Rattle.solver.proofs.first_entries.Goals as goal
 use Rattle.solver.proofs.first_entries.Goals.{After-clear}
 
 -- the part, all blank
-blank-is : (c : After-clear) → c.clear.new.0 ≡ table (c.args.nc * c.args.na) (λ e. blank)
+blank-is : (c : After-clear) → c.clear.new.part ≡ table (c.args.nc * c.args.na) (λ e. blank)
 blank-is c = c.clear.ensures ∙ ap (λ (n : ℕ). table n (λ e. blank)) c.requires.1
 
 pub returns : goal.returns
-returns c = 
+returns c =
     let x = c.args in
     let b = blank-is (goal.at.returns c).After-clear in
     c.write_entry.ensures ∙ ap (writeOf x.nc x.na x.matched.now (replicate 64 0) 0) b

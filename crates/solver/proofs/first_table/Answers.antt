@@ -5,23 +5,20 @@ use native.Mathlib.Omega.{arith}
 use lib.ListN.{length}
 use Rattle.machine.specs.Machines.{pairs}
 use Rattle.machine.specs.Table.{tableRoom}
-use Rattle.machine.specs.WellFormedLaws.{WellPair, well-pair, pairs_small, section-fits}
+use Rattle.machine.specs.WellFormedLaws.{well-pair, pairs_small, section-fits}
 use Rattle.rows.specs.WriteLaws.{cut-long}
 use Rattle.solver.specs.SweepLaws.{begun-start, begun-turn}
 use Rattle.solver.proofs.first_table.Goals as goal
 use Rattle.solver.proofs.first_table.Goals.{In-loop-j, Start}
 
-well : (c : Start) → WellPair c.args.p
-well c = well-pair c.args.p c.requires.0.0
-
 -- the section lies within the table
 fits : (c : In-loop-j) →
     let P = pairs c.args.p in
     c.loop-j.j * P + P ≤ tableRoom
-fits c = section-fits c.args.p (well c) c.loop-j.j c.loop-j-test.true
+fits c = section-fits c.args.p (well-pair c.args.p c.requires.0.0) c.loop-j.j c.loop-j-test.true
 
 pub overflow_mul-pairs : goal.overflow_mul-pairs
-overflow_mul-pairs c =  omega (arith, pairs_small c.args.p (well (goal.at.overflow_mul-pairs c).Start))
+overflow_mul-pairs c = omega (arith, pairs_small c.args.p (well-pair c.args.p c.requires.0.0))
 
 pub loop-j-init : goal.loop-j-init
 loop-j-init c = (omega arith, begun-start)
@@ -36,11 +33,11 @@ pub offset_bounds-table-from : goal.offset_bounds-table-from
 offset_bounds-table-from c = omega (arith, fits (goal.at.offset_bounds-table-from c).In-loop-j)
 
 pub slice_bounds-first_entries-end : goal.slice_bounds-first_entries-end
-slice_bounds-first_entries-end c =  omega (arith, fits (goal.at.slice_bounds-first_entries-end c).In-loop-j, c.loop-j.invariant.1.long, c.requires.1)
+slice_bounds-first_entries-end c = omega (arith, fits (goal.at.slice_bounds-first_entries-end c).In-loop-j, c.loop-j.invariant.1.long, c.requires.1)
 
 pub first_entries-requires : goal.first_entries-requires
-first_entries-requires c = 
-    let w = well (goal.at.first_entries-requires c).Start in
+first_entries-requires c =
+    let w = well-pair c.args.p c.requires.0.0 in
     let P = pairs c.args.p in
     let a = c.loop-j.j * P in
     let k = a + P - a in
@@ -48,7 +45,7 @@ first_entries-requires c =
     ((w.concrete.states-high, w.abstraction.states-high), cut-long k a c.loop-j.table room ∙ omega arith)
 
 pub overflow_step-j : goal.overflow_step-j
-overflow_step-j c = omega (arith, c.loop-j-test.true, (well (goal.at.overflow_step-j c).Start).abstraction.sets-high)
+overflow_step-j c = omega (arith, c.loop-j-test.true, (well-pair c.args.p c.requires.0.0).abstraction.sets-high)
 
 pub loop-j-smaller : goal.loop-j-smaller
 loop-j-smaller c = omega (arith, c.loop-j-test.true)
@@ -66,6 +63,6 @@ pub shape_of-table : goal.shape_of-table
 shape_of-table c = c.loop-j.invariant.1.long
 
 pub returns : goal.returns
-returns c = 
+returns c =
     let e : c.loop-j.j ≡ c.args.p.abstraction.sets = omega (arith, c.loop-j.invariant.0, c.loop-j-test.false) in
     rw (← e) c.loop-j.invariant.1

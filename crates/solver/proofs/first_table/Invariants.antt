@@ -1,5 +1,4 @@
 use Prim.Native.Nat.{◌-◌, ◌≤◌}
-use Rattle.machine.specs.Machines.{pairs}
 use Rattle.solver.specs.Sweeps.{Begun}
 use Rattle.solver.proofs.first_table.Given as goal
 

@@ -1,47 +1,44 @@
 -- At the loop's head the pairs of all earlier sets have their rank; each set starts from the pairs whose entry lets them be in it, which hold it.
 use mathlib.Core.Path.{◌≡◌, sym, ap, ◌∙◌}
-use Prim.Native.Nat.{◌-◌, ◌<◌}
+use Prim.Native.Nat.{◌<◌}
 use native.Mathlib.Omega.{arith}
 use lib.ListN.{length}
 use Rattle.machine.specs.Machines.{nC, nA}
 use Rattle.machine.specs.Game.{level, xOver}
-use Rattle.machine.specs.WellFormedLaws.{WellPair, well-pair, pairs_small}
+use Rattle.machine.specs.WellFormedLaws.{well-pair, pairs_small}
 use Rattle.rows.specs.Rows.{rows_of, pairsIn}
 use Rattle.rows.specs.Entries.{uptoRows}
 use Rattle.rows.specs.WriteLaws.{upto_is, upto-long, write-entry-is}
 use Rattle.solver.specs.LevelLaws.{made-start, made-turn, made-done, x-is}
 use Rattle.solver.proofs.level.Goals as goal
-use Rattle.solver.proofs.level.Goals.{After-largest-x, At-loop-k, Start}
-
-well : (c : Start) → WellPair c.args.p
-well c = well-pair c.args.p c.requires.0.0.well
+use Rattle.solver.proofs.level.Goals.{After-largest-x, Start}
 
 -- the level's number is small
 few : (c : Start) → c.args.l < 4096
-few c = omega (arith, c.requires.1.0, pairs_small c.args.p (well c))
+few c = omega (arith, c.requires.1.0, pairs_small c.args.p (well-pair c.args.p c.requires.0.0.well))
 
 pub overflow_add-l : goal.overflow_add-l
 overflow_add-l c = omega (arith, few (goal.at.overflow_add-l c).Start)
 
 pub level_bound-bound-requires : goal.level_bound-bound-requires
-level_bound-bound-requires c =  ((well (goal.at.level_bound-bound-requires c).Start).concrete.sets-high, omega (arith, few (goal.at.level_bound-bound-requires c).Start))
+level_bound-bound-requires c = ((well-pair c.args.p c.requires.0.0.well).concrete.sets-high, omega (arith, few (goal.at.level_bound-bound-requires c).Start))
 
 pub loop-k-init : goal.loop-k-init
-loop-k-init c = 
+loop-k-init c =
     (omega arith, made-start c.requires.0.0 c.requires.0.1 c.requires.1.0 c.requires.1.1.0 c.requires.1.1.1 c.join_rows-seen.ensures)
 
 pub offset_bounds-sets-k : goal.offset_bounds-sets-k
-offset_bounds-sets-k c =  omega (arith, c.loop-k-test.true, (well (goal.at.offset_bounds-sets-k c).Start).concrete.sets-high)
+offset_bounds-sets-k c = omega (arith, c.loop-k-test.true, (well-pair c.args.p c.requires.0.0.well).concrete.sets-high)
 
 pub bounds-sets-k : goal.bounds-sets-k
-bounds-sets-k c =  omega (arith, c.loop-k-test.true, (well (goal.at.bounds-sets-k c).Start).concrete.sets-high)
+bounds-sets-k c = omega (arith, c.loop-k-test.true, (well-pair c.args.p c.requires.0.0.well).concrete.sets-high)
 
 -- the pairs that the sets start from
-start_is : (c : At-loop-k) →
+start_is : (c : After-largest-x) →
     let x = c.args in
     c.upto-start.result ≡ uptoRows (nC x.p) (nA x.p) x.part.now c.level_bound-bound.result
 start_is c =
-    let w = well c in
+    let w = well-pair c.args.p c.requires.0.0.well in
     c.upto-start.ensures ∙ upto_is _ _ _ _ w.concrete.states-high w.abstraction.states-high c.requires.1.1.1.bounded.long
 
 -- what is made is X(l + 1, k + 1)
@@ -52,29 +49,29 @@ made : (c : After-largest-x) →
 made c =
     x-is c.requires.0.0 c.requires.0.1 c.requires.1.0 c.requires.1.1.0 c.requires.1.1.1 c.loop-k.k c.loop-k-test.true
     c.step_rows-steps.ensures c.join_rows-base.ensures c.level_bound-bound.ensures (start_is c)
-    (c.largest-x.ensures (record { few = (well c).concrete.states-high; long = ap length (start_is c) ∙ upto-long _ _ _ _; dependents-are = c.requires.0.0.dependents-are; first-are = c.partner_rows-reached.ensures }))
+    (c.largest-x.ensures (record { few = (well-pair c.args.p c.requires.0.0.well).concrete.states-high; long = ap length (start_is c) ∙ upto-long _ _ _ _; dependents-are = c.requires.0.0.dependents-are; first-are = c.partner_rows-reached.ensures }))
 
 pub rank_of-v-requires : goal.rank_of-v-requires
 rank_of-v-requires c =
     let k = c.loop-k-test.true in
-    ((well (goal.at.rank_of-v-requires c).Start).concrete.sets-high, (omega (arith, few (goal.at.rank_of-v-requires c).Start, k, (well (goal.at.rank_of-v-requires c).Start).concrete.sets-high), omega (arith, few (goal.at.rank_of-v-requires c).Start, k, (well (goal.at.rank_of-v-requires c).Start).concrete.sets-high)))
+    ((well-pair c.args.p c.requires.0.0.well).concrete.sets-high, (omega (arith, few (goal.at.rank_of-v-requires c).Start, k, (well-pair c.args.p c.requires.0.0.well).concrete.sets-high), omega (arith, few (goal.at.rank_of-v-requires c).Start, k, (well-pair c.args.p c.requires.0.0.well).concrete.sets-high)))
 
 pub overflow_step-k : goal.overflow_step-k
-overflow_step-k c =  omega (arith, c.loop-k-test.true, (well (goal.at.overflow_step-k c).Start).concrete.sets-high)
+overflow_step-k c = omega (arith, c.loop-k-test.true, (well-pair c.args.p c.requires.0.0.well).concrete.sets-high)
 
 pub loop-k-smaller : goal.loop-k-smaller
 loop-k-smaller c = omega (arith, c.loop-k-test.true)
 
 pub loop-k-preserved : goal.loop-k-preserved
-loop-k-preserved c = 
-    let w = well (goal.at.loop-k-preserved c).Start in (
+loop-k-preserved c =
+    let w = well-pair c.args.p c.requires.0.0.well in (
       omega (arith, c.loop-k-test.true),
       rw (c.join_rows-seen-in-loop-k.ensures, c.write_entry.ensures, write-entry-is _ _ _ _ _ _ w.concrete.states-high w.abstraction.states-high c.loop-k.invariant.1.ranked.bounded.long) (made-turn c.requires.0.0 c.requires.0.1 c.requires.1.0 c.requires.1.1.0 c.requires.1.1.1 c.loop-k-test.true (made (goal.at.loop-k-preserved c).After-largest-x) c.rank_of-v.ensures c.loop-k.invariant.1),
     )
 
 pub shape_of-part : goal.shape_of-part
-shape_of-part c =  c.loop-k.invariant.1.ranked.bounded.long ∙ sym c.requires.1.1.1.bounded.long
+shape_of-part c = c.loop-k.invariant.1.ranked.bounded.long ∙ sym c.requires.1.1.1.bounded.long
 
 pub returns : goal.returns
-returns c = 
+returns c =
     made-done c.requires.0.0 c.requires.0.1 c.requires.1.0 c.requires.1.1.0 c.requires.1.1.1 (omega (arith, c.loop-k.invariant.0, c.loop-k-test.false)) c.loop-k.invariant.1

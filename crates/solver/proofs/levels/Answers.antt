@@ -1,55 +1,51 @@
 -- At the loop's head the rows are those of level l, and its pairs have their ranks; where a level is the one before, all ranks are there.
 use mathlib.Core.Path.{◌≡◌, refl, sym, ap, ◌∙◌}
-use Prim.Native.Nat.{ℕ, ◌*◌, ◌-◌}
+use Prim.Native.Nat.{ℕ, ◌*◌}
 use native.Mathlib.Omega.{arith}
-use Rattle.machine.specs.Game.{level}
 use Rattle.machine.specs.Machines.{setsC, pairs}
-use Rattle.machine.specs.WellFormedLaws.{WellPair, well-pair, pairs_small}
+use Rattle.machine.specs.WellFormedLaws.{well-pair, pairs_small}
 use Rattle.solver.specs.RankRowsLaws.{ranked-none}
 use Rattle.solver.specs.LevelLaws.{ranked-trans, ranked-self, ranked-at, levels-start, levels-stop, levels-out}
 use Rattle.solver.proofs.levels.Goals as goal
 use Rattle.solver.proofs.levels.Goals.{Start}
 
-well : (c : Start) → WellPair c.args.p
-well c = well-pair c.args.p c.requires.0.0.well
-
 pub overflow_mul-l-end : goal.overflow_mul-l-end
-overflow_mul-l-end c =  omega (arith, pairs_small c.args.p (well (goal.at.overflow_mul-l-end c).Start))
+overflow_mul-l-end c = omega (arith, pairs_small c.args.p (well-pair c.args.p c.requires.0.0.well))
 
 pub loop-l-init : goal.loop-l-init
-loop-l-init c = 
-    ((refl, omega arith), record { rows_are = levels-start c.requires.0.0 c.requires.0.1; ranked = ranked-at (omega arith) (ranked-none c.args.p (well (goal.at.loop-l-init c).Start) _ c.requires.0.1.only-matched c.requires.1) })
+loop-l-init c =
+    ((refl, omega arith), record { rows_are = levels-start c.requires.0.0 c.requires.0.1; ranked = ranked-at (omega arith) (ranked-none c.args.p (well-pair c.args.p c.requires.0.0.well) _ c.requires.0.1.only-matched c.requires.1) })
 
 pub level-next-requires : goal.level-next-requires
-level-next-requires c = 
+level-next-requires c =
     (c.requires.0, (omega (arith, c.loop-l.invariant.0.0, c.loop-l-test.true), (c.loop-l.invariant.1.rows_are, ranked-self c.loop-l.invariant.1.ranked)))
 
 pub shape_of-part-then-same_rows : goal.shape_of-part-then-same_rows
-shape_of-part-then-same_rows c = 
+shape_of-part-then-same_rows c =
     c.level-next.ensures.1.bounded.long ∙ sym c.requires.1.long
 
 pub returns-then-same_rows : goal.returns-then-same_rows
-returns-then-same_rows c = 
+returns-then-same_rows c =
     let n = c.level-next.ensures in
     levels-stop c.requires.0.0 c.requires.0.1 (omega (arith, c.loop-l.invariant.0.0, c.loop-l-test.true)) c.loop-l.invariant.1.rows_are n.0 (sym c.same_rows.ensures ∙ c.if-same_rows.true)
     (ranked-trans c.loop-l.invariant.1.ranked n.1)
 
 pub overflow_step-l : goal.overflow_step-l
 overflow_step-l c =
-    omega (arith, c.loop-l.invariant.0.0, c.loop-l-test.true, pairs_small c.args.p (well (goal.at.overflow_step-l c).Start))
+    omega (arith, c.loop-l.invariant.0.0, c.loop-l-test.true, pairs_small c.args.p (well-pair c.args.p c.requires.0.0.well))
 
 pub loop-l-smaller : goal.loop-l-smaller
 loop-l-smaller c = omega (arith, c.loop-l-test.true)
 
 pub loop-l-preserved : goal.loop-l-preserved
-loop-l-preserved c = 
+loop-l-preserved c =
     let n = c.level-next.ensures in
     ((c.loop-l.invariant.0.0, omega (arith, c.loop-l-test.true)), record { rows_are = n.0; ranked = ranked-trans c.loop-l.invariant.1.ranked n.1 })
 
 pub shape_of-part : goal.shape_of-part
-shape_of-part c =  c.loop-l.invariant.1.ranked.bounded.long ∙ sym c.requires.1.long
+shape_of-part c = c.loop-l.invariant.1.ranked.bounded.long ∙ sym c.requires.1.long
 
 pub returns : goal.returns
-returns c = 
+returns c =
     let e : c.loop-l.l ≡ pairs c.args.p = omega (arith, c.loop-l.invariant.0.0, c.loop-l.invariant.0.1, c.loop-l-test.false) in
     (levels-out c.requires.0.0 c.requires.0.1 e c.loop-l.invariant.1.rows_are, ranked-at (ap (λ (n : ℕ). n * setsC c.args.p) e) c.loop-l.invariant.1.ranked)

@@ -1,5 +1,4 @@
 -- At the loop's head the section's earlier rows are the set's, and all other rows are the family's.
-use Prim.Native.Nat.{◌-◌}
 use native.Mathlib.Omega.{arith}
 use Rattle.solver.specs.FamilyRowsLaws.{put-none, put-more, put-done}
 use Rattle.solver.proofs.put_section.Goals as goal

@@ -13,21 +13,20 @@ use Rattle.solver.proofs.rank_all.Goals.{After-first_table}
 
 begun : (c : After-first_table) →
     let x = c.args in
-    Begun (pairs x.p) (nA x.p) (matchedMasks x.p) x.table.now (setsA x.p) c.first_table.new.1.1.0
+    Begun (pairs x.p) (nA x.p) (matchedMasks x.p) x.table.now (setsA x.p) c.first_table.new.table
 begun c = rw (← c.matched_masks-matched.ensures) c.first_table.ensures
 
 pub sweeps-requires : goal.sweeps-requires
-sweeps-requires c = 
-    (
-      record {
-        well = c.requires.0;
-        matched-are = c.matched_masks-matched.ensures;
-        dependents-are = c.predecessors-dependents.ensures;
-        predecessors-are = c.predecessors-predecessors.ensures;
-      },
-      sweeping-start c.args.p (well-pair c.args.p c.requires.0) c.requires.1 (begun (goal.at.sweeps-requires c).After-first_table) refl,
-    )
+sweeps-requires c = (
+  record {
+    well = c.requires.0;
+    matched-are = c.matched_masks-matched.ensures;
+    dependents-are = c.predecessors-dependents.ensures;
+    predecessors-are = c.predecessors-predecessors.ensures;
+  },
+  sweeping-start c.args.p (well-pair c.args.p c.requires.0) c.requires.1 (begun (goal.at.sweeps-requires c).After-first_table) refl,
+)
 
 pub returns : goal.returns
-returns c = 
+returns c =
     c.sweeps.ensures ∙ ap (λ (l : List ℕ). solverTable c.args.p ++ l) (begun-rest c.args.p (well-pair c.args.p c.requires.0) c.requires.1 (begun (goal.at.returns c).After-first_table))

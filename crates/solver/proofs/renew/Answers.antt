@@ -6,6 +6,7 @@ use native.Mathlib.Omega.{arith}
 use lib.ListN.{take, drop}
 use Rattle.mask.specs.Logic.{not}
 use Rattle.mask.specs.LogicLaws.{not_is}
+use Rattle.machine.specs.declared.Pair.{Pair}
 use Rattle.machine.specs.Machines.{nC, nA, setsA, pairs}
 use Rattle.machine.specs.StepLaws.{next-lt}
 use Rattle.machine.specs.Table.{blank, tableRoom}
@@ -18,54 +19,51 @@ use Rattle.solver.specs.SweepLaws.{cut-is, goals-rows, goals-held, renewed}
 use Rattle.solver.proofs.renew.Goals as goal
 use Rattle.solver.proofs.renew.Goals.{After-goals-g, Start}
 
-well : (c : Start) → WellPair c.args.p
-well c = well-pair c.args.p c.requires.0.well
-
 -- a section's part lies within the table
-fits : (c : Start) (j : ℕ) → j < setsA c.args.p → (j < 7) × (j * pairs c.args.p + pairs c.args.p ≤ tableRoom)
-fits c j h = (omega (arith, h, (well c).abstraction.sets-high), section-fits c.args.p (well c) j h)
+fits : (p : Pair) → WellPair p → (j : ℕ) → j < setsA p → (j < 7) × (j * pairs p + pairs p ≤ tableRoom)
+fits p w j h = (omega (arith, h, w.abstraction.sets-high), section-fits p w j h)
 
 pub overflow_mul-pairs : goal.overflow_mul-pairs
-overflow_mul-pairs c =  omega (arith, pairs_small c.args.p (well (goal.at.overflow_mul-pairs c).Start))
+overflow_mul-pairs c = omega (arith, pairs_small c.args.p (well-pair c.args.p c.requires.0.well))
 
 pub covered-ahead-requires : goal.covered-ahead-requires
-covered-ahead-requires c = 
-    let w = well (goal.at.covered-ahead-requires c).Start in
+covered-ahead-requires c =
+    let w = well-pair c.args.p c.requires.0.well in
     let n = c.next_section-next in
-    let f = fits c n.result (rw n.ensures (next-lt (setsA c.args.p) c.args.j c.requires.1.section-y)) in
+    let f = fits c.args.p w n.result (rw n.ensures (next-lt (setsA c.args.p) c.args.j c.requires.1.section)) in
     ((w.concrete.states-high, w.abstraction.states-high), (f.0, omega (arith, f.1, c.requires.1.room)))
 
 pub covered-old-requires : goal.covered-old-requires
-covered-old-requires c = 
-    let w = well (goal.at.covered-old-requires c).Start in
-    let f = fits c c.args.j c.requires.1.section-y in
+covered-old-requires c =
+    let w = well-pair c.args.p c.requires.0.well in
+    let f = fits c.args.p w c.args.j c.requires.1.section in
     ((w.concrete.states-high, w.abstraction.states-high), (f.0, omega (arith, f.1, c.requires.1.room)))
 
 pub goals-g-requires : goal.goals-g-requires
-goals-g-requires c =  (c.requires.0.well, c.requires.1.section-y)
+goals-g-requires c = (c.requires.0.well, c.requires.1.section)
 
 pub overflow_mul-from : goal.overflow_mul-from
-overflow_mul-from c =  omega (arith, fits c c.args.j c.requires.1.section-y)
+overflow_mul-from c = omega (arith, fits c.args.p (well-pair c.args.p c.requires.0.well) c.args.j c.requires.1.section)
 
 pub overflow_add-to : goal.overflow_add-to
-overflow_add-to c =  omega (arith, fits c c.args.j c.requires.1.section-y)
+overflow_add-to c = omega (arith, fits c.args.p (well-pair c.args.p c.requires.0.well) c.args.j c.requires.1.section)
 
 pub offset_bounds-table-from : goal.offset_bounds-table-from
-offset_bounds-table-from c =  omega (arith, fits c c.args.j c.requires.1.section-y)
+offset_bounds-table-from c = omega (arith, fits c.args.p (well-pair c.args.p c.requires.0.well) c.args.j c.requires.1.section)
 
 pub slice_bounds-section-end : goal.slice_bounds-section-end
-slice_bounds-section-end c =  omega (arith, fits c c.args.j c.requires.1.section-y, c.requires.1.room)
+slice_bounds-section-end c = omega (arith, fits c.args.p (well-pair c.args.p c.requires.0.well) c.args.j c.requires.1.section, c.requires.1.room)
 
 goals-are : (c : After-goals-g) → c.goals-g.result ≡ rows_of (goalsIn c.args.p c.args.table.now c.args.j)
 unfolding part_of
 goals-are c =
-    goals-rows c.args.p (well c) c.requires.1 c.requires.0.matched-are c.requires.0.predecessors-are c.next_section-next.ensures c.covered-ahead.ensures c.goals-g.ensures
+    goals-rows c.args.p (well-pair c.args.p c.requires.0.well) c.requires.1 c.requires.0.matched-are c.requires.0.predecessors-are c.next_section-next.ensures c.covered-ahead.ensures c.goals-g.ensures
 
 held : (c : After-goals-g) →
     let x = c.args in
     let g = c.goals-g.result in
     (pairsIn x.p g ≡ goalsIn x.p x.table.now x.j) × Holds x.p g
-held c = goals-held c.args.p (well c) c.requires.1 (goals-are c)
+held c = goals-held c.args.p (well-pair c.args.p c.requires.0.well) c.requires.1 (goals-are c)
 
 old-is : (c : After-goals-g) → c.covered-old.result ≡ uptoRows (nC c.args.p) (nA c.args.p) (part_of c.args.p c.args.table.now c.args.j) (blank - 1)
 unfolding part_of
@@ -78,27 +76,21 @@ part-is : (c : After-goals-g) →
 part-is c =
     let x = c.args in
     let a = x.j * pairs x.p in
-    cut-is x.p (well c) x.table.now x.j a (a + pairs x.p - a) refl (omega arith)
+    cut-is x.p (well-pair c.args.p c.requires.0.well) x.table.now x.j a (a + pairs x.p - a) refl (omega arith)
 
 pub section-y-requires : goal.section-y-requires
-section-y-requires c = 
+section-y-requires c =
     let x = c.args in
     let p = x.p in
     let e = part-is (goal.at.section-y-requires c).After-goals-g in
     let g = held (goal.at.section-y-requires c).After-goals-g in
-    ((c.requires.0, g.1), (rw (g.0, e) (c.requires.1.bounded x.j c.requires.1.section-y), old-is (goal.at.section-y-requires c).After-goals-g ∙ ap (λ (l : List ℕ). uptoRows (nC p) (nA p) l (blank - 1)) (sym e)))
+    ((c.requires.0, g.1), (rw (g.0, e) (c.requires.1.bounded x.j c.requires.1.section), old-is (goal.at.section-y-requires c).After-goals-g ∙ ap (λ (l : List ℕ). uptoRows (nC p) (nA p) l (blank - 1)) (sym e)))
 
-done : goal.Need-returns
-done c =
+pub returns : goal.returns
+returns c =
     let x = c.args in
     let p = x.p in
     let y = c.section-y.ensures in
     let a = x.j * pairs p in
     let e : a + pairs p - a ≡ pairs p = omega arith in
-    renewed p (well c) c.requires.1 refl e (rw (held c).0 at y.1) (old-is c) (rw (held c).0 at y.0) (sym (not_is _) ∙ ap not c.same_rows.ensures)
-
-pub shape_of-table : goal.shape_of-table
-shape_of-table c = (done c).long
-
-pub returns : goal.returns
-returns = done
+    renewed p (well-pair c.args.p c.requires.0.well) c.requires.1 refl e (rw (held (goal.at.returns c).After-goals-g).0 at y.1) (old-is (goal.at.returns c).After-goals-g) (rw (held (goal.at.returns c).After-goals-g).0 at y.0) (sym (not_is _) ∙ ap not c.same_rows.ensures)

@@ -1,6 +1,5 @@
 -- At the loop's head all earlier rows are the section's.
 use mathlib.Core.Path.{refl}
-use Prim.Native.Nat.{◌-◌}
 use native.Mathlib.Omega.{arith}
 use Rattle.mask.specs.FrontLaws.{front-none, front-turn, front-all}
 use Rattle.solver.specs.Families.{sectionOf}

@@ -14,24 +14,24 @@ returns-then-table-lt-TABLE_ROOM c =
     let s = c.args in
     let short = buffer-short _ (length s.table.now) c.if-table-lt-TABLE_ROOM.true in
     let e = solve-short s.p (length s.table.now) short in
-    (ap refused c.refuse.ensures ∙ sym e, solved-refused s.p s.table.now _ e)
+    record { result_value = ap refused c.refuse.ensures ∙ sym e; table_after = solved-refused s.p s.table.now _ e }
 
 pub rank_all-requires : goal.rank_all-requires
-rank_all-requires c = 
+rank_all-requires c =
     let p = c.args.p in
-    (valid-is-well p (nonempty-at p (tested-valid c.pair_validity-valid.ensures c.enum_told.given.1)).0, c.if-table-lt-TABLE_ROOM.false)
+    (valid-is-well p (nonempty-at p (tested-valid c.pair_validity-valid.ensures c.in-Valid.is)).0, c.if-table-lt-TABLE_ROOM.false)
 
 pub returns-in-Refused : goal.returns-in-Refused
 unfolding tested_of
-returns-in-Refused c = 
+returns-in-Refused c =
     let s = c.args in
     let e = solve-long s.p (length s.table.now) c.if-table-lt-TABLE_ROOM.false ∙ tested-refused c.pair_validity-valid.ensures c.in-Refused.is in
-    (sym e, solved-refused s.p s.table.now _ e)
+    record { result_value = sym e; table_after = solved-refused s.p s.table.now _ e }
 
 pub returns-in-Valid : goal.returns-in-Valid
 unfolding tested_of
-returns-in-Valid c = 
+returns-in-Valid c =
     let s = c.args in
     let told = c.in-Valid.is in
     let e = solve-long s.p (length s.table.now) c.if-table-lt-TABLE_ROOM.false ∙ tested-valid c.pair_validity-valid.ensures told in
-    (sym e, c.rank_all.ensures ∙ solved-valid s.p s.table.now e)
+    record { result_value = sym e; table_after = c.rank_all.ensures ∙ solved-valid s.p s.table.now e }

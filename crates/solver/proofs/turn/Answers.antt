@@ -3,30 +3,26 @@ use mathlib.Core.Path.{◌≡◌, refl, ap, ◌∙◌}
 use Prim.Native.Nat.{◌+◌, ◌-◌, ◌*◌, ◌≤◌}
 use native.Mathlib.Omega.{arith}
 use lib.ListN.{length}
-use Rattle.mask.specs.Tables.{table}
 use Rattle.machine.specs.Machines.{setsA, pairs}
 use Rattle.machine.specs.Table.{tableRoom}
-use Rattle.machine.specs.WellFormedLaws.{WellPair, well-pair, pairs_small, section-fits}
+use Rattle.machine.specs.WellFormedLaws.{well-pair, pairs_small, section-fits}
 use Rattle.rows.specs.WriteLaws.{cut-long}
 use Rattle.solver.specs.FamilyRowsLaws.{flat-length, flat-none, turn_more, turn-all}
 use Rattle.solver.specs.SweepLaws.{ranked-start, ranked-more, ranked-done}
 use Rattle.solver.proofs.turn.Goals as goal
 use Rattle.solver.proofs.turn.Goals.{In-loop-j, Start}
 
-well : (c : Start) → WellPair c.args.p
-well c = well-pair c.args.p c.requires.0.well
-
 -- the section lies within the table
 fits : (c : In-loop-j) →
     let P = pairs c.args.p in
     c.loop-j.j * P + P ≤ tableRoom
-fits c = section-fits c.args.p (well c) c.loop-j.j c.loop-j-test.true
+fits c = section-fits c.args.p (well-pair c.args.p c.requires.0.well) c.loop-j.j c.loop-j-test.true
 
 pub overflow_mul-pairs : goal.overflow_mul-pairs
-overflow_mul-pairs c =  omega (arith, pairs_small c.args.p (well (goal.at.overflow_mul-pairs c).Start))
+overflow_mul-pairs c = omega (arith, pairs_small c.args.p (well-pair c.args.p c.requires.0.well))
 
 pub loop-j-init : goal.loop-j-init
-loop-j-init c =  ((omega arith, ranked-start c.args.p (well (goal.at.loop-j-init c).Start)), flat-none _)
+loop-j-init c = ((omega arith, ranked-start c.args.p (well-pair c.args.p c.requires.0.well)), flat-none _)
 
 pub overflow_mul-from : goal.overflow_mul-from
 overflow_mul-from c = omega (arith, fits (goal.at.overflow_mul-from c).In-loop-j)
@@ -38,10 +34,10 @@ pub offset_bounds-table-from : goal.offset_bounds-table-from
 offset_bounds-table-from c = omega (arith, fits (goal.at.offset_bounds-table-from c).In-loop-j)
 
 pub slice_bounds-turn_section-end : goal.slice_bounds-turn_section-end
-slice_bounds-turn_section-end c =  omega (arith, fits (goal.at.slice_bounds-turn_section-end c).In-loop-j, c.loop-j.invariant.0.1.long, c.requires.1)
+slice_bounds-turn_section-end c = omega (arith, fits (goal.at.slice_bounds-turn_section-end c).In-loop-j, c.loop-j.invariant.0.1.long, c.requires.1)
 
 pub turn_section-next-requires : goal.turn_section-next-requires
-turn_section-next-requires c = 
+turn_section-next-requires c =
     let P = pairs c.args.p in
     let a = c.loop-j.j * P in
     let k = a + P - a in
@@ -49,7 +45,7 @@ turn_section-next-requires c =
     (c.requires.0, (c.loop-j-test.true, (cut-long k a c.loop-j.table room ∙ omega arith, ap length c.loop-j.invariant.1 ∙ flat-length _)))
 
 pub overflow_step-j : goal.overflow_step-j
-overflow_step-j c = omega (arith, c.loop-j-test.true, (well (goal.at.overflow_step-j c).Start).abstraction.sets-high)
+overflow_step-j c = omega (arith, c.loop-j-test.true, (well-pair c.args.p c.requires.0.well).abstraction.sets-high)
 
 pub loop-j-smaller : goal.loop-j-smaller
 loop-j-smaller c = omega (arith, c.loop-j-test.true)
@@ -57,19 +53,19 @@ loop-j-smaller c = omega (arith, c.loop-j-test.true)
 pub loop-j-preserved : goal.loop-j-preserved
 loop-j-preserved c =
     let x = c.args in
-    let w = well (goal.at.loop-j-preserved c).Start in
+    let w = well-pair c.args.p c.requires.0.well in
     let P = pairs x.p in
     let a = c.loop-j.j * P in
     let e : a + P - a ≡ P = omega arith in
     let made = c.turn_section-next.ensures in (
       (omega (arith, c.loop-j-test.true), ranked-more x.p w c.requires.1 c.loop-j-test.true refl e made.1 c.loop-j.invariant.0.1),
-      made.0 ∙ turn_more x.p w x.t5 c.loop-j.j c.loop-j-test.true c.loop-j.invariant.1,
+      made.0 ∙ turn_more x.p w x.family c.loop-j.j c.loop-j-test.true c.loop-j.invariant.1,
     )
 
 pub shape_of-table : goal.shape_of-table
 shape_of-table c = c.loop-j.invariant.0.1.long
 
 pub returns : goal.returns
-returns c = 
+returns c =
     let e : c.loop-j.j ≡ setsA c.args.p = omega (arith, c.loop-j.invariant.0.0, c.loop-j-test.false) in
-    (c.loop-j.invariant.1 ∙ turn-all c.args.p (well (goal.at.returns c).Start) c.args.t5 e, ranked-done c.args.p (well (goal.at.returns c).Start) e c.requires.1 c.loop-j.invariant.0.1)
+    (c.loop-j.invariant.1 ∙ turn-all c.args.p (well-pair c.args.p c.requires.0.well) c.args.family e, ranked-done c.args.p (well-pair c.args.p c.requires.0.well) e c.requires.1 c.loop-j.invariant.0.1)

@@ -8,7 +8,7 @@ use Rattle.solver.specs.Sweeps.{FamilyRanked}
 use Rattle.solver.proofs.turn.Given as goal
 
 abbrev pub invariant-loop-j : goal.invariant-loop-j
-invariant-loop-j l = ((l.j ≤ setsA l.p) × FamilyRanked l.p (familyIn l.p l.family) l.initial.table l.j l.lent) × (l.out ≡ flatOf (table l.j (λ i. levels l.p (goals l.p (familyIn l.p l.family) i))))
+invariant-loop-j l = ((l.j ≤ setsA l.p) × FamilyRanked l.p (familyIn l.p l.family) l.initial.table l.j l.table) × (l.out ≡ flatOf (table l.j (λ i. levels l.p (goals l.p (familyIn l.p l.family) i))))
 
 abbrev pub decreases-loop-j : goal.decreases-loop-j
 decreases-loop-j l = l.n - l.j

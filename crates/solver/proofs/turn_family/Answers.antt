@@ -15,25 +15,25 @@ returns-then-room-lt-TABLE_ROOM c =
     let short = buffer-short _ (length s.table.now) c.if-room-lt-TABLE_ROOM.true in
     let e = solve-short s.p (length s.table.now) short in
     let kept = turned-refused s.p s.family s.table.now _ e in
-    (ap refused c.refuse.ensures ∙ sym e, (kept.0, kept.1))
+    record { validity_value = ap refused c.refuse.ensures ∙ sym e; family_value = kept.0; table_after = kept.1 }
 
 pub turn_all-next-requires : goal.turn_all-next-requires
-turn_all-next-requires c = 
+turn_all-next-requires c =
     let p = c.args.p in
-    (valid-is-well p (nonempty-at p (tested-valid c.pair_validity-valid.ensures c.enum_told.given.1)).0, c.if-room-lt-TABLE_ROOM.false)
+    (valid-is-well p (nonempty-at p (tested-valid c.pair_validity-valid.ensures c.in-Valid.is)).0, c.if-room-lt-TABLE_ROOM.false)
 
 pub returns-in-Refused : goal.returns-in-Refused
 unfolding tested_of
-returns-in-Refused c = 
+returns-in-Refused c =
     let s = c.args in
     let e = solve-long s.p (length s.table.now) c.if-room-lt-TABLE_ROOM.false ∙ tested-refused c.pair_validity-valid.ensures c.in-Refused.is in
     let kept = turned-refused s.p s.family s.table.now _ e in
-    (sym e, (kept.0, kept.1))
+    record { validity_value = sym e; family_value = kept.0; table_after = kept.1 }
 
 pub returns-in-Valid : goal.returns-in-Valid
 unfolding tested_of
-returns-in-Valid c = 
+returns-in-Valid c =
     let s = c.args in
-    let e = solve-long s.p (length s.table.now) c.if-room-lt-TABLE_ROOM.false ∙ tested-valid c.pair_validity-valid.ensures c.enum_told.given.1 in
+    let e = solve-long s.p (length s.table.now) c.if-room-lt-TABLE_ROOM.false ∙ tested-valid c.pair_validity-valid.ensures c.in-Valid.is in
     let made = turned-valid s.p s.family s.table.now e in
-    (sym e, (c.turn_all-next.ensures.0 ∙ made.0, c.turn_all-next.ensures.1 ∙ made.1))
+    record { validity_value = sym e; family_value = c.turn_all-next.ensures.0 ∙ made.0; table_after = c.turn_all-next.ensures.1 ∙ made.1 }

@@ -5,7 +5,7 @@ use Prim.Native.Nat.{ℕ}
 use native.Mathlib.Omega.{arith}
 use Rattle.machine.specs.Machines.{setsA}
 use Rattle.machine.specs.StepLaws.{next-lt}
-use Rattle.machine.specs.WellFormedLaws.{WellPair, well-pair}
+use Rattle.machine.specs.WellFormedLaws.{well-pair}
 use Rattle.machine.specs.Game.{goals, levels}
 use Rattle.rows.specs.Rows.{rows_of}
 use Rattle.solver.specs.Families.{familyIn, putSection}
@@ -13,28 +13,25 @@ use Rattle.solver.specs.FamilyRowsLaws.{goals-done, goals-hold, goals-back}
 use Rattle.solver.proofs.turn_section.Goals as goal
 use Rattle.solver.proofs.turn_section.Goals.{After-goals-g, Start}
 
-well : (s : Start) → WellPair s.args.p
-well s = well-pair s.args.p s.requires.0.well
-
 goals-are : (c : After-goals-g) → let x = c.args in c.goals-g.result ≡ rows_of (goals x.p (familyIn x.p x.family.now) x.j)
 goals-are c =
-    goals-done c.args.p (well c) c.args.family.now c.args.j c.requires.1.0 c.requires.0.matched-are c.requires.0.predecessors-are
+    goals-done c.args.p (well-pair c.args.p c.requires.0.well) c.args.family.now c.args.j c.requires.1.0 c.requires.0.matched-are c.requires.0.predecessors-are
     c.next_section.ensures c.section_rows-rows.ensures c.join_rows-next.ensures c.goals-g.ensures
 
 pub section_rows-rows-requires : goal.section_rows-rows-requires
-section_rows-rows-requires c = 
-    omega (arith, c.next_section.ensures, next-lt (setsA c.args.p) c.args.j c.requires.1.0, (well c).abstraction.sets-high)
+section_rows-rows-requires c =
+    omega (arith, c.next_section.ensures, next-lt (setsA c.args.p) c.args.j c.requires.1.0, (well-pair c.args.p c.requires.0.well).abstraction.sets-high)
 
 pub afresh-set-requires : goal.afresh-set-requires
-afresh-set-requires c = 
-    ((c.requires.0, goals-hold c.args.p (well c) c.args.family.now c.args.j (goals-are (goal.at.afresh-set-requires c).After-goals-g)), c.requires.1.1.0)
+afresh-set-requires c =
+    ((c.requires.0, goals-hold c.args.p (well-pair c.args.p c.requires.0.well) c.args.family.now c.args.j (goals-are (goal.at.afresh-set-requires c).After-goals-g)), c.requires.1.1.0)
 
 pub put_section-requires : goal.put_section-requires
-put_section-requires c =  (omega (arith, c.requires.1.0, (well c).abstraction.sets-high), c.requires.1.1.1)
+put_section-requires c = (omega (arith, c.requires.1.0, (well-pair c.args.p c.requires.0.well).abstraction.sets-high), c.requires.1.1.1)
 
 pub returns : goal.returns
-returns c = 
+returns c =
     let x = c.args in
     let made = c.afresh-set in
-    let back = goals-back x.p (well c) x.family.now x.j (goals-are (goal.at.returns c).After-goals-g) in
+    let back = goals-back x.p (well-pair c.args.p c.requires.0.well) x.family.now x.j (goals-are (goal.at.returns c).After-goals-g) in
     (c.put_section.ensures ∙ ap (putSection x.made.now x.j) (made.ensures.0 ∙ ap (λ (G : List ℕ). rows_of (levels x.p G)) back), rw back at made.ensures.1)

@@ -1,5 +1,4 @@
 -- After e turns the first e entries are written, and those behind are as they were; a number of two bytes is an entry.
-use Prim.Native.Nat.{◌-◌}
 use mathlib.Core.Path.{refl, ◌∙◌}
 use native.Mathlib.Omega.{arith}
 use lib.ListN.{length-set}

@@ -1,9 +1,9 @@
 -- Where the first block is right, its counts give the payload's length, and that the number of blocks.
 use Prim.Native.Nat.{ℕ, ◌+◌, ◌*◌, ◌/◌}
-use mathlib.Core.Path.{◌≡◌, sym, ap, ◌∙◌}
-use Rattle.machine.specs.Refusals.{answer, valid}
+use mathlib.Core.Path.{sym, ap, ◌∙◌}
+use Rattle.machine.specs.Refusals.{answer}
 use Rattle.machine.specs.RefusalsLaws.{tested-valid, tested-refused, then-refused, then-of}
-use Rattle.codec.specs.Reader.{firstValidity, size_of}
+use Rattle.codec.specs.Reader.{size_of}
 use Rattle.codec.specs.Answers.{sizedOf}
 use Rattle.codec.specs.ReaderLaws.{first-valid, demanded-is}
 use Rattle.codec.proofs.reader.file_size.Goals as goal

@@ -1,11 +1,10 @@
 -- The tests are made in the order of the definition, and each return is the first that refuses.
 use Prim.Native.Nat.{◌%◌}
-use mathlib.Core.Bool.{false}
-use mathlib.Core.Path.{◌≡◌, sym, ap, ◌∙◌}
+use mathlib.Core.Path.{sym, ap, ◌∙◌}
 use lib.ListN.{length}
 use lib.Dec.{eqb}
 use borrow.Author.Tests.{eq-eqb, ne_eqb}
-use Rattle.mask.specs.Logic.{or, not}
+use Rattle.mask.specs.Logic.{not}
 use Rattle.mask.specs.LogicLaws.{or_l, or_r, or-false, not-i, not_f}
 use Rattle.machine.specs.Refusals.{refused, tested_of}
 use Rattle.machine.specs.RefusalsLaws.{tested-valid, tested-refused, then-of, then-refused}

@@ -4,7 +4,7 @@ use mathlib.Core.List.{List}
 use mathlib.Core.Path.{◌≡◌, sym, ap, subst, ◌∙◌}
 use native.Mathlib.Omega.{arith}
 use lib.ListN.{length}
-use Rattle.machine.specs.Refusals.{valid, tested_of, each}
+use Rattle.machine.specs.Refusals.{valid, tested_of}
 use Rattle.machine.specs.RefusalsLaws.{tested-valid, tested-refused, each_none, each_next, each-refused}
 use Rattle.codec.specs.Reader.{blockValidity, laterBlocks}
 use Rattle.codec.proofs.reader.later_blocks.Invariants.{passed}

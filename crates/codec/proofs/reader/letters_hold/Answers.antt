@@ -1,14 +1,12 @@
 -- The letters that were passed are right, and one that is wrong makes the whole fail.
-use Prim.Native.Nat.{ℕ, ◌-◌}
+use Prim.Native.Nat.{ℕ}
 use mathlib.Core.Path.{refl, sym, ap, ◌∙◌}
-use mathlib.Core.Bool.{true}
 use mathlib.Core.List.{List}
 use native.Mathlib.Omega.{arith}
 use lib.ListN.{get_or}
 use borrow.Author.Count.{below_none, below_more}
 use borrow.Author.Tests.{eq-eqb, ne_eqb}
 use Rattle.mask.specs.BoundedLaws.{every_of, every-not}
-use Rattle.codec.specs.Format as F
 use Rattle.codec.specs.Reader.{headerByte}
 use Rattle.codec.proofs.reader.letters_hold.Goals as goal
 

@@ -1,5 +1,4 @@
 -- After k turns the first k masks are written, and those behind are as they were.
-use Prim.Native.Nat.{◌-◌}
 use mathlib.Core.Path.{refl, ◌∙◌}
 use native.Mathlib.Omega.{arith}
 use lib.ListN.{length-set}

@@ -2,7 +2,6 @@
 use Prim.Native.Nat.{ℕ, ◌+◌, ◌-◌, ◌*◌, ◌<◌, ◌^◌}
 use mathlib.Core.Path.{◌≡◌, sym}
 use native.Mathlib.Omega.{arith}
-use lib.ListN.{get_or}
 use mir.Syntax.{w64}
 use borrow.Author.Rules.{Fits-under}
 use Rattle.codec.specs.NumberLaws.{number-none, number-turn, turn-lt, turn-room}

@@ -1,5 +1,5 @@
 use mathlib.Core.Path.{◌≡◌}
-use Prim.Native.Nat.{◌*◌, ◌/◌, ◌%◌, ◌-◌, ◌≤◌}
+use Prim.Native.Nat.{◌*◌, ◌/◌, ◌%◌, ◌≤◌}
 use lib.ListN.{length, get_or}
 use lib.Seq.{sets}
 use Rattle.mask.specs.Tables.{table}

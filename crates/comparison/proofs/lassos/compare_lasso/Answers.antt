@@ -1,0 +1,12 @@
+-- Both answers and the run are those of the definition, by the contracts of player and plain reading.
+use Rattle.std.proofs.Common.{◌∙◌}
+use Rattle.comparison.specs.LassosLaws.{lasso-tally-is}
+use Rattle.comparison.proofs.lassos.compare_lasso.Goals as goal
+
+pub returns : goal.returns
+returns c =
+    let rule = c in
+    let answer = rule in
+    let played = answer.play.ensures in
+    lasso-tally-is _ _ _ _ _ _ _ _ _ _ played.buffer played.answer (c.as_played.ensures ∙ rule.plain_play.ensures) answer.played_four-answer.ensures
+    c.played_four-plain.ensures c.lasso_agrees.ensures c.of_lasso.ensures

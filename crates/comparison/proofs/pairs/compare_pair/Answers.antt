@@ -1,0 +1,28 @@
+-- Where the solver refuses nothing the pair is well formed; what is counted further is added.
+use Rattle.std.proofs.Common.{◌≡◌, true, refl}
+use Rattle.machine.specs.RefusalsLaws.{tested-refused, tested-valid}
+use Rattle.machine.specs.WellFormed.{wellFormed}
+use Rattle.comparison.specs.PairsLaws.{solved-well, pair-refused, pair-formed}
+use Rattle.comparison.proofs.pairs.compare_pair.Goals as goal
+use Rattle.comparison.proofs.pairs.compare_pair.Goals.{In-Valid}
+
+well : (c : In-Valid) → wellFormed c.args.p ≡ true
+well c = solved-well _ _ (tested-valid c.solve-answer.ensures.result_value c.in-Valid.is)
+
+pub compare_turns-turns-requires : goal.compare_turns-turns-requires
+compare_turns-turns-requires c = well (goal.at.compare_turns-turns-requires c).In-Valid
+
+pub compare_formed-requires : goal.compare_formed-requires
+compare_formed-requires c = well (goal.at.compare_formed-requires c).In-Valid
+
+pub returns-in-Refused : goal.returns-in-Refused
+returns-in-Refused c =
+    let tried = c in
+    pair-refused _ _ _ _ _ _ _ _ tried.solve-answer.ensures.result_value tried.nonempty_validity-plain.ensures tried.tested_four.ensures tried.tested_four-rule.ensures tried.same_four.ensures
+    tried.of_pair-tried.ensures _ (tested-refused refl c.in-Refused.is) _ _ _ _ c.compare_stopped.ensures c.add.ensures c.compare_unsolved.ensures c.add-in-Refused.ensures
+
+pub returns-in-Valid : goal.returns-in-Valid
+returns-in-Valid c =
+    let tried = c in
+    pair-formed _ _ _ _ _ _ _ _ tried.solve-answer.ensures.result_value tried.nonempty_validity-plain.ensures tried.tested_four.ensures tried.tested_four-rule.ensures tried.same_four.ensures
+    tried.of_pair-tried.ensures (tested-valid refl c.in-Valid.is) _ _ _ _ _ tried.solve-answer.ensures.table_after c.compare_turns-turns.ensures c.add-in-Valid.ensures c.compare_formed.ensures c.add-in-Valid-2.ensures

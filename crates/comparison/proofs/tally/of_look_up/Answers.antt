@@ -1,0 +1,6 @@
+use Rattle.comparison.specs.Tallies.{nothing, ofLookUp}
+use Rattle.comparison.proofs.tally.of_look_up.Goals as goal
+
+pub returns : goal.returns
+unfolding nothing ofLookUp
+returns c = rw (c.none-t.ensures, c.one_if.ensures, c.one_unless.ensures)

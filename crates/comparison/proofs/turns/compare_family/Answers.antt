@@ -1,0 +1,12 @@
+use Rattle.comparison.specs.TurnsLaws.{family-is}
+use Rattle.comparison.proofs.turns.compare_family.Goals as goal
+
+pub returns : goal.returns
+returns c =
+    let x = c.args in
+    let turned = c.compare_turn-step.ensures in
+    record {
+      tally_value = family-is x.p x.k x.family turned.tally_value c.compare_look_ups.ensures c.add.ensures;
+      finished_value = turned.finished_value;
+      family_value = turned.family_value;
+    }
