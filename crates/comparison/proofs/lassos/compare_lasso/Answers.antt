@@ -5,8 +5,6 @@ use Rattle.comparison.proofs.lassos.compare_lasso.Goals as goal
 
 pub returns : goal.returns
 returns c =
-    let rule = c in
-    let answer = rule in
-    let played = answer.play.ensures in
-    lasso-tally-is _ _ _ _ _ _ _ _ _ _ played.buffer played.answer (c.as_played.ensures ∙ rule.plain_play.ensures) answer.played_four-answer.ensures
+    let played = c.play.ensures in
+    lasso-tally-is _ _ _ _ _ _ _ _ _ _ played.buffer played.answer (c.as_played.ensures ∙ c.plain_play.ensures) c.played_four-answer.ensures
     c.played_four-plain.ensures c.lasso_agrees.ensures c.of_lasso.ensures

@@ -17,12 +17,10 @@ compare_formed-requires c = well (goal.at.compare_formed-requires c).In-Valid
 
 pub returns-in-Refused : goal.returns-in-Refused
 returns-in-Refused c =
-    let tried = c in
-    pair-refused _ _ _ _ _ _ _ _ tried.solve-answer.ensures.result_value tried.nonempty_validity-plain.ensures tried.tested_four.ensures tried.tested_four-rule.ensures tried.same_four.ensures
-    tried.of_pair-tried.ensures _ (tested-refused refl c.in-Refused.is) _ _ _ _ c.compare_stopped.ensures c.add.ensures c.compare_unsolved.ensures c.add-in-Refused.ensures
+    pair-refused _ _ _ _ _ _ _ _ c.solve-answer.ensures.result_value c.nonempty_validity-plain.ensures c.tested_four.ensures c.tested_four-rule.ensures c.same_four.ensures
+    c.of_pair-tried.ensures _ (tested-refused refl c.in-Refused.is) _ _ _ _ c.compare_stopped.ensures c.add.ensures c.compare_unsolved.ensures c.add-in-Refused.ensures
 
 pub returns-in-Valid : goal.returns-in-Valid
 returns-in-Valid c =
-    let tried = c in
-    pair-formed _ _ _ _ _ _ _ _ tried.solve-answer.ensures.result_value tried.nonempty_validity-plain.ensures tried.tested_four.ensures tried.tested_four-rule.ensures tried.same_four.ensures
-    tried.of_pair-tried.ensures (tested-valid refl c.in-Valid.is) _ _ _ _ _ tried.solve-answer.ensures.table_after c.compare_turns-turns.ensures c.add-in-Valid.ensures c.compare_formed.ensures c.add-in-Valid-2.ensures
+    pair-formed _ _ _ _ _ _ _ _ c.solve-answer.ensures.result_value c.nonempty_validity-plain.ensures c.tested_four.ensures c.tested_four-rule.ensures c.same_four.ensures
+    c.of_pair-tried.ensures (tested-valid refl c.in-Valid.is) _ _ _ _ _ c.solve-answer.ensures.table_after c.compare_turns-turns.ensures c.add-in-Valid.ensures c.compare_formed.ensures c.add-in-Valid-2.ensures
