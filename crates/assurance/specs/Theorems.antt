@@ -5,7 +5,7 @@ use Rattle.std.proofs.Common.{sym, ap, subst, ◌∙◌, arith, get_or-append-ad
 use Rattle.std.proofs.Math.ListN.{length, get_or}
 use Rattle.std.proofs.Math.Seq.{get_or-drop}
 use Rattle.mask.specs.Tables.{table}
-use Rattle.mask.specs.TablesLaws.{fill_done}
+use Rattle.mask.specs.TablesLaws.{fill-done}
 use Rattle.machine.specs.declared.Pair.{Pair}
 use Rattle.machine.specs.Refusals.{Result, answer, refused, bufferAfter}
 use Rattle.machine.specs.RefusalsLaws.{then-refused, buffer-kept}
@@ -15,10 +15,10 @@ use Rattle.machine.specs.WellFormedLaws.{well-pair}
 use Rattle.machine.specs.EmptySetsLaws.{empty-set-told, empty-set-is-unfair, nonempty-has-state}
 use Rattle.machine.specs.Ranks.{rank, solverTable}
 use Rattle.machine.specs.Table.{tableRoom, entry, entries}
-use Rattle.machine.specs.LinesLaws.{covers_at, covers_of}
+use Rattle.machine.specs.LinesLaws.{covers-at, covers-of}
 use Rattle.machine.specs.Verdict.{carried, linesVerdict, checkVerdict}
 use Rattle.machine.specs.VerdictLaws.{check-lines, check-said}
-use Rattle.machine.specs.EntriesLaws.{entry-same, covers-same, each_same, verdict-same}
+use Rattle.machine.specs.EntriesLaws.{entry-same, covers-same, each-same, verdict-same}
 use Rattle.theory.specs.RankLaws.{table-entries, table_is}
 use Rattle.theory.specs.RankTheorems.{rank-is-goal, rank-is-figure2, rank-is-least, table-holds-ranks, solver-table-passes, solver-table-covers, carried-exactly}
 use Rattle.machine.specs.Lassos.{SameObservations}
@@ -27,7 +27,7 @@ use Rattle.soundness.specs.Theorems.{carried-is-sound, check-unread, player-unre
 use Rattle.codec.specs.Format.{fileOf}
 use Rattle.codec.specs.Writer.{writeAnswer, writeBuffer}
 use Rattle.codec.specs.WriterLaws.{with-room}
-use Rattle.codec.specs.FileLaws.{write_read, read-write, written-reads, read-writes, first_block, first-block-tells-size, entries-unread, taken-fits, taken-hidden, stored-test, stored-matched, taken-representable, Was, was-taken, was-well}
+use Rattle.codec.specs.FileLaws.{write-read, read-write, written-reads, read-writes, first-block, first-block-tells-size, entries-unread, taken-fits, taken-hidden, stored-test, stored-matched, taken-representable, Was, was-taken, was-well}
 use Rattle.codec.specs.PlacesLaws.{blocks-told, first-told, lowest-told, damaged-told, misplaced-told, joined-told, exchanged-told, overwritten-told}
 use Rattle.solver.specs.Solver.{solveValidity, solvedTable}
 use Rattle.solver.specs.SolverLaws.{solve-long, solved-refused}
@@ -42,7 +42,7 @@ use Rattle.assurance.specs.Statements.{FilesReadBack, FilesAreWritten, FirstBloc
 use Rattle.assurance.specs.Statements.{SolverTakesMachines, SolvedPasses, SolvedCovers, SolvedIsCarried, SolvedIsFigure2, SolvedGoals, SolvedRanks, SolvedRest}
 
 pub files-read-back : FilesReadBack
-files-read-back = (write_read, written-reads)
+files-read-back = (write-read, written-reads)
 
 pub files-are-written : FilesAreWritten
 files-are-written = (read-write, read-writes)
@@ -71,7 +71,7 @@ pub stored-files-keep-meaning : StoredFilesKeepMeaning
 stored-files-keep-meaning = (taken-hidden, stored-test, stored-matched, stored-files-are-sound)
 
 pub blocks-are-told : BlocksAreTold
-blocks-are-told = (blocks-told, first-told, lowest-told, first_block)
+blocks-are-told = (blocks-told, first-told, lowest-told, first-block)
 
 pub bad-copies-are-told : BadCopiesAreTold
 bad-copies-are-told = (damaged-told, misplaced-told, joined-told, exchanged-told, overwritten-told)
@@ -83,11 +83,11 @@ lost-table-is-replaced f first p note bytes e nonempty buffer lent room long =
     let w = was-taken f first p note e in
     let made = restore-made f buffer (restore-valid f buffer room w nonempty) in
     let size = length (restored f) in
-    let back = write_read p true (solverTable p) lent (taken-representable f first p note bytes e) (was-well w) (table_is p (well-pair p (was-well w))).1 long in
+    let back = write-read p true (solverTable p) lent (taken-representable f first p note bytes e) (was-well w) (table_is p (well-pair p (was-well w))).1 long in
     let cut : take size (restoreBuffer f buffer) ≡ fileOf p true (solverTable p) =
     ap (take size) made.1 ∙ take_at (restored f) (drop size buffer) size refl ∙ file w in
     let own : solverTable p ≡ table (entries p) (λ e. get_or (solverTable p) e 0) =
-    fill_done 0 (entries p) (solverTable p) _ (table-entries p) (λ k h. refl) in
+    fill-done 0 (entries p) (solverTable p) _ (table-entries p) (λ k h. refl) in
     record {
       size = size;
       answers = made.0;
@@ -146,27 +146,27 @@ empty-set-means = (empty-set-is-unfair, nonempty-has-state)
 
 -- ---- what the solver leaves in a table with room, of well-formed machines whose sets all have a state
 module _ (p : Pair) (T : List ℕ) (well : wellFormed p ≡ true) (nonempty : nonemptySets p ≡ true) (room : tableRoom ≤ length T) where
-  said_same : checkVerdict p (solvedTable p T) ≡ linesVerdict p (solverTable p)
-  said_same = check-lines p _ (solved-room p T well nonempty room) ∙ verdict-same p _ _ (solved-same p T well nonempty room)
+  said-same : checkVerdict p (solvedTable p T) ≡ linesVerdict p (solverTable p)
+  said-same = check-lines p _ (solved-room p T well nonempty room) ∙ verdict-same p _ _ (solved-same p T well nonempty room)
 
   entry-rank : (j c a : ℕ) → j < setsA p → c < nC p → a < nA p → entry p (solvedTable p T) j c a ≡ rank p j c a
   entry-rank j c a hj hc ha = entry-same p _ _ (solved-same p T well nonempty room) j c a hj hc ha ∙ table-holds-ranks p j c a hj hc ha
 
 module _ (p : Pair) (T : List ℕ) where
   pub solved-passes : SolvedPasses p T
-  solved-passes well nonempty room = each_same p _ _ (solved-same p T well nonempty room) ∙ solver-table-passes p well
+  solved-passes well nonempty room = each-same p _ _ (solved-same p T well nonempty room) ∙ solver-table-passes p well
 
   pub solved-covers : SolvedCovers p T
   solved-covers well nonempty room R t j c a hj hc ha u = covers-same p _ _ (solved-same p T well nonempty room) j c a hj hc ha ∙ solver-table-covers p well R t j c a hj hc ha u
 
   pub solved-is-carried : SolvedIsCarried p T
-  solved-is-carried well nonempty room = rw (said_same p T well nonempty room) (carried-exactly p well)
+  solved-is-carried well nonempty room = rw (said-same p T well nonempty room) (carried-exactly p well)
 
   pub solved-is-figure2 : SolvedIsFigure2 p T
   solved-is-figure2 well nonempty room j c a hj hc ha =
       let f = (rank-is-figure2 p well j c a hj hc ha).0 in
       let e = entry-rank p T well nonempty room j c a hj hc ha in
-      (λ t. f.0 (λ b. covers_at p (solvedTable p T) j c a t (e ∙ b)), λ t. covers_of p (solvedTable p T) j c a (λ b. f.1 t (sym e ∙ b)))
+      (λ t. f.0 (λ b. covers-at p (solvedTable p T) j c a t (e ∙ b)), λ t. covers-of p (solvedTable p T) j c a (λ b. f.1 t (sym e ∙ b)))
 
   pub solved-goals : SolvedGoals p T
   solved-goals well nonempty room j c a hj hc ha = rw (entry-rank p T well nonempty room j c a hj hc ha) (rank-is-goal p j c a hj hc ha)

@@ -6,7 +6,7 @@ use Rattle.mask.specs.Logic.{not, and, or}
 use Rattle.mask.specs.Tables.{table}
 use Rattle.machine.specs.declared.Pair.{Pair}
 use Rattle.machine.specs.Machines.{matched, nC, nA, setsA, pairs}
-use Rattle.machine.specs.Refusals.{and_then, bufferValidity, bufferAfter}
+use Rattle.machine.specs.Refusals.{andThen, bufferValidity, bufferAfter}
 use Rattle.machine.specs.WellFormed.{pairValidity}
 use Rattle.machine.specs.Table.{blank, entries, tableRoom}
 use Rattle.brute.specs.Numbers.{digitOf}
@@ -29,7 +29,7 @@ module _ (p : Pair) where
 
 -- the final content of a lent table; one that is short and one of machines that are not well formed are kept
 unfoldable pub familyTable : Pair → List ℕ → List ℕ → List ℕ
-familyTable p F T = bufferAfter (and_then (bufferValidity tableRoom (length T)) (pairValidity p)) (table (entries p) (familyEntry p F)) T
+familyTable p F T = bufferAfter (andThen (bufferValidity tableRoom (length T)) (pairValidity p)) (table (entries p) (familyEntry p F)) T
 
 -- the number of row e among those of n sections and nC concrete states; that after the last for any other row
 unfoldable pub rowNumber : ℕ → ℕ → ℕ → ℕ

@@ -5,10 +5,10 @@ use Rattle.std.proofs.Common.{◌∙◌, le-ltb, lt-ltb}
 use Rattle.std.proofs.Math.Path.{ap, sym}
 use Rattle.std.proofs.Math.ListN.{drop}
 use Rattle.mask.specs.Bits.{hasBit}
-use Rattle.mask.specs.BoundedLaws.{every-not, every_of}
+use Rattle.mask.specs.BoundedLaws.{every-not, every-of}
 use Rattle.mask.specs.Bounded.{every}
 use Rattle.mask.specs.Logic.{and, not, or}
-use Rattle.mask.specs.LogicLaws.{and-false-l, and_false_r, and_i, and-true-l, not_f, not-i, or-false, or_l, or_r}
+use Rattle.mask.specs.LogicLaws.{and-false-l, and-false-r, and-i, and-true-l, not-f, not-i, or-false, or-l, or-r}
 use Rattle.mask.specs.Tables.{front, table}
 use Rattle.mask.specs.TablesLaws.{table-length}
 use Rattle.machine.specs.Machines.{matched, nA, nC, pairs, setsA}
@@ -29,11 +29,11 @@ module _ (p : Pair) (F : List ℕ) (e : ℕ) where
   module _ (m : matched p (e % pairs p / nA p) (e % nA p) ≡ true) where
     pub entry-held : hasBit (get_or F (e / pairs p * 64 + e % pairs p / nA p) 0) (e % nA p) ≡ true → 0 ≡ familyEntry p F e
     unfolding familyEntry
-    entry-held t = rw (and_i m t)
+    entry-held t = rw (and-i m t)
 
     pub entry-struck : hasBit (get_or F (e / pairs p * 64 + e % pairs p / nA p) 0) (e % nA p) ≡ false → blank ≡ familyEntry p F e
     unfolding familyEntry
-    entry-struck t = let b : and (matched p (e % pairs p / nA p) (e % nA p)) (hasBit (get_or F (e / pairs p * 64 + e % pairs p / nA p) 0) (e % nA p)) ≡ false = and_false_r _ t in rw b
+    entry-struck t = let b : and (matched p (e % pairs p / nA p) (e % nA p)) (hasBit (get_or F (e / pairs p * 64 + e % pairs p / nA p) 0) (e % nA p)) ≡ false = and-false-r _ t in rw b
 
 -- ---- the table, case by case
 module _ (p : Pair) (F T : List ℕ) where
@@ -78,32 +78,32 @@ module _ (p : Pair) (j c a : ℕ) where
 
   module _ (row : ℕ) where
     pub bit-none : hasBit row a ≡ false → bit-holds row ≡ true
-    bit-none t = or_l _ (not-i t)
+    bit-none t = or-l _ (not-i t)
 
     pub bit-pair : isPair p j c a ≡ true → bit-holds row ≡ true
-    bit-pair t = or_r _ t
+    bit-pair t = or-r _ t
 
     pub bit-stray : hasBit row a ≡ true → isPair p j c a ≡ false → bit-holds row ≡ false
-    bit-stray t s = or-false (not_f t) s
+    bit-stray t s = or-false (not-f t) s
 
 module _ (p : Pair) (F : List ℕ) where
   -- row e holds pairs only
-  abbrev pub row_at : ℕ → Bool
-  row_at e = every 64 (λ a. or (not (hasBit (get_or F e 0) a)) (isPair p (e / 64) (e % 64) a))
+  abbrev pub row-at : ℕ → Bool
+  row-at e = every 64 (λ a. or (not (hasBit (get_or F e 0) a)) (isPair p (e / 64) (e % 64) a))
 
-  pub holds_not : (e : ℕ) → e < 448 → row_at e ≡ false → holdsPairs p F ≡ false
+  pub holds-not : (e : ℕ) → e < 448 → row-at e ≡ false → holdsPairs p F ≡ false
   unfolding holdsPairs
-  holds_not e h t = every-not 448 _ e h t
+  holds-not e h t = every-not 448 _ e h t
 
-  pub holds-all : ((e : ℕ) → e < 448 → row_at e ≡ true) → holdsPairs p F ≡ true
+  pub holds-all : ((e : ℕ) → e < 448 → row-at e ≡ true) → holdsPairs p F ≡ true
   unfolding holdsPairs
-  holds-all h = every_of 448 _ h
+  holds-all h = every-of 448 _ h
 
 -- ---- a row's number
 module _ (n nc e : ℕ) where
-  pub row_within : e / 64 < n → e % 64 < nc → e / 64 * nc + e % 64 ≡ rowNumber n nc e
+  pub row-within : e / 64 < n → e % 64 < nc → e / 64 * nc + e % 64 ≡ rowNumber n nc e
   unfolding rowNumber
-  row_within h k = rw (and_i (lt-ltb _ _ h) (lt-ltb _ _ k))
+  row-within h k = rw (and-i (lt-ltb _ _ h) (lt-ltb _ _ k))
 
   pub row-past : n ≤ e / 64 → n * nc ≡ rowNumber n nc e
   unfolding rowNumber
@@ -111,4 +111,4 @@ module _ (n nc e : ℕ) where
 
   pub row-beside : nc ≤ e % 64 → n * nc ≡ rowNumber n nc e
   unfolding rowNumber
-  row-beside h = let b : and (ltb (e / 64) n) (ltb (e % 64) nc) ≡ false = and_false_r _ (le-ltb _ _ h) in rw b
+  row-beside h = let b : and (ltb (e / 64) n) (ltb (e % 64) nc) ≡ false = and-false-r _ (le-ltb _ _ h) in rw b

@@ -2,7 +2,7 @@
 use Rattle.std.specs.Prelude.{Bool, cond, List, ℕ, zero, suc, ◌+◌, ◌*◌, ◌/◌, ◌%◌, length, get_or, set, replicate, ltb}
 use Rattle.machine.specs.declared.Pair.{Pair}
 use Rattle.machine.specs.Machines.{nA, setsC, pairs}
-use Rattle.machine.specs.Refusals.{and_then, bufferValidity, bufferAfter}
+use Rattle.machine.specs.Refusals.{andThen, bufferValidity, bufferAfter}
 use Rattle.machine.specs.WellFormed.{pairValidity}
 use Rattle.machine.specs.Table.{blank, entries, tableRoom}
 use Rattle.machine.specs.Lines.{passes, passesEach}
@@ -36,4 +36,4 @@ module _ (p : Pair) where
 
 -- the final content of a lent table; one that is short and one of machines that are not well formed are kept
 unfoldable pub liftedTable : Pair → List ℕ → List ℕ
-liftedTable p T = bufferAfter (and_then (bufferValidity tableRoom (length T)) (pairValidity p)) (liftedEntries p) T
+liftedTable p T = bufferAfter (andThen (bufferValidity tableRoom (length T)) (pairValidity p)) (liftedEntries p) T

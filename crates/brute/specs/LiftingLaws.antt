@@ -7,10 +7,10 @@ use Prim.Native.Nat.{◌%◌, ◌*◌, ◌+◌, ◌/◌, ◌<◌, ◌≤◌, suc
 use Rattle.std.proofs.Math.ListN.{get_or-append, drop, length, length-replicate, length-set, replicate}
 use Rattle.std.proofs.lemmas.List.{get_or-replicate}
 use Rattle.std.proofs.Math.Seq.{set-append_left}
-use Rattle.mask.specs.LogicLaws.{cond_cases, refute}
+use Rattle.mask.specs.LogicLaws.{cond-cases, refute}
 use Rattle.mask.specs.Tables.{front}
-use Rattle.mask.specs.TablesLaws.{fill_done}
-use Rattle.machine.specs.EntriesLaws.{each_same, front_same, passes_same}
+use Rattle.mask.specs.TablesLaws.{fill-done}
+use Rattle.machine.specs.EntriesLaws.{each-same, front-same, passes-same}
 use Rattle.machine.specs.Lines.{linesValidity, passes, passesEach}
 use Rattle.machine.specs.LinesLaws.{lines-valid, valid-passes}
 use Rattle.machine.specs.Machines.{nA, nC, pairs, setsA, setsC}
@@ -18,7 +18,7 @@ use Rattle.machine.specs.Refusals.{refused, valid}
 use Rattle.machine.specs.RefusalsLaws.{buffer-kept, buffer-made, buffer-short, buffer-valid, refused-not-answer, then-of, then-refused}
 use Rattle.machine.specs.Table.{blank, entries, tableRoom}
 use Rattle.machine.specs.WellFormed.{pairValidity}
-use Rattle.machine.specs.WellFormedLaws.{WellPair, entries-small, mul-bound, ranks-small, some_pairs, well-valid}
+use Rattle.machine.specs.WellFormedLaws.{WellPair, entries-small, mul-bound, ranks-small, some-pairs, well-valid}
 use Rattle.machine.specs.declared.Pair.{Pair}
 use Rattle.machine.specs.declared.Refusal.{Refusal}
 use Rattle.brute.specs.Lifting.{entryPasses, lifted, liftedAt, liftedEntries, liftedTable, raised, swept}
@@ -40,8 +40,8 @@ pub record Located (p : Pair) (e : ℕ) : Type 0 where
 
 pub located : (p : Pair) → WellPair p → (e : ℕ) → e < entries p → Located p e
 located p w e h = record {
-  in-section = (div-lt_iff_lt-mul (some_pairs p w)).1 h;
-  in-row = (div-lt_iff_lt-mul w.abstraction.states-low).1 (mod-lt e (some_pairs p w));
+  in-section = (div-lt_iff_lt-mul (some-pairs p w)).1 h;
+  in-row = (div-lt_iff_lt-mul w.abstraction.states-low).1 (mod-lt e (some-pairs p w));
   in-column = mod-lt e w.abstraction.states-low;
 }
 
@@ -57,9 +57,9 @@ module _ (p : Pair) (e : ℕ) (T : List ℕ) where
 
 -- ---- all entries
 module _ (p : Pair) (T : List ℕ) where
-  pub swept_none : T ≡ swept p 0 T
+  pub swept-none : T ≡ swept p 0 T
   unfolding swept
-  swept_none = refl
+  swept-none = refl
 
   pub swept-next : {S S' : List ℕ} (e : ℕ) → S ≡ swept p e T → S' ≡ liftedAt p e S → S' ≡ swept p (e + 1) T
   unfolding swept
@@ -96,7 +96,7 @@ cond-front false X Y R = refl
 module _ (p : Pair) where
   lifted-at-length : (e : ℕ) (T : List ℕ) → length (liftedAt p e T) ≡ length T
   unfolding liftedAt
-  lifted-at-length e T = cond_cases (entryPasses p e T) (λ (l : List ℕ). length l ≡ length T) _ _ (λ t. refl) (λ t. length-set T e _)
+  lifted-at-length e T = cond-cases (entryPasses p e T) (λ (l : List ℕ). length l ≡ length T) _ _ (λ t. refl) (λ t. length-set T e _)
 
   swept-length : (n : ℕ) (T : List ℕ) → length (swept p n T) ≡ length T
   unfolding swept
@@ -106,7 +106,7 @@ module _ (p : Pair) where
   lifted-length : (n : ℕ) (T : List ℕ) → length (lifted p n T) ≡ length T
   unfolding lifted
   lifted-length zero T = refl
-  lifted-length (suc n) T = cond_cases (passesEach p T) (λ (l : List ℕ). length l ≡ length T) _ _ (λ t. refl)
+  lifted-length (suc n) T = cond-cases (passesEach p T) (λ (l : List ℕ). length l ≡ length T) _ _ (λ t. refl)
       (λ t. lifted-length n (swept p (entries p) T) ∙ swept-length (entries p) T)
 
   module _ (w : WellPair p) (R : List ℕ) where
@@ -114,7 +114,7 @@ module _ (p : Pair) where
     unfolding entryPasses
     passes-front A h e l =
         let q = located p w e l in
-        passes_same p (A ++ R) A (front_same p A R h) _ _ _ q.in-section q.in-row q.in-column
+        passes-same p (A ++ R) A (front-same p A R h) _ _ _ q.in-section q.in-row q.in-column
 
     lifted-at-front : (A : List ℕ) → entries p ≤ length A → (e : ℕ) → e < entries p → liftedAt p e (A ++ R) ≡ liftedAt p e A ++ R
     unfolding liftedAt
@@ -132,13 +132,13 @@ module _ (p : Pair) where
     unfolding lifted
     lifted-front zero A h = refl
     lifted-front (suc n) A h =
-        rw (each_same p (A ++ R) A (front_same p A R h), swept-front A h (entries p) (omega arith), lifted-front n (swept p (entries p) A) (rw (swept-length (entries p) A) h))
+        rw (each-same p (A ++ R) A (front-same p A R h), swept-front A h (entries p) (omega arith), lifted-front n (swept p (entries p) A) (rw (swept-length (entries p) A) h))
         (cond-front (passesEach p A) A _ R)
 
 -- n zeros at the front of T
 pub zeros-front : (n : ℕ) (T : List ℕ) {l : List ℕ} → l ≡ front n (λ k. 0) T → l ≡ replicate n 0 ++ drop n T
 zeros-front n T e =
-    e ∙ ap (λ (F : List ℕ). F ++ drop n T) (sym (fill_done 0 n (replicate n 0) (λ k. 0) (length-replicate n 0) (λ k h. get_or-replicate n k 0 0 h)))
+    e ∙ ap (λ (F : List ℕ). F ++ drop n T) (sym (fill-done 0 n (replicate n 0) (λ k. 0) (length-replicate n 0) (λ k h. get_or-replicate n k 0 0 h)))
 
 -- ---- the answer, case by case
 module _ (p : Pair) (T : List ℕ) where

@@ -11,8 +11,8 @@ use Rattle.machine.specs.Machines.{fairSet, observation, successors}
 use Rattle.machine.specs.declared.Machine.{Machine}
 
 -- an array has no element past its end
-pub past_end : (l : List ℕ) (n i : ℕ) → length l ≡ n → n ≤ i → 0 ≡ get_or l i 0
-past_end l n i e h = sym (get_or-eq_default l 0 (omega arith))
+pub past-end : (l : List ℕ) (n i : ℕ) → length l ≡ n → n ≤ i → 0 ≡ get_or l i 0
+past-end l n i e h = sym (get_or-eq_default l 0 (omega arith))
 
 -- the fields of a machine, by the names that document 01 has for them
 module _ (m : Machine) where

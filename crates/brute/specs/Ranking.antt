@@ -32,8 +32,8 @@ shownEntry exact e = cond exact e (cond (eqb e blank) blank 0)
 
 module _ (p : Pair) where
   -- the set whose number is x, as a table: 0 for its pairs, and else blank
-  unfoldable pub as_table : ℕ → List ℕ
-  as_table x = numberedTable 1 x (pairs p) (replicate 64 blank)
+  unfoldable pub asTable : ℕ → List ℕ
+  asTable x = numberedTable 1 x (pairs p) (replicate 64 blank)
 
   module _ (T : List ℕ) (j : ℕ) where
     -- "a goal, or steps into level l − 1, or has c outside rig set k and steps into X": level l − 1 has the entries of R that are at
@@ -52,7 +52,7 @@ module _ (p : Pair) where
 
     -- each pair of set number x meets that rule over it
     unfoldable pub closed : List ℕ → ℕ → ℕ → Bool
-    closed R i x = eqb (unkept R i (as_table x)) (pairs p)
+    closed R i x = eqb (unkept R i (asTable x)) (pairs p)
 
     -- the greatest number up to x of such a set
     unfoldable pub largest : List ℕ → ℕ → ℕ → ℕ
@@ -74,14 +74,14 @@ module _ (p : Pair) where
     ranked (suc i) R = let before = ranked i R in marked (pairs p) (largestSet before i (replicate pairRoom 0)) (suc i) before
 
     -- the rank of pair number e: "0 for a goal"
-    unfoldable pub rank_of : List ℕ → ℕ → ℕ
-    rank_of R e = cond (and (matched p (e / nA p) (e % nA p)) (goalLine p T j (e / nA p) (e % nA p))) 0 (get_or R e 0)
+    unfoldable pub rankOf : List ℕ → ℕ → ℕ
+    rankOf R e = cond (and (matched p (e / nA p) (e % nA p)) (goalLine p T j (e / nA p) (e % nA p))) 0 (get_or R e 0)
 
   -- section j of table S has the ranks; or, where they need not be exact, covers the pairs that have one
   unfoldable pub sectionRanked : Bool → List ℕ → List ℕ → ℕ → Bool
   sectionRanked exact T S j =
       let R = ranked T j (setsC p * pairs p) unranked in
-      every (pairs p) (λ e. eqb (shownEntry exact (rank_of T j R e)) (shownEntry exact (get_or S (j * pairs p + e) 0)))
+      every (pairs p) (λ e. eqb (shownEntry exact (rankOf T j R e)) (shownEntry exact (get_or S (j * pairs p + e) 0)))
 
   -- the machines are well formed and each section of table S has the ranks, or covers the pairs that have one
   unfoldable pub tableRanked : Bool → List ℕ → List ℕ → Bool

@@ -7,9 +7,9 @@ use Prim.Native.Nat.{◌%◌, ◌*◌, ◌+◌, ◌-◌, ◌/◌, ◌<◌, ◌�
 use native.Mathlib.Omega.{arith}
 use borrow.Author.Tests.{eq-eqb, le-leb, lt-leb, ne_eqb}
 use Rattle.mask.specs.Bits.{fullMask}
-use Rattle.mask.specs.BoundedLaws.{every-not, every_of, first-is, first-le, first-none}
+use Rattle.mask.specs.BoundedLaws.{every-not, every-of, first-is, first-le, first-none}
 use Rattle.mask.specs.Logic.{and, not}
-use Rattle.mask.specs.LogicLaws.{and-false-l, and_false_r, and_i, and-true-l, not_f, not-i, or-false-l, or_l, or_r}
+use Rattle.mask.specs.LogicLaws.{and-false-l, and-false-r, and-i, and-true-l, not-f, not-i, or-false-l, or-l, or-r}
 use Rattle.mask.specs.Tables.{front}
 use Rattle.mask.specs.FrontLaws.{front-end, front-past, front-skip, front-turn}
 use Rattle.machine.specs.Lines.{goalLine}
@@ -22,7 +22,7 @@ use Rattle.machine.specs.declared.Pair.{Pair}
 use Rattle.machine.specs.declared.Refusal.{Refusal}
 use Rattle.brute.specs.Lines.{inTarget}
 use Rattle.brute.specs.Numbers.{numberedTable}
-use Rattle.brute.specs.Ranking.{as_table, closed, keeps, largest, largestSet, marked, pairRoom, rank_of, ranked, sectionRanked, shownEntry, struck, tableRanked, unkept, unranked}
+use Rattle.brute.specs.Ranking.{asTable, closed, keeps, largest, largestSet, marked, pairRoom, rankOf, ranked, sectionRanked, shownEntry, struck, tableRanked, unkept, unranked}
 use Rattle.brute.specs.declared.lines.Target.TheVariants.{AtMost, NonBlank}
 
 -- ---- one rank is given to a set
@@ -34,17 +34,17 @@ module _ (S : List ℕ) (r : ℕ) (R : List ℕ) where
   module _ {i : ℕ} {l : List ℕ} (d : l ≡ front i mark-at R) (h : i < length R) {v : List ℕ} where
     pub mark-store : v ≡ set l i r → (get_or S i 0 ≡ blank → ⊥) → get_or l i 0 ≡ blank → v ≡ front (i + 1) mark-at R
     mark-store z t e =
-        let b : and (not (eqb (get_or S i 0) blank)) (eqb (get_or R i 0) blank) ≡ true = and_i (not-i (ne_eqb _ _ t)) (eq-eqb _ _ (sym (front-past mark-at R d i (omega arith)) ∙ e)) in
+        let b : and (not (eqb (get_or S i 0) blank)) (eqb (get_or R i 0) blank) ≡ true = and-i (not-i (ne_eqb _ _ t)) (eq-eqb _ _ (sym (front-past mark-at R d i (omega arith)) ∙ e)) in
         z ∙ front-turn mark-at R d h (rw b)
 
     mark-keep : v ≡ l → and (not (eqb (get_or S i 0) blank)) (eqb (get_or R i 0) blank) ≡ false → v ≡ front (i + 1) mark-at R
     mark-keep z b = z ∙ front-skip mark-at R d h (rw b)
 
     pub mark-outside : v ≡ l → get_or S i 0 ≡ blank → v ≡ front (i + 1) mark-at R
-    mark-outside z t = mark-keep z (and-false-l _ (not_f (eq-eqb _ _ t)))
+    mark-outside z t = mark-keep z (and-false-l _ (not-f (eq-eqb _ _ t)))
 
     pub mark-ranked : v ≡ l → (get_or l i 0 ≡ blank → ⊥) → v ≡ front (i + 1) mark-at R
-    mark-ranked z n = mark-keep z (and_false_r _ (ne_eqb _ _ (λ e. n (front-past mark-at R d i (omega arith) ∙ e))))
+    mark-ranked z n = mark-keep z (and-false-r _ (ne_eqb _ _ (λ e. n (front-past mark-at R d i (omega arith) ∙ e))))
 
   pub mark-done : {i n : ℕ} {l : List ℕ} → l ≡ front i mark-at R → i ≡ n → l ≡ marked n S r R
   unfolding marked
@@ -60,20 +60,20 @@ module _ (p : Pair) (T : List ℕ) (j : ℕ) where
     module _ (m : matched p c a ≡ true) where
       pub keeps-goal : goalLine p T j c a ≡ true → keeps p T j R low k S c a ≡ true
       unfolding keeps
-      keeps-goal t = and_i m (or_l _ t)
+      keeps-goal t = and-i m (or-l _ t)
 
       pub keeps-lower : steps p (inTarget p R (AtMost low) 0) c a ≡ true → keeps p T j R low k S c a ≡ true
       unfolding keeps
-      keeps-lower t = and_i m (or_r _ (or_l _ t))
+      keeps-lower t = and-i m (or-r _ (or-l _ t))
 
       module _ (g : goalLine p T j c a ≡ false) (l : steps p (inTarget p R (AtMost low) 0) c a ≡ false) where
         pub keeps-inside : inFairSet p.concrete k c ≡ true → keeps p T j R low k S c a ≡ false
         unfolding keeps
-        keeps-inside t = and-true-l _ m ∙ or-false-l _ g ∙ or-false-l _ l ∙ and-false-l _ (not_f t)
+        keeps-inside t = and-true-l _ m ∙ or-false-l _ g ∙ or-false-l _ l ∙ and-false-l _ (not-f t)
 
-        pub keeps_outside : inFairSet p.concrete k c ≡ false → keeps p T j R low k S c a ≡ steps p (inTarget p S NonBlank 0) c a
+        pub keeps-outside : inFairSet p.concrete k c ≡ false → keeps p T j R low k S c a ≡ steps p (inTarget p S NonBlank 0) c a
         unfolding keeps
-        keeps_outside t = and-true-l _ m ∙ or-false-l _ g ∙ or-false-l _ l ∙ and-true-l _ (not-i t)
+        keeps-outside t = and-true-l _ m ∙ or-false-l _ g ∙ or-false-l _ l ∙ and-true-l _ (not-i t)
 
   -- ---- the sets that meet it, and the largest of them
   module _ (R : List ℕ) (i : ℕ) where
@@ -94,9 +94,9 @@ module _ (p : Pair) (T : List ℕ) (j : ℕ) where
     unkept-le S = first-le (pairs p) _
 
     -- S is set number x as a table
-    pub closed_is : (x : ℕ) {S : List ℕ} {e : ℕ} → S ≡ numberedTable 1 x (pairs p) (replicate 64 blank) → e ≡ unkept p T j R i S → eqb e (pairs p) ≡ closed p T j R i x
-    unfolding closed as_table
-    closed_is x s q = rw (q, s)
+    pub closed-is : (x : ℕ) {S : List ℕ} {e : ℕ} → S ≡ numberedTable 1 x (pairs p) (replicate 64 blank) → e ≡ unkept p T j R i S → eqb e (pairs p) ≡ closed p T j R i x
+    unfolding closed asTable
+    closed-is x s q = rw (q, s)
 
     pub largest-found : (x : ℕ) → 0 < x → closed p T j R i x ≡ true → largest p T j R i x ≡ x
     unfolding largest
@@ -156,17 +156,17 @@ module _ (p : Pair) (T : List ℕ) (j : ℕ) where
 
   -- ---- the rank of a pair
   module _ (R : List ℕ) (e : ℕ) where
-    pub rank-goal : matched p (e / nA p) (e % nA p) ≡ true → goalLine p T j (e / nA p) (e % nA p) ≡ true → rank_of p T j R e ≡ 0
-    unfolding rank_of
-    rank-goal t g = rw (and_i t g)
+    pub rank-goal : matched p (e / nA p) (e % nA p) ≡ true → goalLine p T j (e / nA p) (e % nA p) ≡ true → rankOf p T j R e ≡ 0
+    unfolding rankOf
+    rank-goal t g = rw (and-i t g)
 
-    pub rank-unmatched : matched p (e / nA p) (e % nA p) ≡ false → rank_of p T j R e ≡ get_or R e 0
-    unfolding rank_of
+    pub rank-unmatched : matched p (e / nA p) (e % nA p) ≡ false → rankOf p T j R e ≡ get_or R e 0
+    unfolding rankOf
     rank-unmatched t = let b : and (matched p (e / nA p) (e % nA p)) (goalLine p T j (e / nA p) (e % nA p)) ≡ false = and-false-l _ t in rw b
 
-    pub rank-entry : goalLine p T j (e / nA p) (e % nA p) ≡ false → rank_of p T j R e ≡ get_or R e 0
-    unfolding rank_of
-    rank-entry g = let b : and (matched p (e / nA p) (e % nA p)) (goalLine p T j (e / nA p) (e % nA p)) ≡ false = and_false_r _ g in rw b
+    pub rank-entry : goalLine p T j (e / nA p) (e % nA p) ≡ false → rankOf p T j R e ≡ get_or R e 0
+    unfolding rankOf
+    rank-entry g = let b : and (matched p (e / nA p) (e % nA p)) (goalLine p T j (e / nA p) (e % nA p)) ≡ false = and-false-r _ g in rw b
 
 -- ---- what counts of an entry
 module _ (exact : Bool) (e : ℕ) where
@@ -185,13 +185,13 @@ module _ (exact : Bool) (e : ℕ) where
 -- ---- the ranks of a section
 -- R has the ranks that were found; x and y are what counts of a pair's rank and of its entry
 module _ (p : Pair) (exact : Bool) (T S : List ℕ) (j : ℕ) {R : List ℕ} (r : R ≡ ranked p T j (setsC p * pairs p) unranked) where
-  pub section-not : (e : ℕ) → e < pairs p → (shownEntry exact (rank_of p T j R e) ≡ shownEntry exact (get_or S (j * pairs p + e) 0) → ⊥) → sectionRanked p exact T S j ≡ false
+  pub section-not : (e : ℕ) → e < pairs p → (shownEntry exact (rankOf p T j R e) ≡ shownEntry exact (get_or S (j * pairs p + e) 0) → ⊥) → sectionRanked p exact T S j ≡ false
   unfolding sectionRanked
   section-not e h n = rw (← r) (every-not (pairs p) _ e h (ne_eqb _ _ n))
 
-  pub section-all : ((e : ℕ) → e < pairs p → shownEntry exact (rank_of p T j R e) ≡ shownEntry exact (get_or S (j * pairs p + e) 0)) → sectionRanked p exact T S j ≡ true
+  pub section-all : ((e : ℕ) → e < pairs p → shownEntry exact (rankOf p T j R e) ≡ shownEntry exact (get_or S (j * pairs p + e) 0)) → sectionRanked p exact T S j ≡ true
   unfolding sectionRanked
-  section-all h = rw (← r) (every_of (pairs p) _ (λ e l. eq-eqb _ _ (h e l)))
+  section-all h = rw (← r) (every-of (pairs p) _ (λ e l. eq-eqb _ _ (h e l)))
 
 -- ---- the ranks of a table
 module _ (p : Pair) (exact : Bool) (T S : List ℕ) where
@@ -201,8 +201,8 @@ module _ (p : Pair) (exact : Bool) (T S : List ℕ) where
 
   pub table-not : (j : ℕ) → j < setsA p → sectionRanked p exact T S j ≡ false → tableRanked p exact T S ≡ false
   unfolding tableRanked
-  table-not j h t = and_false_r _ (every-not (setsA p) _ j h t)
+  table-not j h t = and-false-r _ (every-not (setsA p) _ j h t)
 
   pub table-all : wellFormed p ≡ true → ((j : ℕ) → j < setsA p → sectionRanked p exact T S j ≡ true) → tableRanked p exact T S ≡ true
   unfolding tableRanked
-  table-all w h = and_i w (every_of (setsA p) _ h)
+  table-all w h = and-i w (every-of (setsA p) _ h)

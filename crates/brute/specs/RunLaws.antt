@@ -4,7 +4,7 @@ use Rattle.std.proofs.Common.{◌∙◌, arith, le-ltb}
 use Rattle.std.proofs.Math.Path.{refl}
 use Rattle.std.proofs.Math.ListN.{get_or-eq_default}
 use Rattle.mask.specs.Bounded.{first}
-use Rattle.mask.specs.LogicLaws.{and-false-l, and_false_r, and-true-l, refute}
+use Rattle.mask.specs.LogicLaws.{and-false-l, and-false-r, and-true-l, refute}
 use Rattle.machine.specs.Lassos.{Lasso, fromStart, isFair, isLasso, isPlay, lassoLength, moment, given}
 use Rattle.machine.specs.Machines.{starts}
 use Rattle.machine.specs.Player.{missedSet}
@@ -41,7 +41,7 @@ module _ (m : Machine) (stem cycle : List ℕ) where
   module _ (t : isLasso m (given stem cycle) ≡ true) where
     pub play-unfair : isFair m (given stem cycle) ≡ false → isPlay m (given stem cycle) ≡ false
     unfolding isPlay
-    play-unfair u = and_false_r _ (and-false-l _ u)
+    play-unfair u = and-false-r _ (and-false-l _ u)
 
     pub play-start : isFair m (given stem cycle) ≡ true → isPlay m (given stem cycle) ≡ starts m (moment (given stem cycle) 0)
     unfolding isPlay fromStart

@@ -8,17 +8,17 @@ use Rattle.std.proofs.Math.Nat.{le_of_lt}
 use Rattle.std.proofs.Math.Numerals.{add-one}
 use native.Mathlib.Omega.{arith}
 use Rattle.mask.specs.Bounded.{first, some}
-use Rattle.mask.specs.BoundedLaws.{first-before, first-has, first-is, first-none, some-none, some_of}
+use Rattle.mask.specs.BoundedLaws.{first-before, first-has, first-is, first-none, some-none, some-of}
 use Rattle.mask.specs.LogicLaws.{and-false-l, and-true-l, dec}
 use Rattle.machine.specs.Lassos.{Lasso, moment}
 use Rattle.machine.specs.Lines.{nonBlank}
-use Rattle.machine.specs.LinesLaws.{covers_at}
+use Rattle.machine.specs.LinesLaws.{covers-at}
 use Rattle.machine.specs.Machines.{moves, nA, nC, setsA, successors}
-use Rattle.machine.specs.PartnerLaws.{better-in, better-out, least-miss, least_step, limitOf, partner-view}
+use Rattle.machine.specs.PartnerLaws.{better-in, better-out, least-miss, least-step, limitOf, partner-view}
 use Rattle.machine.specs.Player.{Place, earlierRound, follow, lastRound, loopLength, loopStart, placeAt, playValidity, played, samePlace, sectionAfter, startPartner, stemLength, stepTo, playAnswer}
 use Rattle.machine.specs.Refusals.{answer, refused, valid}
 use Rattle.machine.specs.RefusalsLaws.{then-of, then-refused}
-use Rattle.machine.specs.Step.{least, partner, staying, singleStep, state_of}
+use Rattle.machine.specs.Step.{least, partner, staying, singleStep, stateOf}
 use Rattle.machine.specs.Table.{blank, covers, entry, entryIndex}
 use Rattle.machine.specs.PlayerLaws.{section-lt}
 use Rattle.machine.specs.declared.Pair.{Pair}
@@ -41,7 +41,7 @@ module _ (q : ℕ → Bool) (key : ℕ → ℕ) (bound : ℕ) where
     pub scan-take : q n ≡ true → key n < limit → Scanned q key bound (n + 1) (State n) (key n)
     unfolding limitOf
     scan-take t h = record {
-      best-is = rw add-one (least_step q key n best d.best-is t ∙ rw (better-in key bound best n (rw d.limit_is at h)));
+      best-is = rw add-one (least-step q key n best d.best-is t ∙ rw (better-in key bound best n (rw d.limit_is at h)));
       limit_is = refl;
       limit-le = omega (arith, d.limit-le);
     }
@@ -52,7 +52,7 @@ module _ (q : ℕ → Bool) (key : ℕ → ℕ) (bound : ℕ) where
     pub scan-keep : (q n ≡ true → key n ≤ bound) → limit ≤ key n → Scanned q key bound (n + 1) best limit
     scan-keep s h = ⊎_elim
         (λ t. record {
-          best-is = rw add-one (least_step q key n best d.best-is t ∙ rw (better-out key bound best n (rw d.limit_is at h) (s t)));
+          best-is = rw add-one (least-step q key n best d.best-is t ∙ rw (better-out key bound best n (rw d.limit_is at h) (s t)));
           limit_is = d.limit_is;
           limit-le = d.limit-le;
         })
@@ -67,14 +67,14 @@ keyed present entries a e key h k = k ∙ rw h
 module _ (p : Pair) (T : List ℕ) (small : (i : ℕ) → get_or T i 0 ≤ blank) where
   pub entry-below : (j c a : ℕ) → covers p T j c a ≡ true → entry p T j c a < blank
   unfolding entry
-  entry-below j c a t = let h = covers_at p T j c a t in let s = small (entryIndex (nC p) (nA p) j c a) in below _ s h
+  entry-below j c a t = let h = covers-at p T j c a t in let s = small (entryIndex (nC p) (nA p) j c a) in below _ s h
     where
       below : (e : ℕ) → e ≤ blank → (e ≡ blank → ⊥) → e < blank
       below e s h = by_cases (dec_lt e blank) (λ l. l) (λ l. absurd (h (omega arith)))
 
 -- ---- places stay within the abstract machine's 64 states and its sections
-pub state-small : (moves : ℕ) (S : ℕ → Bool) (key : ℕ → ℕ) → state_of (partner moves S key) < 64
-unfolding state_of
+pub state-small : (moves : ℕ) (S : ℕ → Bool) (key : ℕ → ℕ) → stateOf (partner moves S key) < 64
+unfolding stateOf
 state-small moves S key = ⊎_elim (λ v. rw v.1 v.2.candidate.below) (λ v. rw v.0 (omega arith)) (partner-view moves S key)
 
 module _ (p : Pair) (T : List ℕ) where
@@ -82,17 +82,17 @@ module _ (p : Pair) (T : List ℕ) where
     pub state-in : at.state ≤ 64
     pub section-in : at.section < setsA p
 
-  pub step_is : (c d moves : ℕ) (at : Place) (found : Partner) (j : ℕ) → j ≡ sectionAfter p T c at → moves ≡ successors p.abstraction at.state
-      → found ≡ singleStep at.state moves (nonBlank p T j d) (entry p T j d) → record { state = state_of found; section = j } ≡ stepTo p T c at d
+  pub step-is : (c d moves : ℕ) (at : Place) (found : Partner) (j : ℕ) → j ≡ sectionAfter p T c at → moves ≡ successors p.abstraction at.state
+      → found ≡ singleStep at.state moves (nonBlank p T j d) (entry p T j d) → record { state = stateOf found; section = j } ≡ stepTo p T c at d
   unfolding stepTo follow
-  step_is c d moves at found j ej em ef = rw (ef, em, ej)
+  step-is c d moves at found j ej em ef = rw (ef, em, ej)
 
   pub step-placed : (c d : ℕ) (at : Place) → Placed at → Placed (stepTo p T c at d)
   unfolding stepTo follow singleStep
   step-placed c d at h = record { state-in = le_of_lt (state-small _ _ _); section-in = section-lt p T c at h.section-in }
 
   module _ (l : Lasso) where
-    pub place-start : (found : Partner) → found ≡ startPartner p T (moment l 0) → record { state = state_of found; section = 0 } ≡ placeAt p T l 0
+    pub place-start : (found : Partner) → found ≡ startPartner p T (moment l 0) → record { state = stateOf found; section = 0 } ≡ placeAt p T l 0
     unfolding placeAt
     place-start found e = rw e
 
@@ -108,17 +108,17 @@ module _ (p : Pair) (T : List ℕ) where
 -- ---- rounds
 module _ (p : Pair) (T : List ℕ) (l : Lasso) where
   module _ (x y : ℕ) (u v : Place) (eu : u ≡ placeAt p T l (loopStart p T l x)) (ev : v ≡ placeAt p T l (loopStart p T l y)) where
-    pub place_other : (u.state ≡ v.state → ⊥) → samePlace p T l x y ≡ false
+    pub place-other : (u.state ≡ v.state → ⊥) → samePlace p T l x y ≡ false
     unfolding samePlace
-    place_other h = rw (← eu, ← ev) (and-false-l _ (ne_eqb _ _ h))
+    place-other h = rw (← eu, ← ev) (and-false-l _ (ne_eqb _ _ h))
 
-    pub place_same : u.state ≡ v.state → samePlace p T l x y ≡ eqb u.section v.section
+    pub place-same : u.state ≡ v.state → samePlace p T l x y ≡ eqb u.section v.section
     unfolding samePlace
-    place_same h = rw (← eu, ← ev) (and-true-l _ (eq-eqb _ _ h))
+    place-same h = rw (← eu, ← ev) (and-true-l _ (eq-eqb _ _ h))
 
   -- a search among the earlier rounds
   pub round-found : (y : ℕ) → first y (λ x. samePlace p T l x y) < y → some y (λ x. samePlace p T l x y) ≡ true
-  round-found y h = some_of y _ _ h (first-has y _ h)
+  round-found y h = some-of y _ _ h (first-has y _ h)
 
   pub round-none : (y : ℕ) → y ≤ first y (λ x. samePlace p T l x y) → some y (λ x. samePlace p T l x y) ≡ false
   round-none y h = some-none y _ (λ x k. first-before y (λ x. samePlace p T l x y) x (omega arith))
@@ -127,9 +127,9 @@ module _ (p : Pair) (T : List ℕ) (l : Lasso) where
   unfolding lastRound
   last-is y h t b = first-is 449 _ y h t b
 
-  pub last_none : ((k : ℕ) → k < 449 → some k (λ x. samePlace p T l x k) ≡ false) → lastRound p T l ≡ 449
+  pub last-none : ((k : ℕ) → k < 449 → some k (λ x. samePlace p T l x k) ≡ false) → lastRound p T l ≡ 449
   unfolding lastRound
-  last_none b = first-none 449 _ b
+  last-none b = first-none 449 _ b
 
 -- ---- the answer
 module _ (p : Pair) (T : List ℕ) (l : Lasso) where

@@ -7,8 +7,8 @@ use borrow.Author.Tests.{eq-eqb, le-leb, le-ltb, lt-leb, lt-ltb, ne_eqb}
 use Rattle.mask.specs.Bounded.{every, first, someIn}
 use Rattle.mask.specs.BoundedLaws.{everyIn-at, everyIn-of, someIn-none, someIn-of}
 use Rattle.mask.specs.Logic.{not}
-use Rattle.mask.specs.LogicLaws.{and-false-l, and-true-l, clash, not_f, refute}
-use Rattle.machine.specs.Lines.{at_most, goalLine, linesValidity, lower, nonBlank, passes, rankLine}
+use Rattle.mask.specs.LogicLaws.{and-false-l, and-true-l, clash, not-f, refute}
+use Rattle.machine.specs.Lines.{atMost, goalLine, linesValidity, lower, nonBlank, passes, rankLine}
 use Rattle.machine.specs.Machines.{inFairSet, matched, moves, nA, nC, next, pairs, setsA, setsC, starts, successors}
 use Rattle.machine.specs.Ranks.{levelOf, setOf}
 use Rattle.machine.specs.LinesLaws.{outside-bound, passes-covered}
@@ -62,8 +62,8 @@ module _ (p : Pair) (T : List ℕ) where
   unfolding inTarget hit lower
   target-lower j l c a = refl
 
-  pub target-atMost : (j r c a : ℕ) → steps p (inTarget p T (AtMost r) j) c a ≡ steps p (at_most p T j r) c a
-  unfolding inTarget hit at_most
+  pub target-atMost : (j r c a : ℕ) → steps p (inTarget p T (AtMost r) j) c a ≡ steps p (atMost p T j r) c a
+  unfolding inTarget hit atMost
   target-atMost j r c a = refl
 
   pub target-in : (t : Target) (j c a : ℕ) {b : Bool} {e : ℕ} → matched p c a ≡ true → e ≡ entry p T j c a → hit t (setsC p) e ≡ b → inTarget p T t j c a ≡ b
@@ -90,9 +90,9 @@ module _ (p : Pair) where
     unfolding steps moves
     steps-not d h t s = refute _ (λ u. clash s (everyIn-at (nC p) _ _ u d h t))
 
-    pub steps_all : ((d : ℕ) → d < nC p → moves p.concrete c d ≡ true → someIn (nA p) (successors p.abstraction a) (S d) ≡ true) → steps p S c a ≡ true
+    pub steps-all : ((d : ℕ) → d < nC p → moves p.concrete c d ≡ true → someIn (nA p) (successors p.abstraction a) (S d) ≡ true) → steps p S c a ≡ true
     unfolding steps moves
-    steps_all h = everyIn-of (nC p) _ _ h
+    steps-all h = everyIn-of (nC p) _ _ h
 
   module _ (T : List ℕ) (c : ℕ) where
     pub start-some : (a : ℕ) → a < nA p → starts p.abstraction a ≡ true → covers p T 0 c a ≡ true → startCovered p T c ≡ true
@@ -105,7 +105,7 @@ module _ (p : Pair) where
 
     pub covers-not : (j a : ℕ) → entry p T j c a ≡ blank → covers p T j c a ≡ false
     unfolding covers
-    covers-not j a e = not_f (eq-eqb _ _ e)
+    covers-not j a e = not-f (eq-eqb _ _ e)
 
 -- ---- the lines, case by case
 module _ (p : Pair) (T : List ℕ) (j c a : ℕ) where
@@ -141,11 +141,11 @@ module _ (p : Pair) (T : List ℕ) (j c a : ℕ) where
 
 -- ---- the first entry that fails, as nested searches find it
 module _ (p : Pair) (T : List ℕ) (j : ℕ) (ej : j ≡ first (setsA p) (λ j. not (every (nC p) (λ c. every (nA p) (passes p T j c))))) where
-  pub lines_at : (c a : ℕ) → c ≡ first (nC p) (λ c. not (every (nA p) (passes p T j c))) → a ≡ first (nA p) (λ a. not (passes p T j c a))
+  pub lines-at : (c a : ℕ) → c ≡ first (nC p) (λ c. not (every (nA p) (passes p T j c))) → a ≡ first (nA p) (λ a. not (passes p T j c a))
       → j < setsA p → linesValidity p T ≡ refused (refusal failing-entry (j + 1) c a)
   unfolding linesValidity
-  lines_at c a ec ea h = rw (← ej, ← ec, ← ea, lt-ltb j (setsA p) h, add-one)
+  lines-at c a ec ea h = rw (← ej, ← ec, ← ea, lt-ltb j (setsA p) h, add-one)
 
-  pub lines_none : setsA p ≤ j → linesValidity p T ≡ valid
+  pub lines-none : setsA p ≤ j → linesValidity p T ≡ valid
   unfolding linesValidity
-  lines_none h = rw (← ej, le-ltb j (setsA p) h)
+  lines-none h = rw (← ej, le-ltb j (setsA p) h)

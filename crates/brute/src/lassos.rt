@@ -2,7 +2,7 @@
 ghost use Rattle.std.specs.Prelude.{[], ◌≡◌, ◌+◌, length, get_or};
 ghost use Rattle.mask.specs.Bounded.{every, some, first};
 ghost use Rattle.machine.specs.Machines.{observation, sameObservation, inFairSet};
-ghost use Rattle.machine.specs.Refusals.{tested_of};
+ghost use Rattle.machine.specs.Refusals.{testedOf};
 ghost use Rattle.machine.specs.Lassos.{moment, isLasso, isFair, isPlay, given};
 ghost use Rattle.machine.specs.Player.{badStep, missedSet, lassoValidity};
 
@@ -155,7 +155,7 @@ fn first_missed(m: Machine, cycle: &[u8]) -> usize
 
 // 13 to 15 of a lasso; the spot's set is counted from 1.
 pub fn lasso_fits(m: Machine, stem: &[u8], cycle: &[u8]) -> Validity
-    ensures { tested_of result ≡ lassoValidity m (given stem.now cycle.now) }
+    ensures { testedOf result ≡ lassoValidity m (given stem.now cycle.now) }
 {
     if cycle.len() == 0 {
         return Validity::Refused(machine::refuse(machine::BAD_LASSO_LENGTH, 0, 0, 0));

@@ -3,7 +3,7 @@ ghost use Rattle.std.specs.Prelude.{true, ◌≡◌, ◌<◌, ◌≤◌, get_or}
 ghost use Rattle.mask.specs.Bounded.{every, first, someIn};
 ghost use Rattle.mask.specs.Logic.{not};
 ghost use Rattle.machine.specs.Machines.{successors, nC, nA, setsA};
-ghost use Rattle.machine.specs.Refusals.{answer, tested_of};
+ghost use Rattle.machine.specs.Refusals.{answer, testedOf};
 ghost use Rattle.machine.specs.WellFormed.{hasEmptySet, wellFormed};
 ghost use Rattle.machine.specs.Step.{steps};
 ghost use Rattle.machine.specs.Ranks.{levelOf, setOf};
@@ -228,7 +228,7 @@ fn failing_section(p: Pair, table: &[u16]) -> usize
 // 12, with the first entry that fails; the spot's section is counted from 1.
 pub fn lines(p: Pair, table: &[u16]) -> Validity
     requires { wellFormed p ≡ true }
-    ensures { tested_of result ≡ linesValidity p table.now }
+    ensures { testedOf result ≡ linesValidity p table.now }
 {
     let abstraction = p.abstraction;
     let j = failing_section(p, table);

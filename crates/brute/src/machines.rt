@@ -3,7 +3,7 @@ ghost use Rattle.std.specs.Prelude.{◌≡◌, eqb};
 ghost use Rattle.mask.specs.Logic.{not};
 ghost use Rattle.mask.specs.Bounded.{some};
 ghost use Rattle.machine.specs.Machines.{observation, successors, moves, starts, fairSet, inFairSet, matched};
-ghost use Rattle.machine.specs.Refusals.{tested_of};
+ghost use Rattle.machine.specs.Refusals.{testedOf};
 ghost use Rattle.machine.specs.WellFormed.{countsOk, beyond, stateBeyond, setBeyond, beyondCounts, stuckState, emptySet, hasEmptySet, contentValidity, contentTests, pairTests, pairValidity, nonemptyValidity};
 
 use machine::{Machine, Pair, Validity};
@@ -172,7 +172,7 @@ fn stuck(m: Machine) -> usize
 
 // 9, 10 and 11 of machine number i of a pair.
 fn content(i: usize, m: Machine) -> Validity
-    ensures { tested_of result ≡ contentValidity i m }
+    ensures { testedOf result ≡ contentValidity i m }
 {
     if is_past(m) {
         return Validity::Refused(machine::refuse(machine::BEYOND_COUNTS, i, 0, 0));
@@ -222,7 +222,7 @@ pub fn has_empty_set(m: Machine) -> bool
 
 // 9, 10 and 11 of machine number i of a pair, and then 21 if `nonempty`.
 fn content_and_sets(nonempty: bool, i: usize, m: Machine) -> Validity
-    ensures { tested_of result ≡ contentTests nonempty i m }
+    ensures { testedOf result ≡ contentTests nonempty i m }
 {
     let first = content(i, m);
     if let Validity::Refused(r) = first {
@@ -241,7 +241,7 @@ fn content_and_sets(nonempty: bool, i: usize, m: Machine) -> Validity
 
 // 5, then these of the concrete machine and of the abstract one.
 fn tests(nonempty: bool, p: Pair) -> Validity
-    ensures { tested_of result ≡ pairTests nonempty p }
+    ensures { testedOf result ≡ pairTests nonempty p }
 {
     let c = p.concrete;
     let a = p.abstraction;
@@ -260,14 +260,14 @@ fn tests(nonempty: bool, p: Pair) -> Validity
 
 // 5, 9, 10 and 11 of a pair.
 pub fn validity(p: Pair) -> Validity
-    ensures { tested_of result ≡ pairValidity p }
+    ensures { testedOf result ≡ pairValidity p }
 {
     tests(false, p)
 }
 
 // 5, 9, 10, 11 and 21 of a pair.
 pub fn nonempty_validity(p: Pair) -> Validity
-    ensures { tested_of result ≡ nonemptyValidity p }
+    ensures { testedOf result ≡ nonemptyValidity p }
 {
     tests(true, p)
 }

@@ -5,7 +5,7 @@ ghost use Rattle.std.specs.Prelude.{true, ◌≡◌, ◌*◌, ◌<◌, ◌≤◌
 ghost use Rattle.mask.specs.Bits.{fullMask};
 ghost use Rattle.machine.specs.Machines.{pairs, setsA, setsC};
 ghost use Rattle.machine.specs.WellFormed.{wellFormed};
-ghost use Rattle.brute.specs.Ranking.{keeps, unkept, closed, largest, struck, largestSet, marked, ranked, rank_of, shownEntry, sectionRanked, tableRanked};
+ghost use Rattle.brute.specs.Ranking.{keeps, unkept, closed, largest, struck, largestSet, marked, ranked, rankOf, shownEntry, sectionRanked, tableRanked};
 
 use crate::lines::{Target, goal_holds, steps_into, value_at};
 use crate::machines::{in_set, is_matched, validity};
@@ -164,7 +164,7 @@ fn rank_pairs(p: Pair, lifted: &[u16], j: usize, ranks: &mut [u16])
 // The rank of pair number e in section j, 0 for a goal.
 fn rank_of(p: Pair, lifted: &[u16], j: usize, ranks: &[u16], e: usize) -> u16
     requires { (wellFormed p ≡ true) × (j < setsA p) }
-    ensures { result ≡ rank_of p lifted.now j ranks.now e }
+    ensures { result ≡ rankOf p lifted.now j ranks.now e }
 {
     let abstraction = p.abstraction;
     let c = e / abstraction.states;

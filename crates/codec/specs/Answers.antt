@@ -15,8 +15,8 @@ unfoldable pub readBeside : Pair → Reading → Result Taken
 readBeside p (reading.Taken note) = answer (taken p note)
 readBeside p (reading.Refused r) = refused r
 
-unfoldable pub read_of : Show → Result Taken
-read_of s = readBeside s.pair s.reading
+unfoldable pub readOf : Show → Result Taken
+readOf s = readBeside s.pair s.reading
 
 -- the machines that stand beside an answer: "Beside a refusal all machines .. in the result are zero"
 unfoldable pub pairGiven : Result Taken → Pair
@@ -28,9 +28,9 @@ sizedOf (size.Bytes n) = answer n
 sizedOf (size.Refused r) = refused r
 
 -- for C: the length, 0 beside a refusal
-unfoldable pub length_of : Result ℕ → ℕ
-length_of (answer n) = n
-length_of (refused r) = 0
+unfoldable pub lengthOf : Result ℕ → ℕ
+lengthOf (answer n) = n
+lengthOf (refused r) = 0
 
 -- the refusal of a reading; a reading that took its file has none
 unfoldable pub refusalOf : Reading → Refusal

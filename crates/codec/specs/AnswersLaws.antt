@@ -10,15 +10,15 @@ use Rattle.codec.specs.declared.Show.{Show}
 use Rattle.codec.specs.declared.Size.{Size}
 use Rattle.codec.specs.declared.Size.TheVariants as size
 use Rattle.codec.specs.Reader.{Taken, taken, zeroPair}
-use Rattle.codec.specs.Answers.{readBeside, read_of, pairGiven, sizedOf, refusalOf}
+use Rattle.codec.specs.Answers.{readBeside, readOf, pairGiven, sizedOf, refusalOf}
 
--- ---- of a contract `read_of s ≡ a`
-pub read_taken : (s : Show) {a : Result Taken} {note : Bool} → read_of s ≡ a → s.reading ≡ reading.Taken note → a ≡ answer (taken s.pair note)
-unfolding read_of readBeside
-read_taken s e z = sym e ∙ ap (readBeside s.pair) z
+-- ---- of a contract `readOf s ≡ a`
+pub read-taken : (s : Show) {a : Result Taken} {note : Bool} → readOf s ≡ a → s.reading ≡ reading.Taken note → a ≡ answer (taken s.pair note)
+unfolding readOf readBeside
+read-taken s e z = sym e ∙ ap (readBeside s.pair) z
 
-pub read-refused : (s : Show) {a : Result Taken} {r : Refusal} → read_of s ≡ a → s.reading ≡ reading.Refused r → a ≡ refused r
-unfolding read_of readBeside
+pub read-refused : (s : Show) {a : Result Taken} {r : Refusal} → readOf s ≡ a → s.reading ≡ reading.Refused r → a ≡ refused r
+unfolding readOf readBeside
 read-refused s e z = sym e ∙ ap (readBeside s.pair) z
 
 pub refusal-of : {x : Reading} {r : Refusal} → x ≡ reading.Refused r → refusalOf x ≡ r
@@ -49,6 +49,6 @@ pub shown-taken : (p : Pair) {q : Pair} {m n : Bool} {a : Result Taken} → a �
 unfolding readBeside
 shown-taken p e f g = (ap₂ (λ (x : Pair) (y : Bool). answer (taken x y)) f g ∙ sym e, f ∙ sym (pair-taken e))
 
-pub shown-refused : (s : Show) {r : Refusal} {a : Result Taken} → a ≡ refused r → read_of s ≡ refused r → s.pair ≡ zeroPair
-    → (read_of s ≡ a) × (s.pair ≡ pairGiven a)
+pub shown-refused : (s : Show) {r : Refusal} {a : Result Taken} → a ≡ refused r → readOf s ≡ refused r → s.pair ≡ zeroPair
+    → (readOf s ≡ a) × (s.pair ≡ pairGiven a)
 shown-refused s e f g = (f ∙ sym e, g ∙ sym (pair-refused e))

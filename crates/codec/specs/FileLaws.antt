@@ -7,12 +7,12 @@ use Rattle.std.proofs.Math.Dec.{eqb}
 use Rattle.std.proofs.Math.ListN.{get_or, get_or-append}
 use Rattle.std.proofs.lemmas.List.{length-replicate}
 use Rattle.mask.specs.Logic.{not, or}
-use Rattle.mask.specs.LogicLaws.{clash, dec, and-true-l, or-false, not_f}
+use Rattle.mask.specs.LogicLaws.{clash, dec, and-true-l, or-false, not-f}
 use Rattle.mask.specs.BoundedLaws.{every-cong}
 use Rattle.mask.specs.TablesLaws.{table-length}
 use Rattle.machine.specs.declared.Pair.{Pair}
 use Rattle.machine.specs.declared.Refusal.{Refusal}
-use Rattle.machine.specs.Refusals.{Tested, valid, answer, refused, refusal, and_then, bufferAfter, bad-block, bad-padding, misplaced, bufferValidity}
+use Rattle.machine.specs.Refusals.{Tested, valid, answer, refused, refusal, andThen, bufferAfter, bad-block, bad-padding, misplaced, bufferValidity}
 use Rattle.machine.specs.RefusalsLaws.{then-of, then-refused, then-answer, then-cases, given-at, given-refused, RefusesOnly, refuses-none, refuses-at, refuses-cond, refuses-then, refuses-each, buffer-room, buffer-made}
 use Rattle.machine.specs.Machines.{nC, nA, setsC, setsA}
 use Rattle.machine.specs.Table.{entries, tableRoom}
@@ -23,45 +23,45 @@ use Rattle.machine.specs.HiddenLaws.{matched-zero}
 use Rattle.codec.specs.declared.Reading.TheVariants as reading
 use Rattle.codec.specs.declared.Show.{Show}
 use Rattle.codec.specs.Format.{letters, fileLength, fileOf}
-use Rattle.codec.specs.Reader.{inputRoom, taken, numberFound, damagedNumber, blockValidity, headerByte, note_of, headerHolds, countsHold, headerValidity, firstValidity, demanded, laterBlocks, paddingHolds, blocksValidity, payloadOf, machineAt, pair_of, entriesOf, readValidity, readAnswer, readTable, size_of}
+use Rattle.codec.specs.Reader.{inputRoom, taken, numberFound, damagedNumber, blockValidity, headerByte, noteOf, headerHolds, countsHold, headerValidity, firstValidity, demanded, laterBlocks, paddingHolds, blocksValidity, payloadOf, machineAt, pairOf, entriesOf, readValidity, readAnswer, readTable, sizeOf}
 use Rattle.codec.specs.Writer.{fileRoom, writeValidity, writeAnswer, writeBuffer}
-use Rattle.codec.specs.Answers.{read_of}
-use Rattle.codec.specs.AnswersLaws.{read_taken, read-refused}
+use Rattle.codec.specs.Answers.{readOf}
+use Rattle.codec.specs.AnswersLaws.{read-taken, read-refused}
 use Rattle.codec.specs.Statements.{Representable, AreBytes, WriteRead, ReadWrite, TableUnread, IsEarly, FirstBlock, FirstBlockTellsSize, TakenRepresentable, TakenHidden, StoredTest, StoredMatched, TakenFits, WriteAnswers, WrittenReads, ReadWrites, EntriesUnread}
 use Rattle.codec.specs.FormatLaws.{file-length, file-cong}
 use Rattle.codec.specs.WriterLaws as writer
-use Rattle.codec.specs.WriterLaws.{with-room, same_tests, answer-valid}
+use Rattle.codec.specs.WriterLaws.{with-room, same-tests, answer-valid}
 use Rattle.codec.specs.ReaderLaws.{block-refuses, check-same, found-same, first-valid, blocks-valid, blocks-then, few-blocks, table-after, wrong-length-is}
 use Rattle.codec.specs.PayloadLaws.{machine-representable}
 use Rattle.codec.specs.WriteReadLaws as written
-use Rattle.codec.specs.ReadWriteLaws.{whole, joined_bytes, file-same}
+use Rattle.codec.specs.ReadWriteLaws.{whole, joined-bytes, file-same}
 
 -- what is written reads back
-pub write_read : WriteRead
-write_read = written.write_read
+pub write-read : WriteRead
+write-read = written.write-read
 
 -- ---- what was taken
-taken_is : {p q : Pair} {m n : Bool} → taken p m ≡ taken q n → (p ≡ q) × (m ≡ n)
-taken_is e = (cc, cc)
+taken-is : {p q : Pair} {m n : Bool} → taken p m ≡ taken q n → (p ≡ q) × (m ≡ n)
+taken-is e = (cc, cc)
 
 -- what a reading that took a file tells
 pub record Was (f lent : List ℕ) (p : Pair) (note : Bool) : Type 0 where
   pub room : tableRoom ≤ length lent
   pub start : firstValidity f ≡ valid
   pub blocks : blocksValidity f ≡ valid
-  pub machines : pairValidity (pair_of f) ≡ valid
-  pub pair_is : pair_of f ≡ p
-  pub note-is : note_of f ≡ note
+  pub machines : pairValidity (pairOf f) ≡ valid
+  pub pair_is : pairOf f ≡ p
+  pub note-is : noteOf f ≡ note
   pub table_is : readTable f lent ≡ cond note (entriesOf f ++ drop (length (entriesOf f)) lent) lent
 
 pub was-taken : (f lent : List ℕ) (p : Pair) (note : Bool) → readAnswer f lent ≡ answer (taken p note) → Was f lent p note
 unfolding readAnswer readValidity readTable
 was-taken f lent p note e =
-    let t = given-at (readValidity f (length lent)) (taken (pair_of f) (note_of f)) e in
+    let t = given-at (readValidity f (length lent)) (taken (pairOf f) (noteOf f)) e in
     let a = then-answer (bufferValidity tableRoom (length lent)) _ t.0 in
     let b = then-answer (firstValidity f) _ a.1 in
     let c = then-answer (blocksValidity f) _ b.1 in
-    let same = taken_is t.1 in
+    let same = taken-is t.1 in
     record {
       room = buffer-room tableRoom (length lent) a.0;
       start = b.0;
@@ -84,20 +84,20 @@ was-long {f} {lent} {p} {note} w = omega (arith, w.room, ap length w.table_is, k
 pub was-well : {f lent : List ℕ} {p : Pair} {note : Bool} → Was f lent p note → wellFormed p ≡ true
 was-well {f} {lent} {p} {note} w = valid-is-well p (ap pairValidity (sym w.pair_is) ∙ w.machines)
 
-entries-length : (f : List ℕ) → length (entriesOf f) ≡ entries (pair_of f)
+entries-length : (f : List ℕ) → length (entriesOf f) ≡ entries (pairOf f)
 unfolding entriesOf
-entries-length f = table-length (entries (pair_of f)) _
+entries-length f = table-length (entries (pairOf f)) _
 
 header-bytes : (f : List ℕ) → AreBytes f → (k : ℕ) → headerByte f k < 256
 unfolding headerByte
 header-bytes f b k = b (2 + k)
 
 pub taken-representable : TakenRepresentable
-unfolding pair_of
+unfolding pairOf
 taken-representable f lent p note b e =
     let w = was-taken f lent p note e in
     let Q = payloadOf f (length f / 512) in
-    let bytes = joined_bytes f (length f / 512) b in
+    let bytes = joined-bytes f (length f / 512) b in
     subst Representable w.pair_is (record {
       concrete = machine-representable Q 16 (headerByte f 4) (headerByte f 6) bytes;
       abstraction = machine-representable Q (24 + 9 * headerByte f 4 + 8 * headerByte f 6) (headerByte f 5) (headerByte f 7) bytes;
@@ -106,7 +106,7 @@ taken-representable f lent p note b e =
 
 -- ---- the hidden mask
 pub taken-hidden : TakenHidden
-unfolding pair_of
+unfolding pairOf
 taken-hidden f lent p note e = sym (ap (λ (q : Pair). q.hidden) (was-taken f lent p note e).pair_is)
 
 pub stored-test : StoredTest
@@ -124,7 +124,7 @@ taken-fits f lent p note e =
     (small, take_all inputRoom f (omega arith))
 
 -- ---- the machines, by what was read into a table of the room that the reader asks for
-module _ (f : List ℕ) (s : Show) (read : read_of s ≡ readAnswer f (replicate tableRoom 0)) where
+module _ (f : List ℕ) (s : Show) (read : readOf s ≡ readAnswer f (replicate tableRoom 0)) where
   room : length (replicate {A = ℕ} tableRoom 0) ≡ tableRoom
   room = length-replicate {A = ℕ} tableRoom 0
 
@@ -135,13 +135,13 @@ module _ (f : List ℕ) (s : Show) (read : read_of s ≡ readAnswer f (replicate
   module _ {note : Bool} (e : s.reading ≡ reading.Taken note) where
     pub machines-taken : readValidity f tableRoom ≡ valid
     unfolding readAnswer
-    machines-taken = ap (readValidity f) (sym room) ∙ (given-at _ _ (read_taken s read e)).0
+    machines-taken = ap (readValidity f) (sym room) ∙ (given-at _ _ (read-taken s read e)).0
 
-    pub machines-pair : s.pair ≡ pair_of f
-    machines-pair = sym (was-taken f (replicate tableRoom 0) s.pair note (read_taken s read e)).pair_is
+    pub machines-pair : s.pair ≡ pairOf f
+    machines-pair = sym (was-taken f (replicate tableRoom 0) s.pair note (read-taken s read e)).pair_is
 
 -- machines that were read are well formed
-pub read-well : (f : List ℕ) (room : ℕ) → readValidity f room ≡ valid → pairValidity (pair_of f) ≡ valid
+pub read-well : (f : List ℕ) (room : ℕ) → readValidity f room ≡ valid → pairValidity (pairOf f) ≡ valid
 unfolding readValidity
 read-well f room e = (then-answer _ _ (then-answer _ _ (then-answer _ _ e).1).1).1
 
@@ -173,7 +173,7 @@ written-reads p note T buffer lent n r b room e =
     let file = fileOf p note T in
     let cut : take n (writeBuffer p note T buffer) ≡ file =
     ap (take n) t.1 ∙ take_at file (drop (length file) buffer) n (file-length p note T ∙ sym t.2) in
-    rw cut (write_read p note T lent r (valid-is-well p (nonempty-at p t.0).0) b room)
+    rw cut (write-read p note T lent r (valid-is-well p (nonempty-at p t.0).0) b room)
 
 pub read-writes : ReadWrites
 unfolding writeAnswer writeBuffer
@@ -190,8 +190,8 @@ read-writes f lent buffer p note b room e nonempty =
 pub entries-unread : EntriesUnread
 unfolding writeAnswer writeBuffer
 entries-unread p note T U buffer h k same =
-    let v = same_tests p (length T) (length U) (length buffer) h k in (
-      ap (λ (t : Tested). and_then t (answer (fileLength (nC p) (nA p) (setsC p) (setsA p) note))) v,
+    let v = same-tests p (length T) (length U) (length buffer) h k in (
+      ap (λ (t : Tested). andThen t (answer (fileLength (nC p) (nA p) (setsC p) (setsA p) note))) v,
       ap₂ (λ (t : Tested) (f : List ℕ). bufferAfter t f buffer) v (file-cong p note T U (λ t. same)),
     )
 
@@ -209,39 +209,39 @@ module _ (f g : List ℕ) (same : (i : ℕ) → i < 512 → get_or f i 0 ≡ get
   unfolding headerByte
   header-same k h = same (2 + k) (omega arith)
 
-  note-same : note_of f ≡ note_of g
-  unfolding note_of
+  note-same : noteOf f ≡ noteOf g
+  unfolding noteOf
   note-same = rw (header-same 9 (omega arith))
 
-  block_same : blockValidity f 0 ≡ blockValidity g 0
+  block-same : blockValidity f 0 ≡ blockValidity g 0
   unfolding blockValidity
-  block_same =
+  block-same =
       let bytes : (j : ℕ) → j < 512 → get_or f (512 * 0 + j) 0 ≡ get_or g (512 * 0 + j) 0 = λ j h. same (512 * 0 + j) (omega arith) in
       rw (check-same f g 0 0 bytes, found-same f g 0 0 bytes)
 
-  holds_same : headerHolds f ≡ headerHolds g
+  holds-same : headerHolds f ≡ headerHolds g
   unfolding headerHolds
-  holds_same = rw (
+  holds-same = rw (
     every-cong 4 _ _ (λ i h. ap (λ (x : ℕ). eqb x (get_or letters i 0)) (header-same i (omega arith))),
     header-same 9 (omega arith),
     every-cong 6 _ _ (λ i h. ap (λ (x : ℕ). eqb x 0) (header-same (10 + i) (omega arith))),
   )
 
-  counts_same : countsHold f ≡ countsHold g
+  counts-same : countsHold f ≡ countsHold g
   unfolding countsHold
-  counts_same = rw (header-same 4 (omega arith), header-same 5 (omega arith), header-same 6 (omega arith), header-same 7 (omega arith))
+  counts-same = rw (header-same 4 (omega arith), header-same 5 (omega arith), header-same 6 (omega arith), header-same 7 (omega arith))
 
   pub first-same : ragged f ≡ ragged g → firstValidity f ≡ firstValidity g
   unfolding firstValidity headerValidity
-  first-same e = rw (e, block_same, holds_same, counts_same)
+  first-same e = rw (e, block-same, holds-same, counts-same)
 
   pub demanded-same : demanded f ≡ demanded g
   unfolding demanded
   demanded-same = rw (header-same 4 (omega arith), header-same 5 (omega arith), header-same 6 (omega arith), header-same 7 (omega arith), note-same)
 
-  size_same : ragged f ≡ ragged g → size_of f ≡ size_of g
-  unfolding size_of
-  size_same e = ap₂ (λ (v : Tested) (n : ℕ). and_then v (answer n)) (first-same e) demanded-same
+  size-same : ragged f ≡ ragged g → sizeOf f ≡ sizeOf g
+  unfolding sizeOf
+  size-same e = ap₂ (λ (v : Tested) (n : ℕ). andThen v (answer n)) (first-same e) demanded-same
 
   -- of two files of one length
   ragged-same : length f ≡ length g → ragged f ≡ ragged g
@@ -255,9 +255,9 @@ late-at : (number x y z : ℕ) → 7 ≤ number → (number ≡ misplaced → 0 
 late-at number x y z h m early = ⊎_elim (λ q. omega arith) (λ q. omega (arith, m q.0, q.1)) early
 
 -- the counts were tested before
-pair-late : (f : List ℕ) → countsHold f ≡ true → RefusesOnly IsLate (pairValidity (pair_of f))
-unfolding pair_of machineAt countsHold
-pair-late f t = pair-refuses IsLate (λ number x y z l h. late-at number x y z (omega arith) (λ e. absurd (omega arith))) (pair_of f) (λ e. absurd (clash e t))
+pair-late : (f : List ℕ) → countsHold f ≡ true → RefusesOnly IsLate (pairValidity (pairOf f))
+unfolding pairOf machineAt countsHold
+pair-late f t = pair-refuses IsLate (λ number x y z l h. late-at number x y z (omega arith) (λ e. absurd (omega arith))) (pairOf f) (λ e. absurd (clash e t))
 
 -- and so was the length
 blocks-late : (f : List ℕ) → length f ≡ demanded f → RefusesOnly IsLate (blocksValidity f)
@@ -286,29 +286,29 @@ early-same f g len long start r early e = ⊎_elim
     first : firstValidity f ≡ firstValidity g
     first = first-same f g same (ragged-same f g same long)
 
-    later : firstValidity f ≡ valid → and_then (blocksValidity f) (pairValidity (pair_of f)) ≡ refused r → and_then (blocksValidity g) (pairValidity (pair_of g)) ≡ refused r
+    later : firstValidity f ≡ valid → andThen (blocksValidity f) (pairValidity (pairOf f)) ≡ refused r → andThen (blocksValidity g) (pairValidity (pairOf g)) ≡ refused r
     later v e = ⊎_elim
-        (λ t. absurd (refuses-then IsLate (blocksValidity f) (pairValidity (pair_of f)) (blocks-late f (eqb-true _ _ t)) (λ _. pair-late f (first-valid f v).counts) r e early))
+        (λ t. absurd (refuses-then IsLate (blocksValidity f) (pairValidity (pairOf f)) (blocks-late f (eqb-true _ _ t)) (λ _. pair-late f (first-valid f v).counts) r e early))
         (λ t. let wrong : length f ≡ demanded f → ⊥ = eqb-false _ _ t in
         then-refused _ _ _ (wrong-length-is g (λ q. wrong (long ∙ q ∙ sym (demanded-same f g same)))) ∙ sym (then-refused _ _ _ (wrong-length-is f wrong)) ∙ e)
         (dec (eqb (length f) (demanded f)))
 
-pub first_block : FirstBlock
+pub first-block : FirstBlock
 unfolding readAnswer
-first_block f g lent long start =
+first-block f g lent long start =
     let same = same_start f g start in (
       first-same f g same (ragged-same f g same long),
       demanded-same f g same,
-      size_same f g same (ragged-same f g same long),
+      size-same f g same (ragged-same f g same long),
       λ r early e. then-refused _ _ r (early-same f g (length lent) long start r early (given-refused _ _ e)),
     )
 
 -- whole blocks are not stopped by refusal 2
 pub not-ragged : (f : List ℕ) → (length f ≡ 0 → ⊥) → length f % 512 ≡ 0 → ragged f ≡ false
-not-ragged f some whole = or-false (ne_eqb (length f) 0 some) (not_f (eq-eqb (length f % 512) 0 whole))
+not-ragged f some whole = or-false (ne_eqb (length f) 0 some) (not-f (eq-eqb (length f % 512) 0 whole))
 
 pub first-block-tells-size : FirstBlockTellsSize
 first-block-tells-size f some whole =
     let one : length (take 512 f) ≡ 512 = length-take-le 512 f (omega arith) in
-    size_same (take 512 f) f (same_start (take 512 f) f (take_all 512 (take 512 f) (omega arith)))
+    size-same (take 512 f) f (same_start (take 512 f) f (take_all 512 (take 512 f) (omega arith)))
     (not-ragged (take 512 f) (omega arith) (omega arith) ∙ sym (not-ragged f some whole))

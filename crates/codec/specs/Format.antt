@@ -8,16 +8,16 @@ use Rattle.machine.specs.Machines.{observation, successors, fairSet, nC, nA, set
 use Rattle.machine.specs.Table.{entries}
 
 -- "All numbers have their low byte first." byte i of a number
-unfoldable pub byte_of : ℕ → ℕ → ℕ
-byte_of x i = x / 256 ^ i % 256
+unfoldable pub byteOf : ℕ → ℕ → ℕ
+byteOf x i = x / 256 ^ i % 256
 
 -- the n bytes of a number
-unfoldable pub bytes_of : ℕ → ℕ → List ℕ
-bytes_of n x = table n (byte_of x)
+unfoldable pub bytesOf : ℕ → ℕ → List ℕ
+bytesOf n x = table n (byteOf x)
 
 -- count numbers of n bytes each
 unfoldable pub numbers : ℕ → ℕ → (ℕ → ℕ) → List ℕ
-numbers n count f = table (n * count) (λ i. byte_of (f (i / n)) (i % n))
+numbers n count f = table (n * count) (λ i. byteOf (f (i / n)) (i % n))
 
 -- the number whose n bytes stand at a place of a list
 unfoldable pub numberAt : ℕ → List ℕ → ℕ → ℕ
@@ -34,7 +34,7 @@ header p note = letters ++ (nC p ∷ nA p ∷ setsC p ∷ setsA p ∷ p.hidden �
 
 -- "observations, start mask, successor masks, sets"
 unfoldable pub machineBytes : Machine → List ℕ
-machineBytes m = table m.states (observation m) ++ (bytes_of 8 m.start ++ (numbers 8 m.states (successors m) ++ numbers 8 m.sets (fairSet m)))
+machineBytes m = table m.states (observation m) ++ (bytesOf 8 m.start ++ (numbers 8 m.states (successors m) ++ numbers 8 m.sets (fairSet m)))
 
 -- "the table, n × P entries, if there is one"
 unfoldable pub tableBytes : Pair → Bool → List ℕ → List ℕ
@@ -69,11 +69,11 @@ checkAt s at = sum 510 (λ i. suc i * get_or s (at + i) 0) % 65521
 
 -- "Bytes 0 and 1 are the block's number from 0, bytes 2 to 509 payload": "zeros to the block's end"
 unfoldable pub blockFront : List ℕ → ℕ → List ℕ
-blockFront Q i = bytes_of 2 i ++ table 508 (λ k. get_or Q (508 * i + k) 0)
+blockFront Q i = bytesOf 2 i ++ table 508 (λ k. get_or Q (508 * i + k) 0)
 
 -- "bytes 510 and 511 the check"
 unfoldable pub block : List ℕ → ℕ → List ℕ
-block Q i = let front = blockFront Q i in front ++ bytes_of 2 (checkAt front 0)
+block Q i = let front = blockFront Q i in front ++ bytesOf 2 (checkAt front 0)
 
 -- "Blocks of 512 bytes": a payload as a file
 unfoldable pub blocked : List ℕ → List ℕ

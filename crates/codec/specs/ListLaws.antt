@@ -9,17 +9,17 @@ use Rattle.std.proofs.Math.ListN.{get_or-append, get_or-eq_default}
 use Rattle.std.proofs.Math.Seq.{paste, paste-suc}
 use Rattle.std.proofs.lemmas.List.Edits.{sets, sets-eq}
 use Rattle.mask.specs.Tables.{table}
-use Rattle.mask.specs.TablesLaws.{table-length, table-cong, table-append, table-snoc, fill_done}
+use Rattle.mask.specs.TablesLaws.{table-length, table-cong, table-append, table-snoc, fill-done}
 
 module _ {A : Type 0} where
   -- a list is the table of its own elements
-  pub table_of : (d : A) (n : ℕ) (l : List A) → length l ≡ n → table n (λ i. get_or l i d) ≡ l
-  table_of d n l e = sym (fill_done d n l (λ i. get_or l i d) e (λ i h. refl))
+  pub table-of : (d : A) (n : ℕ) (l : List A) → length l ≡ n → table n (λ i. get_or l i d) ≡ l
+  table-of d n l e = sym (fill-done d n l (λ i. get_or l i d) e (λ i h. refl))
 
   -- a table of rows of n, one row more
-  pub rows_more : (n count : ℕ) (f : ℕ → ℕ → A) → 0 < n
+  pub rows-more : (n count : ℕ) (f : ℕ → ℕ → A) → 0 < n
       → table (n * (count + 1)) (λ i. f (i / n) (i % n)) ≡ table (n * count) (λ i. f (i / n) (i % n)) ++ table n (f count)
-  rows_more n count f h =
+  rows-more n count f h =
       let e : n * (count + 1) ≡ n * count + n = omega arith in
       rw e (table-append (n * count) n (λ i. f (i / n) (i % n))
       ∙ ap (λ (l : List A). table (n * count) (λ i. f (i / n) (i % n)) ++ l) (table-cong n _ (f count) row))
@@ -36,8 +36,8 @@ module _ {A : Type 0} where
       ap (λ (k : ℕ). sets (sets (set l i x) (suc i) xs) k ys) (add-suc i (length xs) ∙ sym (suc-add i (length xs))) ∙ sets-append xs ys (set l i x) (suc i)
 
   -- the same, for the lists that two runs leave, where the second place is known by an equation
-  pub sets_then : (l s t xs ys : List A) (i n j : ℕ) → s ≡ sets l i xs → t ≡ sets s j ys → length xs ≡ n → j ≡ i + n → t ≡ sets l i (xs ++ ys)
-  sets_then l s t xs ys i n j e f g h = f ∙ rw (e, h, ← g) (sets-append xs ys l i)
+  pub sets-then : (l s t xs ys : List A) (i n j : ℕ) → s ≡ sets l i xs → t ≡ sets s j ys → length xs ≡ n → j ≡ i + n → t ≡ sets l i (xs ++ ys)
+  sets-then l s t xs ys i n j e f g h = f ∙ rw (e, h, ← g) (sets-append xs ys l i)
 
   -- no store
   pub sets-none : (l : List A) (at : ℕ) (f : ℕ → A) → l ≡ sets l at (table 0 f)
@@ -47,7 +47,7 @@ module _ {A : Type 0} where
   -- one store more
   pub sets-snoc : (l s : List A) (at i : ℕ) (f : ℕ → A) → s ≡ sets l at (table i f) → set s (at + i) (f i) ≡ sets l at (table (i + 1) f)
   sets-snoc l s at i f e =
-      sets_then l s (set s (at + i) (f i)) (table i f) (f i ∷ []) at i (at + i) e refl (table-length i f) refl ∙ ap (sets l at) (sym (table-snoc i f))
+      sets-then l s (set s (at + i) (f i)) (table i f) (f i ∷ []) at i (at + i) e refl (table-length i f) refl ∙ ap (sets l at) (sym (table-snoc i f))
 
   -- what a run has stored
   pub sets-at : (l vs : List A) (at i : ℕ) (d : A) → at + length vs ≤ length l → i < length vs → get_or (sets l at vs) (at + i) d ≡ get_or vs i d
@@ -68,7 +68,7 @@ module _ {A : Type 0} where
 pub part-table : (s : List ℕ) (at m : ℕ) (g : ℕ → ℕ) → at + m ≤ length s → ((k : ℕ) → k < m → get_or s (at + k) 0 ≡ g k) → take m (drop at s) ≡ table m g
 part-table s at m g h e =
     let long : length (take m (drop at s)) ≡ m = length-take-le m (drop at s) (rw (length-drop at s) (omega arith)) in
-    fill_done 0 m (take m (drop at s)) g long (λ k q. get_or-take m (drop at s) k 0 q ∙ get_or-drop at s k 0 ∙ e k q)
+    fill-done 0 m (take m (drop at s)) g long (λ k q. get_or-take m (drop at s) k 0 q ∙ get_or-drop at s k 0 ∙ e k q)
 
 -- one store of a copy
 pub copy-turn : (d s l : List ℕ) (from to i : ℕ) → to + i < length d → from + i < length s → l ≡ paste d to (drop from s) i

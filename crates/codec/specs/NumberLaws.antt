@@ -5,8 +5,8 @@ use Rattle.std.proofs.Math.Nat.{pow-succ', div-div-eq-div-mul}
 use Rattle.std.proofs.Math.Arith.{digits_lt, digits_div, digits_mod}
 use Rattle.mask.specs.Bounded.{sum}
 use Rattle.mask.specs.BoundedLaws.{sum-cong}
-use Rattle.mask.specs.TablesLaws.{table_at, table-length}
-use Rattle.codec.specs.Format.{byte_of, bytes_of, numbers, numberAt}
+use Rattle.mask.specs.TablesLaws.{table-at, table-length}
+use Rattle.codec.specs.Format.{byteOf, bytesOf, numbers, numberAt}
 
 -- ---- sums
 pub sum-front : (n : ℕ) (f : ℕ → ℕ) → sum (suc n) f ≡ f 0 + sum n (λ i. f (suc i))
@@ -25,16 +25,16 @@ bytes-mono m zero h = let e : m ≡ 0 = omega arith in rw e (omega arith)
 bytes-mono m (suc n) h =
     ⊎_elim (λ e. rw e (omega arith)) (λ l. rw (pow-suc 256 n) (omega (arith, bytes-mono m n (omega arith)))) (eq-or-lt_of_le h)
 
-pub byte-lt : (x i : ℕ) → byte_of x i < 256
-unfolding byte_of
+pub byte-lt : (x i : ℕ) → byteOf x i < 256
+unfolding byteOf
 byte-lt x i = omega arith
 
-pub byte-zero : (x : ℕ) → byte_of x 0 ≡ x % 256
-unfolding byte_of
+pub byte-zero : (x : ℕ) → byteOf x 0 ≡ x % 256
+unfolding byteOf
 byte-zero x = ap (λ (y : ℕ). y % 256) (div-one x)
 
-pub byte-suc : (x i : ℕ) → byte_of x (suc i) ≡ byte_of (x / 256) i
-unfolding byte_of
+pub byte-suc : (x i : ℕ) → byteOf x (suc i) ≡ byteOf (x / 256) i
+unfolding byteOf
 byte-suc x i = ap (λ (y : ℕ). y % 256) (ap (λ (y : ℕ). x / y) (pow-succ' 256 i) ∙ sym (div-div-eq-div-mul x 256 (256 ^ i)))
 
 -- ---- a number of n digits g 0, g 1, .. to the base 256
@@ -58,22 +58,22 @@ whole-lt (suc n) g h =
     rw (whole-front n g, pow-suc 256 n) (omega (arith, whole-lt n (λ i. g (suc i)) (λ i l. h (suc i) (omega arith)), h 0 (omega arith)))
 
 -- the digits of a number made of digits
-whole-byte : (n : ℕ) (g : ℕ → ℕ) → ((i : ℕ) → i < n → g i < 256) → (i : ℕ) → i < n → byte_of (whole n g) i ≡ g i
+whole-byte : (n : ℕ) (g : ℕ → ℕ) → ((i : ℕ) → i < n → g i < 256) → (i : ℕ) → i < n → byteOf (whole n g) i ≡ g i
 whole-byte zero g h i l = absurd (omega arith)
 whole-byte (suc n) g h zero l =
-    ap (λ (x : ℕ). byte_of x 0) (whole-front n g) ∙ byte-zero _ ∙ omega (arith, h 0 (omega arith))
+    ap (λ (x : ℕ). byteOf x 0) (whole-front n g) ∙ byte-zero _ ∙ omega (arith, h 0 (omega arith))
 whole-byte (suc n) g h (suc i) l =
     let e : (g 0 + whole n (λ i. g (suc i)) * 256) / 256 ≡ whole n (λ i. g (suc i)) = omega (arith, h 0 (omega arith)) in
-    ap (λ (x : ℕ). byte_of x (suc i)) (whole-front n g) ∙ byte-suc _ i ∙ ap (λ (x : ℕ). byte_of x i) e
+    ap (λ (x : ℕ). byteOf x (suc i)) (whole-front n g) ∙ byte-suc _ i ∙ ap (λ (x : ℕ). byteOf x i) e
     ∙ whole-byte n (λ i. g (suc i)) (λ i l. h (suc i) (omega arith)) i (omega arith)
 
 -- the number made of a number's digits
-whole_of : (n x : ℕ) (g : ℕ → ℕ) → x < 256 ^ n → ((i : ℕ) → i < n → g i ≡ byte_of x i) → whole n g ≡ x
-whole_of zero x g h e = whole-none g ∙ omega arith
-whole_of (suc n) x g h e =
+whole-of : (n x : ℕ) (g : ℕ → ℕ) → x < 256 ^ n → ((i : ℕ) → i < n → g i ≡ byteOf x i) → whole n g ≡ x
+whole-of zero x g h e = whole-none g ∙ omega arith
+whole-of (suc n) x g h e =
     let k : x < 256 ^ n * 256 = rw pow-suc at h in
     let upper : whole n (λ i. g (suc i)) ≡ x / 256 =
-    whole_of n (x / 256) (λ i. g (suc i)) (omega arith) (λ i l. e (suc i) (omega arith) ∙ byte-suc x i) in
+    whole-of n (x / 256) (λ i. g (suc i)) (omega arith) (λ i l. e (suc i) (omega arith) ∙ byte-suc x i) in
     whole-front n g ∙ omega (arith, upper, e 0 (omega arith), byte-zero x)
 
 -- ---- the number at a place of a list
@@ -109,48 +109,48 @@ pub number-cong : (n : ℕ) (s t : List ℕ) (at to : ℕ) → ((i : ℕ) → i 
 unfolding numberAt
 number-cong n s t at to h = sum-cong n _ _ (λ i l. ap (λ (x : ℕ). x * 256 ^ i) (h i l))
 
-pub number_lt : (n : ℕ) (s : List ℕ) (at : ℕ) → ((i : ℕ) → i < n → get_or s (at + i) 0 < 256) → numberAt n s at < 256 ^ n
+pub number-lt : (n : ℕ) (s : List ℕ) (at : ℕ) → ((i : ℕ) → i < n → get_or s (at + i) 0 < 256) → numberAt n s at < 256 ^ n
 unfolding numberAt
-number_lt n s at h = whole-lt n (λ i. get_or s (at + i) 0) h
+number-lt n s at h = whole-lt n (λ i. get_or s (at + i) 0) h
 
 -- the bytes of the number that stands somewhere are those that stand there
 pub number-byte : (n : ℕ) (s : List ℕ) (at : ℕ) → ((i : ℕ) → i < n → get_or s (at + i) 0 < 256) → (i : ℕ) → i < n
-    → byte_of (numberAt n s at) i ≡ get_or s (at + i) 0
+    → byteOf (numberAt n s at) i ≡ get_or s (at + i) 0
 unfolding numberAt
 number-byte n s at h i l = whole-byte n (λ i. get_or s (at + i) 0) h i l
 
 -- where the bytes of x stand, x stands
-pub number_is : (n x : ℕ) (s : List ℕ) (at : ℕ) → x < 256 ^ n → ((i : ℕ) → i < n → get_or s (at + i) 0 ≡ byte_of x i) → numberAt n s at ≡ x
+pub number-is : (n x : ℕ) (s : List ℕ) (at : ℕ) → x < 256 ^ n → ((i : ℕ) → i < n → get_or s (at + i) 0 ≡ byteOf x i) → numberAt n s at ≡ x
 unfolding numberAt
-number_is n x s at h e = whole_of n x (λ i. get_or s (at + i) 0) h e
+number-is n x s at h e = whole-of n x (λ i. get_or s (at + i) 0) h e
 
 -- ---- written numbers
-pub bytes-length : (n x : ℕ) → length (bytes_of n x) ≡ n
-unfolding bytes_of
-bytes-length n x = table-length n (byte_of x)
+pub bytes-length : (n x : ℕ) → length (bytesOf n x) ≡ n
+unfolding bytesOf
+bytes-length n x = table-length n (byteOf x)
 
-pub bytes-at : (n x i : ℕ) → i < n → get_or (bytes_of n x) i 0 ≡ byte_of x i
-unfolding bytes_of
-bytes-at n x i l = table_at n (byte_of x) i 0 l
+pub bytes-at : (n x i : ℕ) → i < n → get_or (bytesOf n x) i 0 ≡ byteOf x i
+unfolding bytesOf
+bytes-at n x i l = table-at n (byteOf x) i 0 l
 
 pub numbers-length : (n count : ℕ) (f : ℕ → ℕ) → length (numbers n count f) ≡ n * count
 unfolding numbers
 numbers-length n count f = table-length (n * count) _
 
 -- byte i of number k
-pub numbers-at : (n count : ℕ) (f : ℕ → ℕ) (k i : ℕ) → k < count → i < n → get_or (numbers n count f) (n * k + i) 0 ≡ byte_of (f k) i
+pub numbers-at : (n count : ℕ) (f : ℕ → ℕ) (k i : ℕ) → k < count → i < n → get_or (numbers n count f) (n * k + i) 0 ≡ byteOf (f k) i
 unfolding numbers
 numbers-at n count f k i h l =
     let place : n * k + i ≡ k * n + i = ap (λ (x : ℕ). x + i) (mul_comm n k) in
     let q : (n * k + i) / n ≡ k = ap (λ (x : ℕ). x / n) place ∙ digits_div k l in
     let r : (n * k + i) % n ≡ i = ap (λ (x : ℕ). x % n) place ∙ digits_mod k l in
     let within : n * k + i < n * count = rw (place, mul_comm n count) (digits_lt h l) in
-    table_at (n * count) _ (n * k + i) 0 within ∙ ap₂ (λ (x y : ℕ). byte_of (f x) y) q r
+    table-at (n * count) _ (n * k + i) 0 within ∙ ap₂ (λ (x y : ℕ). byteOf (f x) y) q r
 
 -- where written numbers stand, number k stands n * k further
 pub numbers-number : (n count : ℕ) (f : ℕ → ℕ) (s : List ℕ) (at k : ℕ) → k < count → f k < 256 ^ n
     → ((i : ℕ) → i < n * count → get_or s (at + i) 0 ≡ get_or (numbers n count f) i 0) → numberAt n s (at + n * k) ≡ f k
 numbers-number n count f s at k h small same =
-    number_is n (f k) s (at + n * k) small
+    number-is n (f k) s (at + n * k) small
     (λ i l. ap (λ (x : ℕ). get_or s x 0) (add_assoc at (n * k) i)
     ∙ same (n * k + i) (rw (mul_comm n k, mul_comm n count) (digits_lt h l)) ∙ numbers-at n count f k i h l)

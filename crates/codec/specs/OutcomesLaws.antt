@@ -5,7 +5,7 @@ use Rattle.std.proofs.Common.{sym, ◌∙◌, arith}
 use Rattle.machine.specs.declared.Pair.{Pair}
 use Rattle.machine.specs.declared.Refusal.{Refusal}
 use Rattle.machine.specs.Refusals.{Result, answer, refused, passOn}
-use Rattle.machine.specs.RefusalsLaws.{pass_of, pass-refused, pass-answer}
+use Rattle.machine.specs.RefusalsLaws.{pass-of, pass-refused, pass-answer}
 use Rattle.machine.specs.Table.{tableRoom}
 use Rattle.codec.specs.Reader.{Taken, taken, readAnswer}
 use Rattle.codec.specs.Outcomes.{says, noTable, tableIn, outcomeAfter, outcomeBy}
@@ -21,13 +21,13 @@ module _ {A : Type 0} (call : Pair → List ℕ → Result A) (f : List ℕ) whe
 
   pub outcome-bare : {p : Pair} → read ≡ answer (taken p false) → outcomeBy call f ≡ answer noTable
   unfolding outcomeBy outcomeAfter
-  outcome-bare e = pass_of _ _ e
+  outcome-bare e = pass-of _ _ e
 
   -- T is the table that was left, and v what the call says of it
   pub outcome-taken : {p : Pair} {T : List ℕ} {v : Result A} → read ≡ answer (taken p true) → T ≡ tableIn f → v ≡ call p T
       → outcomeBy call f ≡ passOn v (λ a. answer (says a))
   unfolding outcomeBy outcomeAfter
-  outcome-taken {p} e left said = pass_of _ _ e ∙ ap (λ (v : Result A). passOn v (λ a. answer (says a))) (sym (said ∙ ap (call p) left))
+  outcome-taken {p} e left said = pass-of _ _ e ∙ ap (λ (v : Result A). passOn v (λ a. answer (says a))) (sym (said ∙ ap (call p) left))
 
   -- ---- back: what is said is what the call says of the machines and the table that were read
   said-after : (t : Taken) {a : A} → outcomeAfter call (tableIn f) t ≡ answer (says a) → (p : Pair) × (t ≡ taken p true) × (call p (tableIn f) ≡ answer a)
@@ -45,17 +45,17 @@ module _ {A : Type 0} (call : Pair → List ℕ → Result A) (f : List ℕ) whe
       let s = said-after q.0 q.2 in
       (s.0, q.1 ∙ ap answer s.1, s.2)
 
-  none_after : (t : Taken) → outcomeAfter call (tableIn f) t ≡ answer noTable → (p : Pair) × (t ≡ taken p false)
+  none-after : (t : Taken) → outcomeAfter call (tableIn f) t ≡ answer noTable → (p : Pair) × (t ≡ taken p false)
   unfolding outcomeAfter
-  none_after (taken p true) e =
+  none-after (taken p true) e =
       let q = pass-answer (call p (tableIn f)) _ e in
       let z : ◌≡◌ {A = ℕ} 0 1 = cc in
       absurd (omega arith)
-  none_after (taken p false) e = (p, refl)
+  none-after (taken p false) e = (p, refl)
 
   pub outcome-none : outcomeBy call f ≡ answer noTable → (p : Pair) × (read ≡ answer (taken p false))
   unfolding outcomeBy
   outcome-none e =
       let q = pass-answer read _ e in
-      let s = none_after q.0 q.2 in
+      let s = none-after q.0 q.2 in
       (s.0, q.1 ∙ ap answer s.1)

@@ -6,18 +6,18 @@ use Rattle.std.proofs.Common.{sym, ◌∙◌, add_assoc, mul_comm, mod-lt, div-l
 use Rattle.std.proofs.Math.Nat.{div-add-mod}
 use Rattle.std.proofs.Math.Decide.{dec_lt}
 use Rattle.std.proofs.Math.ListN.{get_or, get_or-append}
-use Rattle.mask.specs.LogicLaws.{cond_cases}
+use Rattle.mask.specs.LogicLaws.{cond-cases}
 use Rattle.mask.specs.Tables.{table}
-use Rattle.mask.specs.TablesLaws.{table-length, table_at, table-past}
+use Rattle.mask.specs.TablesLaws.{table-length, table-at, table-past}
 use Rattle.machine.specs.declared.Machine.{Machine}
 use Rattle.machine.specs.declared.Pair.{Pair}
 use Rattle.machine.specs.Machines.{observation, successors, fairSet, nC, nA, setsC, setsA}
 use Rattle.machine.specs.WellFormedLaws.{WellMachine}
-use Rattle.codec.specs.Format.{byte_of, bytes_of, numbers, numberAt, header, machineBytes, tableBytes, payload, payloadLength}
+use Rattle.codec.specs.Format.{byteOf, bytesOf, numbers, numberAt, header, machineBytes, tableBytes, payload, payloadLength}
 use Rattle.codec.specs.Reader.{machineAt}
 use Rattle.codec.specs.Statements.{RepresentableMachine, AreBytes}
 use Rattle.codec.specs.FormatLaws.{header-length, machine-length}
-use Rattle.codec.specs.NumberLaws.{bytes-length, bytes-at, numbers-length, numbers-at, number_is, number_lt, number-byte, numbers-number}
+use Rattle.codec.specs.NumberLaws.{bytes-length, bytes-at, numbers-length, numbers-at, number-is, number-lt, number-byte, numbers-number}
 
 -- l stands in P from a place on
 abbrev pub Stands : List ℕ → List ℕ → ℕ → Type 0
@@ -49,13 +49,13 @@ pub stands-nil : (P : List ℕ) (at : ℕ) → Stands [] P at
 stands-nil P at i h = absurd (omega arith)
 
 -- ---- numbers
-pub number-stands : (n x : ℕ) (P : List ℕ) (at : ℕ) → x < 256 ^ n → Stands (bytes_of n x) P at → numberAt n P at ≡ x
-number-stands n x P at h s = number_is n x P at h (λ i l. s i (omega (arith, bytes-length n x)) ∙ bytes-at n x i l)
+pub number-stands : (n x : ℕ) (P : List ℕ) (at : ℕ) → x < 256 ^ n → Stands (bytesOf n x) P at → numberAt n P at ≡ x
+number-stands n x P at h s = number-is n x P at h (λ i l. s i (omega (arith, bytes-length n x)) ∙ bytes-at n x i l)
 
-pub bytes-stand : (n x : ℕ) (P : List ℕ) (at : ℕ) → AreBytes P → x ≡ numberAt n P at → Stands (bytes_of n x) P at
+pub bytes-stand : (n x : ℕ) (P : List ℕ) (at : ℕ) → AreBytes P → x ≡ numberAt n P at → Stands (bytesOf n x) P at
 bytes-stand n x P at b e i h =
     let l : i < n = omega (arith, bytes-length n x) in
-    sym (number-byte n P at (λ i l. b (at + i)) i l) ∙ ap (λ (y : ℕ). byte_of y i) (sym e) ∙ sym (bytes-at n x i l)
+    sym (number-byte n P at (λ i l. b (at + i)) i l) ∙ ap (λ (y : ℕ). byteOf y i) (sym e) ∙ sym (bytes-at n x i l)
 
 pub numbers-read : (n count : ℕ) (f : ℕ → ℕ) (P : List ℕ) (at k : ℕ) → k < count → f k < 256 ^ n → Stands (numbers n count f) P at → numberAt n P (at + n * k) ≡ f k
 numbers-read n count f P at k h small s = numbers-number n count f P at k h small (λ i l. s i (omega (arith, numbers-length n count f)))
@@ -69,15 +69,15 @@ numbers-stand n count f P at pos b e i h =
     let q : i / n < count = (div-lt_iff_lt-mul pos).1 below in
     ap (λ (x : ℕ). get_or P x 0) (ap (λ (x : ℕ). at + x) (sym place) ∙ sym (add_assoc at (n * (i / n)) (i % n)))
     ∙ sym (number-byte n P (at + n * (i / n)) (λ j l. b (at + n * (i / n) + j)) (i % n) r)
-    ∙ ap (λ (x : ℕ). byte_of x (i % n)) (sym (e (i / n) q))
+    ∙ ap (λ (x : ℕ). byteOf x (i % n)) (sym (e (i / n) q))
     ∙ sym (numbers-at n count f (i / n) (i % n) q r) ∙ ap (λ (x : ℕ). get_or (numbers n count f) x 0) place
 
 -- ---- tables
 pub table-stands : (n : ℕ) (f : ℕ → ℕ) (P : List ℕ) (at : ℕ) → ((i : ℕ) → i < n → f i ≡ get_or P (at + i) 0) → Stands (table n f) P at
-table-stands n f P at e i h = let l : i < n = omega (arith, table-length n f) in sym (e i l) ∙ sym (table_at n f i 0 l)
+table-stands n f P at e i h = let l : i < n = omega (arith, table-length n f) in sym (e i l) ∙ sym (table-at n f i 0 l)
 
 pub table-read : (n : ℕ) (f : ℕ → ℕ) (P : List ℕ) (at i : ℕ) → i < n → Stands (table n f) P at → get_or P (at + i) 0 ≡ f i
-table-read n f P at i h s = s i (omega (arith, table-length n f)) ∙ table_at n f i 0 h
+table-read n f P at i h s = s i (omega (arith, table-length n f)) ∙ table-at n f i 0 h
 
 -- ---- machines
 machine-ext : (a b : Machine) → a.states ≡ b.states → a.sets ≡ b.sets → a.start ≡ b.start → a.observations ≡ b.observations
@@ -91,7 +91,7 @@ filled : (n count : ℕ) (l : List ℕ) (f : ℕ → ℕ) → length l ≡ n →
 filled n count l f e h z =
     ext_get_or 0 (table n (λ i. cond (ltb i count) (f i) 0)) l (table-length n _ ∙ sym e)
     (λ i q. let k : i < n = omega (arith, table-length n (λ i. cond (ltb i count) (f i) 0)) in
-    table_at n _ i 0 k ∙ by_cases (dec_lt i count)
+    table-at n _ i 0 k ∙ by_cases (dec_lt i count)
     (λ b. ap (λ (t : Bool). cond t (f i) 0) (lt-ltb i count b) ∙ h i b k)
     (λ b. ap (λ (t : Bool). cond t (f i) 0) (le-ltb i count (omega arith)) ∙ sym (z i (omega arith) k)))
 
@@ -102,7 +102,7 @@ module _ (limit : ℕ) (m : Machine) (P : List ℕ) (at : ℕ) (r : Representabl
   machine-reads =
       let N = m.states in
       let O = table N (λ i. get_or m.observations i 0) in
-      let S = bytes_of 8 m.start in
+      let S = bytesOf 8 m.start in
       let M = numbers 8 N (λ i. get_or m.successors i 0) in
       let F = numbers 8 m.sets (λ i. get_or m.fairness i 0) in
       let behind-observations = stands-back O (S ++ (M ++ F)) P at N (table-length N _) s in
@@ -118,8 +118,8 @@ module _ (limit : ℕ) (m : Machine) (P : List ℕ) (at : ℕ) (r : Representabl
       (filled 8 m.sets m.fairness (λ i. numberAt 8 P (at + 9 * N + 8 + 8 * i)) r.fairness-length
       (λ i b h. ap (numberAt 8 P) (omega arith) ∙ numbers-read 8 m.sets (λ i. get_or m.fairness i 0) P (at + N + 8 + 8 * N) i b (r.fairness-mask i) sets) w.fairness-zero)
 
-filled_at : (n count : ℕ) (f : ℕ → ℕ) (i : ℕ) → i < count → i < n → get_or (table n (λ s. cond (ltb s count) (f s) 0)) i 0 ≡ f i
-filled_at n count f i h k = table_at n _ i 0 k ∙ ap (λ (t : Bool). cond t (f i) 0) (lt-ltb i count h)
+filled-at : (n count : ℕ) (f : ℕ → ℕ) (i : ℕ) → i < count → i < n → get_or (table n (λ s. cond (ltb s count) (f s) 0)) i 0 ≡ f i
+filled-at n count f i h k = table-at n _ i 0 k ∙ ap (λ (t : Bool). cond t (f i) 0) (lt-ltb i count h)
 
 -- and the bytes of a machine that was read stand where it was read
 pub machine-stands : (P : List ℕ) (at N sets : ℕ) → N ≤ 64 → sets ≤ 8 → AreBytes P → Stands (machineBytes (machineAt P at N sets)) P at
@@ -127,28 +127,28 @@ unfolding machineBytes machineAt observation successors fairSet
 machine-stands P at N sets small few b =
     let m = machineAt P at N sets in
     let O = table N (λ i. get_or m.observations i 0) in
-    let S = bytes_of 8 m.start in
+    let S = bytesOf 8 m.start in
     let M = numbers 8 N (λ i. get_or m.successors i 0) in
     let F = numbers 8 sets (λ i. get_or m.fairness i 0) in
     stands-join O (S ++ (M ++ F)) P at N (table-length N _)
-    (table-stands N (λ i. get_or m.observations i 0) P at (λ i h. filled_at 64 N (λ s. get_or P (at + s) 0) i h (omega arith)))
+    (table-stands N (λ i. get_or m.observations i 0) P at (λ i h. filled-at 64 N (λ s. get_or P (at + s) 0) i h (omega arith)))
     (stands-join S (M ++ F) P (at + N) 8 (bytes-length 8 m.start)
     (bytes-stand 8 m.start P (at + N) b refl)
     (stands-join M F P (at + N + 8) (8 * N) (numbers-length 8 N _)
-    (numbers-stand 8 N (λ i. get_or m.successors i 0) P (at + N + 8) (omega arith) b (λ i h. filled_at 64 N (λ s. numberAt 8 P (at + N + 8 + 8 * s)) i h (omega arith)))
+    (numbers-stand 8 N (λ i. get_or m.successors i 0) P (at + N + 8) (omega arith) b (λ i h. filled-at 64 N (λ s. numberAt 8 P (at + N + 8 + 8 * s)) i h (omega arith)))
     (numbers-stand 8 sets (λ i. get_or m.fairness i 0) P (at + N + 8 + 8 * N) (omega arith) b
-    (λ i h. filled_at 8 sets (λ k. numberAt 8 P (at + 9 * N + 8 + 8 * k)) i h (omega arith) ∙ ap (numberAt 8 P) (omega arith)))))
+    (λ i h. filled-at 8 sets (λ k. numberAt 8 P (at + 9 * N + 8 + 8 * k)) i h (omega arith) ∙ ap (numberAt 8 P) (omega arith)))))
 
 -- a machine that was read from bytes is such as the code's types have
 filled-lt : (n count bound : ℕ) (f : ℕ → ℕ) → 0 < bound → ((i : ℕ) → f i < bound) → (i : ℕ) → get_or (table n (λ s. cond (ltb s count) (f s) 0)) i 0 < bound
 filled-lt n count bound f pos h i = by_cases (dec_lt i n)
-    (λ k. rw (table_at n (λ s. cond (ltb s count) (f s) 0) i 0 k) (cond_cases (ltb i count) (λ x. x < bound) (f i) 0 (λ t. h i) (λ t. pos)))
+    (λ k. rw (table-at n (λ s. cond (ltb s count) (f s) 0) i 0 k) (cond-cases (ltb i count) (λ x. x < bound) (f i) 0 (λ t. h i) (λ t. pos)))
     (λ k. rw (table-past n (λ s. cond (ltb s count) (f s) 0) i 0 (omega arith)) pos)
 
 pub machine-representable : (P : List ℕ) (at N sets : ℕ) → AreBytes P → RepresentableMachine (machineAt P at N sets)
 unfolding machineAt
 machine-representable P at N sets b =
-    let mask : (k : ℕ) → numberAt 8 P k < 2 ^ 64 = λ k. number_lt 8 P k (λ i l. b (k + i)) in
+    let mask : (k : ℕ) → numberAt 8 P k < 2 ^ 64 = λ k. number-lt 8 P k (λ i l. b (k + i)) in
     record {
       observations-length = table-length 64 _;
       successors-length = table-length 64 _;
@@ -160,8 +160,8 @@ machine-representable P at N sets b =
     }
 
 -- ---- payloads
-pub stands_at : (l P : List ℕ) (i j : ℕ) → i ≡ j → Stands l P i → Stands l P j
-stands_at l P i j e s k h = ap (λ (x : ℕ). get_or P (x + k) 0) (sym e) ∙ s k h
+pub stands-at : (l P : List ℕ) (i j : ℕ) → i ≡ j → Stands l P i → Stands l P j
+stands-at l P i j e s k h = ap (λ (x : ℕ). get_or P (x + k) 0) (sym e) ∙ s k h
 
 -- the parts of a payload, each at its place
 pub record Parts (p : Pair) (note : Bool) (T P : List ℕ) : Type 0 where
@@ -178,19 +178,19 @@ module _ (p : Pair) (note : Bool) (T P : List ℕ) where
       let C = machineBytes p.concrete in
       let A = machineBytes p.abstraction in
       let E = tableBytes p note T in
-      let behind-header = stands_at (C ++ (A ++ E)) P (0 + 16) 16 refl (stands-back H (C ++ (A ++ E)) P 0 16 (header-length p note) s) in
+      let behind-header = stands-at (C ++ (A ++ E)) P (0 + 16) 16 refl (stands-back H (C ++ (A ++ E)) P 0 16 (header-length p note) s) in
       let behind-rig = stands-back C (A ++ E) P 16 (9 * nC p + 8 * setsC p + 8) (machine-length p.concrete) behind-header in
       let behind-score = stands-back A E P (16 + (9 * nC p + 8 * setsC p + 8)) (9 * nA p + 8 * setsA p + 8) (machine-length p.abstraction) behind-rig in
       record {
         head = stands-front H (C ++ (A ++ E)) P 0 s;
         concrete = stands-front C (A ++ E) P 16 behind-header;
-        abstraction = stands_at A P _ _ (omega arith) (stands-front A E P (16 + (9 * nC p + 8 * setsC p + 8)) behind-rig);
-        entries = stands_at E P _ _ (omega arith) behind-score;
+        abstraction = stands-at A P _ _ (omega arith) (stands-front A E P (16 + (9 * nC p + 8 * setsC p + 8)) behind-rig);
+        entries = stands-at E P _ _ (omega arith) behind-score;
       }
 
-  pub parts_join : Parts p note T P → Stands (payload p note T) P 0
+  pub parts-join : Parts p note T P → Stands (payload p note T) P 0
   unfolding payload payloadLength
-  parts_join r =
+  parts-join r =
       let H = header p note in
       let C = machineBytes p.concrete in
       let A = machineBytes p.abstraction in
@@ -198,4 +198,4 @@ module _ (p : Pair) (note : Bool) (T P : List ℕ) where
       stands-join H (C ++ (A ++ E)) P 0 16 (header-length p note) r.head
       (stands-join C (A ++ E) P 16 (9 * nC p + 8 * setsC p + 8) (machine-length p.concrete) r.concrete
       (stands-join A E P (16 + (9 * nC p + 8 * setsC p + 8)) (9 * nA p + 8 * setsA p + 8) (machine-length p.abstraction)
-      (stands_at A P _ _ (omega arith) r.abstraction) (stands_at E P _ _ (omega arith) r.entries)))
+      (stands-at A P _ _ (omega arith) r.abstraction) (stands-at E P _ _ (omega arith) r.entries)))

@@ -4,17 +4,17 @@ use Rattle.std.specs.Prelude.{Bool, List, ◌≡◌, refl, ℕ, zero, suc, ◌+�
 use Rattle.std.proofs.Common.{sym, ap, ◌∙◌, eq-eqb, ne_eqb}
 use native.Mathlib.Omega.{arith}
 use Rattle.mask.specs.Logic.{not}
-use Rattle.mask.specs.TablesLaws.{table-length, table_at}
+use Rattle.mask.specs.TablesLaws.{table-length, table-at}
 use Rattle.machine.specs.declared.Pair.{Pair}
 use Rattle.machine.specs.declared.Refusal.{Refusal}
-use Rattle.machine.specs.Refusals.{valid, answer, refused, and_then, refusal, each, short-buffer, bad-length, bad-first-block, bad-header, bad-counts, wrong-length, bad-block, bad-padding, misplaced, bufferValidity}
+use Rattle.machine.specs.Refusals.{valid, answer, refused, andThen, refusal, each, short-buffer, bad-length, bad-first-block, bad-header, bad-counts, wrong-length, bad-block, bad-padding, misplaced, bufferValidity}
 use Rattle.machine.specs.RefusalsLaws.{then-of, then-refused, given-refused, each-valid, each-refused, RefusesOnly, refuses-none, refuses-at, refuses-cond, refuses-then, refuses-each}
 use Rattle.machine.specs.Table.{tableRoom}
 use Rattle.machine.specs.WellFormedLaws.{pair-refuses}
-use Rattle.codec.specs.Reader.{taken, numberFound, damagedNumber, BlockHolds, blockValidity, firstValidity, demanded, laterBlocks, paddingHolds, blocksValidity, pair_of, readValidity, readAnswer}
+use Rattle.codec.specs.Reader.{taken, numberFound, damagedNumber, BlockHolds, blockValidity, firstValidity, demanded, laterBlocks, paddingHolds, blocksValidity, pairOf, readValidity, readAnswer}
 use Rattle.codec.specs.Statements.{Told, BlocksTold, FirstTold, LowestTold, AlikeBefore, MisplacedTold, DamagedTold, joined, JoinedTold, exchanged, ExchangedTold, overwritten, OverwrittenTold}
 use Rattle.codec.specs.ReaderLaws.{block-damaged, block-misplaced, block-valid, block-refuses, check-same, found-same, first-valid, first-refuses, blocks-then, later-hold, tests-refused}
-use Rattle.codec.specs.ReadWriteLaws.{Whole, whole, all_blocks}
+use Rattle.codec.specs.ReadWriteLaws.{Whole, whole, all-blocks}
 use Rattle.codec.specs.FileLaws.{Was, was-taken, ragged, not-ragged, first-same, demanded-same}
 
 -- ---- what 3, 7 and 19 mean
@@ -68,7 +68,7 @@ blocks-told f lent r e =
     (first-refuses (Told f) f (other bad-length (λ e. omega arith) (λ e. omega arith) (λ e. omega arith)) (first-block-told f)
     (other bad-header (λ e. omega arith) (λ e. omega arith) (λ e. omega arith)) (other bad-counts (λ e. omega arith) (λ e. omega arith) (λ e. omega arith)))
     (λ v. refuses-then (Told f) (blocksValidity f) _ (later-blocks-told f (first-valid f v).block)
-    (λ u. pair-refuses (Told f) (λ number x y z low high. told-other f number x y z (λ e. omega arith) (λ e. omega arith) (λ e. omega arith)) (pair_of f)
+    (λ u. pair-refuses (Told f) (λ number x y z low high. told-other f number x y z (λ e. omega arith) (λ e. omega arith) (λ e. omega arith)) (pairOf f)
     (λ w. other bad-counts (λ e. omega arith) (λ e. omega arith) (λ e. omega arith)))))
     r (given-refused _ _ e)
   where
@@ -76,7 +76,7 @@ blocks-told f lent r e =
     other number = told-other f number 0 0 0
 
 -- ---- and back
-reads : (f lent : List ℕ) {r : Refusal} → tableRoom ≤ length lent → and_then (firstValidity f) (blocksValidity f) ≡ refused r → readAnswer f lent ≡ refused r
+reads : (f lent : List ℕ) {r : Refusal} → tableRoom ≤ length lent → andThen (firstValidity f) (blocksValidity f) ≡ refused r → readAnswer f lent ≡ refused r
 unfolding readAnswer
 reads f lent {r} room e = then-refused _ _ r (tests-refused f (length lent) room r e)
 
@@ -112,7 +112,7 @@ refused-at f g lent p note i e alike r stops = cases i alike stops
     hold : (i : ℕ) → AlikeBefore i f g → (k : ℕ) → k < i → BlockHolds g k
     hold i alike k l =
         let at : (j : ℕ) → j < 512 → get_or g (512 * k + j) 0 ≡ get_or f (512 * k + j) 0 = λ j q. alike.before (512 * k + j) (omega arith) in
-        let b = all_blocks f rest k (omega (arith, alike.inside)) in
+        let b = all-blocks f rest k (omega (arith, alike.inside)) in
         (check-same g f k k at ∙ b.0, found-same g f k k at ∙ b.1)
 
     cases : (i : ℕ) → AlikeBefore i f g → blockValidity g i ≡ refused r → readAnswer g lent ≡ refused r
@@ -132,33 +132,33 @@ damaged-told f g lent p note i e alike t = refused-at f g lent p note i e alike 
 
 -- ---- blocks joined anew
 module _ (f : List ℕ) (from : ℕ → ℕ) where
-  joined_length : length (joined from f) ≡ length f
+  joined-length : length (joined from f) ≡ length f
   unfolding joined
-  joined_length = table-length (length f) _
+  joined-length = table-length (length f) _
 
   -- place k has the bytes of block `from k`
-  joined_at : (k j : ℕ) → k < length f / 512 → j < 512 → get_or (joined from f) (512 * k + j) 0 ≡ get_or f (512 * from k + j) 0
+  joined-at : (k j : ℕ) → k < length f / 512 → j < 512 → get_or (joined from f) (512 * k + j) 0 ≡ get_or f (512 * from k + j) 0
   unfolding joined
-  joined_at k j h l =
+  joined-at k j h l =
       let block : (512 * k + j) / 512 ≡ k = omega arith in
       let byte : (512 * k + j) % 512 ≡ j = omega arith in
-      table_at (length f) _ (512 * k + j) 0 (omega arith) ∙ rw (block, byte)
+      table-at (length f) _ (512 * k + j) 0 (omega arith) ∙ rw (block, byte)
 
 pub joined-told : JoinedTold
 joined-told f lent p note from i e h in-file same other =
     let w = was-taken f lent p note e in
-    let b = all_blocks f (whole f w.start w.blocks) (from i) in-file in
+    let b = all-blocks f (whole f w.start w.blocks) (from i) in-file in
     let g = joined from f in
-    let at : (j : ℕ) → j < 512 → get_or g (512 * i + j) 0 ≡ get_or f (512 * from i + j) 0 = λ j l. joined_at f from i j h l in
+    let at : (j : ℕ) → j < 512 → get_or g (512 * i + j) 0 ≡ get_or f (512 * from i + j) 0 = λ j l. joined-at f from i j h l in
     let found : numberFound g i ≡ from i = found-same g f i (from i) at ∙ b.1 in
-    misplaced-told f g lent p note i e (record { long = joined_length f from; inside = h; before = before }) (check-same g f i (from i) at ∙ b.0) (λ z. other (sym found ∙ z))
+    misplaced-told f g lent p note i e (record { long = joined-length f from; inside = h; before = before }) (check-same g f i (from i) at ∙ b.0) (λ z. other (sym found ∙ z))
     ∙ ap (λ (n : ℕ). refused (refusal misplaced i n 0)) found
   where
     before : (k : ℕ) → k < 512 * i → get_or (joined from f) k 0 ≡ get_or f k 0
     before k l =
         let split : 512 * (k / 512) + k % 512 ≡ k = omega arith in
         let stays : from (k / 512) ≡ k / 512 = same (k / 512) (omega arith) in
-        ap (λ (x : ℕ). get_or (joined from f) x 0) (sym split) ∙ joined_at f from (k / 512) (k % 512) (omega arith) (omega arith)
+        ap (λ (x : ℕ). get_or (joined from f) x 0) (sym split) ∙ joined-at f from (k / 512) (k % 512) (omega arith) (omega arith)
         ∙ ap (λ (x : ℕ). get_or f (512 * x + k % 512) 0) stays ∙ ap (λ (x : ℕ). get_or f x 0) split
 
 pub exchanged-told : ExchangedTold

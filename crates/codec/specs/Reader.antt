@@ -5,7 +5,7 @@ use Rattle.mask.specs.Bounded.{every}
 use Rattle.mask.specs.Tables.{table}
 use Rattle.machine.specs.declared.Machine.{Machine}
 use Rattle.machine.specs.declared.Pair.{Pair}
-use Rattle.machine.specs.Refusals.{Result, answer, refused, Tested, valid, and_then, each, bufferAfter, refusal, bad-length, bad-first-block, bad-header, bad-counts, wrong-length, bad-block, bad-padding, misplaced, bufferValidity}
+use Rattle.machine.specs.Refusals.{Result, answer, refused, Tested, valid, andThen, each, bufferAfter, refusal, bad-length, bad-first-block, bad-header, bad-counts, wrong-length, bad-block, bad-padding, misplaced, bufferValidity}
 use Rattle.machine.specs.Machines.{nC, nA, setsC, setsA}
 use Rattle.machine.specs.WellFormed.{countsOk, pairValidity}
 use Rattle.machine.specs.Table.{entries, tableRoom}
@@ -58,8 +58,8 @@ unfoldable pub headerByte : List ℕ → ℕ → ℕ
 headerByte f k = get_or f (2 + k) 0
 
 -- the note whether a table follows
-unfoldable pub note_of : List ℕ → Bool
-note_of f = eqb (headerByte f 9) 1
+unfoldable pub noteOf : List ℕ → Bool
+noteOf f = eqb (headerByte f 9) 1
 
 -- 4: "letters, a zero or the table byte wrong"; byte 8, the hidden mask, is left alone
 unfoldable pub headerHolds : List ℕ → Bool
@@ -79,18 +79,18 @@ headerValidity f = cond (not (headerHolds f)) (refused (refusal bad-header 0 0 0
 unfoldable pub firstValidity : List ℕ → Tested
 firstValidity f =
     cond (or (eqb (length f) 0) (not (eqb (length f % 512) 0))) (refused (refusal bad-length 0 0 0))
-    (and_then (blockValidity f 0) (headerValidity f))
+    (andThen (blockValidity f 0) (headerValidity f))
 
 -- the payload's length, and the file's, that the counts demand
 unfoldable pub payloadDemanded : List ℕ → ℕ
-payloadDemanded f = payloadLength (headerByte f 4) (headerByte f 5) (headerByte f 6) (headerByte f 7) (note_of f)
+payloadDemanded f = payloadLength (headerByte f 4) (headerByte f 5) (headerByte f 6) (headerByte f 7) (noteOf f)
 
 unfoldable pub demanded : List ℕ → ℕ
-demanded f = fileLength (headerByte f 4) (headerByte f 5) (headerByte f 6) (headerByte f 7) (note_of f)
+demanded f = fileLength (headerByte f 4) (headerByte f 5) (headerByte f 6) (headerByte f 7) (noteOf f)
 
 -- what the first block tells: the length in bytes that the whole file must have, or a refusal
-unfoldable pub size_of : List ℕ → Result ℕ
-size_of f = and_then (firstValidity f) (answer (demanded f))
+unfoldable pub sizeOf : List ℕ → Result ℕ
+sizeOf f = andThen (firstValidity f) (answer (demanded f))
 
 -- ---- the whole file
 -- 7 and 19, block by block after block 0, the lowest first
@@ -105,7 +105,7 @@ paddingHolds f = every (508 * (length f / 512)) (λ k. or (ltb k (payloadDemande
 unfoldable pub blocksValidity : List ℕ → Tested
 blocksValidity f =
     cond (not (eqb (length f) (demanded f))) (refused (refusal wrong-length 0 0 0))
-    (and_then (laterBlocks f) (cond (not (paddingHolds f)) (refused (refusal bad-padding 0 0 0)) valid))
+    (andThen (laterBlocks f) (cond (not (paddingHolds f)) (refused (refusal bad-padding 0 0 0)) valid))
 
 -- ---- what the payload holds
 -- a machine of N states and some sets, at a place of the payload; entries beyond the counts are zero
@@ -120,8 +120,8 @@ machineAt Q at N sets = record {
 }
 
 -- the machines and the hidden mask of a file whose blocks hold
-unfoldable pub pair_of : List ℕ → Pair
-pair_of f =
+unfoldable pub pairOf : List ℕ → Pair
+pairOf f =
     let Q = payloadOf f (length f / 512) in
     let c = headerByte f 4 in
     let m = headerByte f 6 in
@@ -135,26 +135,26 @@ pair_of f =
 unfoldable pub entriesOf : List ℕ → List ℕ
 entriesOf f =
     let Q = payloadOf f (length f / 512) in
-    let p = pair_of f in
+    let p = pairOf f in
     let at = payloadLength (nC p) (nA p) (setsC p) (setsA p) false in
     table (entries p) (λ e. numberAt 2 Q (at + 2 * e))
 
 -- all that the reader tests: 1 to 11, and 19
 unfoldable pub readValidity : List ℕ → ℕ → Tested
 readValidity f room =
-    and_then (bufferValidity tableRoom room) (and_then (firstValidity f) (and_then (blocksValidity f) (pairValidity (pair_of f))))
+    andThen (bufferValidity tableRoom room) (andThen (firstValidity f) (andThen (blocksValidity f) (pairValidity (pairOf f))))
 
 -- the reader's whole answer, for a file f and a lent table T
 unfoldable pub readAnswer : List ℕ → List ℕ → Result Taken
-readAnswer f T = and_then (readValidity f (length T)) (answer (taken (pair_of f) (note_of f)))
+readAnswer f T = andThen (readValidity f (length T)) (answer (taken (pairOf f) (noteOf f)))
 
 -- what is written to a lent table: "A file without a table leaves the lent table unchanged."
-unfoldable pub table_of : List ℕ → List ℕ
-table_of f = cond (note_of f) (entriesOf f) []
+unfoldable pub table-of : List ℕ → List ℕ
+table-of f = cond (noteOf f) (entriesOf f) []
 
 -- the lent table's final content
 unfoldable pub readTable : List ℕ → List ℕ → List ℕ
-readTable f T = bufferAfter (readValidity f (length T)) (table_of f) T
+readTable f T = bufferAfter (readValidity f (length T)) (table-of f) T
 
 -- "Beside a refusal all machines .. in the result are zero", and so is the hidden mask
 unfoldable pub zeroMachine : Machine

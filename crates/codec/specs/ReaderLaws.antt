@@ -9,26 +9,26 @@ use Rattle.std.proofs.lemmas.List.{length-replicate}
 use Rattle.std.proofs.Math.Dec.{eqb}
 use borrow.Author.Tests.{eqb-true, eqb-false, eq-eqb, ne_eqb, lt-ltb, ltb-true}
 use Rattle.mask.specs.Logic.{not, or}
-use Rattle.mask.specs.LogicLaws.{both, and_l, and_r, or-none, or_l, or_r, or-e, not-i, not-e, not_f, not-false}
+use Rattle.mask.specs.LogicLaws.{both, and-l, and-r, or-none, or-l, or-r, or-e, not-i, not-e, not-f, not-false}
 use Rattle.mask.specs.Bounded.{every}
-use Rattle.mask.specs.BoundedLaws.{every-at, every_of, every-cong}
+use Rattle.mask.specs.BoundedLaws.{every-at, every-of, every-cong}
 use Rattle.mask.specs.Tables.{table}
 use Rattle.mask.specs.TablesLaws.{table-length, table-cong}
 use Rattle.machine.specs.Machines.{pairUnder}
-use Rattle.machine.specs.Refusals.{Tested, valid, refused, and_then, each, bufferAfter, refusal, short-buffer, bad-length, bad-header, bad-counts, wrong-length, bad-padding, misplaced}
-use Rattle.machine.specs.RefusalsLaws.{valid-next, then-of, then-refused, then-answer, then-then, each-valid, each_at, RefusesOnly, refuses-none, refuses-at, refuses-cond, refuses-then, buffer-valid, buffer-short, buffer-made}
+use Rattle.machine.specs.Refusals.{Tested, valid, refused, andThen, each, bufferAfter, refusal, short-buffer, bad-length, bad-header, bad-counts, wrong-length, bad-padding, misplaced}
+use Rattle.machine.specs.RefusalsLaws.{valid-next, then-of, then-refused, then-answer, then-then, each-valid, each-at, RefusesOnly, refuses-none, refuses-at, refuses-cond, refuses-then, buffer-valid, buffer-short, buffer-made}
 use Rattle.machine.specs.declared.Machine.{Machine}
 use Rattle.machine.specs.declared.Refusal.{Refusal}
 use Rattle.machine.specs.WellFormed.{pairValidity}
 use Rattle.machine.specs.WellFormedLaws.{counts-at, mul-bound}
 use Rattle.machine.specs.Table.{tableRoom}
 use Rattle.codec.specs.Format.{numberAt, payloadMost, payloadLength, fileLength, blocksFor}
-use Rattle.codec.specs.Reader.{checkHolds, numberFound, damagedNumber, blockValidity, BlockHolds, headerByte, note_of, headerHolds, countsHold, headerValidity, firstValidity, payloadDemanded, demanded, laterBlocks, paddingHolds, blocksValidity, payloadByte, payloadOf, machineAt, pair_of, entriesOf, readValidity, table_of}
+use Rattle.codec.specs.Reader.{checkHolds, numberFound, damagedNumber, blockValidity, BlockHolds, headerByte, noteOf, headerHolds, countsHold, headerValidity, firstValidity, payloadDemanded, demanded, laterBlocks, paddingHolds, blocksValidity, payloadByte, payloadOf, machineAt, pairOf, entriesOf, readValidity, table-of}
 use Rattle.codec.specs.Loading.{entriesPlace, entriesCount, Loaded}
 use Rattle.mask.specs.Tables.{front}
 use Rattle.codec.specs.NumberLaws.{number-cong}
 use Rattle.codec.specs.FormatLaws.{check-cong, entries-most, payload-most}
-use Rattle.mask.specs.FrontLaws.{front_length, front-zeros, front-padded}
+use Rattle.mask.specs.FrontLaws.{front-length, front-zeros, front-padded}
 
 -- ---- a block
 module _ (f : List ℕ) (i : ℕ) where
@@ -38,11 +38,11 @@ module _ (f : List ℕ) (i : ℕ) where
 
   pub block-misplaced : checkHolds f i ≡ true → (numberFound f i ≡ i → ⊥) → blockValidity f i ≡ refused (refusal misplaced i (numberFound f i) 0)
   unfolding blockValidity
-  block-misplaced e n = rw (not_f e, not-i (ne_eqb (numberFound f i) i n))
+  block-misplaced e n = rw (not-f e, not-i (ne_eqb (numberFound f i) i n))
 
   pub block-valid : BlockHolds f i → blockValidity f i ≡ valid
   unfolding blockValidity
-  block-valid h = rw (not_f h.0, not_f (eq-eqb (numberFound f i) i h.1))
+  block-valid h = rw (not-f h.0, not-f (eq-eqb (numberFound f i) i h.1))
 
   pub block-holds : blockValidity f i ≡ valid → BlockHolds f i
   unfolding blockValidity
@@ -94,8 +94,8 @@ pub record FirstValid (f : List ℕ) : Type 0 where
 long-enough : (n : ℕ) → (n ≡ 0 → ⊥) → n % 512 ≡ 0 → 512 ≤ n
 long-enough n some whole = omega arith
 
-whole_length : (f : List ℕ) → or (eqb (length f) 0) (not (eqb (length f % 512) 0)) ≡ false → (512 ≤ length f) × (length f % 512 ≡ 0)
-whole_length f t =
+whole-length : (f : List ℕ) → or (eqb (length f) 0) (not (eqb (length f % 512) 0)) ≡ false → (512 ≤ length f) × (length f % 512 ≡ 0)
+whole-length f t =
     let n = or-none (eqb (length f) 0) (not (eqb (length f % 512) 0)) t in
     let whole : length f % 512 ≡ 0 = eqb-true _ 0 (not-false _ n.1) in
     (long-enough (length f) (eqb-false (length f) 0 n.0) whole, whole)
@@ -110,7 +110,7 @@ first-valid f e =
     let a = valid-next _ _ _ e in
     let b = then-answer (blockValidity f 0) (headerValidity f) a.1 in
     let h = header-valid f b.1 in
-    let n = whole_length f a.0 in
+    let n = whole-length f a.0 in
     record { long = n.0; whole = n.1; block = block-holds f 0 b.0; header = h.0; counts = h.1 }
 
 -- its refusals
@@ -119,7 +119,7 @@ pub first-refuses : (F : Refusal → Type 0) (f : List ℕ) → F (refusal bad-l
 unfolding firstValidity headerValidity
 first-refuses F f ragged block header counts =
     refuses-cond F (or (eqb (length f) 0) (not (eqb (length f % 512) 0))) _ _ (λ t. refuses-at F _ ragged)
-    (λ t. refuses-then F (blockValidity f 0) _ (block (whole_length f t).0)
+    (λ t. refuses-then F (blockValidity f 0) _ (block (whole-length f t).0)
     (λ v. refuses-cond F (not (headerHolds f)) _ _ (λ u. refuses-at F _ header)
     (λ u. refuses-cond F (not (countsHold f)) _ _ (λ x. refuses-at F _ counts) (λ x. refuses-none F))))
 
@@ -156,9 +156,9 @@ pub padding-is : (f : List ℕ) → length f ≡ demanded f → let n = length f
     every (508 * n - len) (λ i. eqb (get_or f (len + 4 * n - 2 + i) 0) 0) ≡ paddingHolds f
 unfolding paddingHolds payloadDemanded
 padding-is f e = both _ _
-    (λ t. every_of (508 * n) _ (λ k l. by_cases (dec_lt k len) (λ q. or_l _ (lt-ltb k len q))
-    (λ q. or_r _ (ap (λ (x : ℕ). eqb (get_or f x 0) 0) (place f n k w (omega arith) l) ∙ every-at (508 * n - len) _ t (k - len) (omega arith)))))
-    (λ t. every_of (508 * n - len) _ (λ i l. ⊎_elim (λ q. absurd (omega (arith, ltb-true (len + i) len q))) (λ q. ap (λ (x : ℕ). eqb (get_or f x 0) 0) (spot i l) ∙ q)
+    (λ t. every-of (508 * n) _ (λ k l. by_cases (dec_lt k len) (λ q. or-l _ (lt-ltb k len q))
+    (λ q. or-r _ (ap (λ (x : ℕ). eqb (get_or f x 0) 0) (place f n k w (omega arith) l) ∙ every-at (508 * n - len) _ t (k - len) (omega arith)))))
+    (λ t. every-of (508 * n - len) _ (λ i l. ⊎_elim (λ q. absurd (omega (arith, ltb-true (len + i) len q))) (λ q. ap (λ (x : ℕ). eqb (get_or f x 0) 0) (spot i l) ∙ q)
     (or-e (every-at (508 * n) _ t (len + i) (omega arith)))))
   where
     n : ℕ
@@ -218,8 +218,8 @@ pub record InRange (f : List ℕ) : Type 0 where
 pub in-range : (f : List ℕ) → countsHold f ≡ true → InRange f
 unfolding countsHold
 in-range f t =
-    let c = counts-at 8 _ _ (and_l _ _ t) in
-    let a = counts-at 7 _ _ (and_r _ _ t) in
+    let c = counts-at 8 _ _ (and-l _ _ t) in
+    let a = counts-at 7 _ _ (and-r _ _ t) in
     record { states-c = c.1; states-a = a.1; sets-c = c.3; sets-a = a.3 }
 
 pub machines-fit : (f : List ℕ) → 32 + 9 * (headerByte f 4 + headerByte f 5) + 8 * (headerByte f 6 + headerByte f 7) ≤ payloadDemanded f
@@ -228,8 +228,8 @@ machines-fit f = omega arith
 
 pub pair_is : (f Q : List ℕ) (concrete abstraction : Machine) (hidden : ℕ) → Loaded f Q → concrete ≡ machineAt Q 16 (headerByte f 4) (headerByte f 6)
     → abstraction ≡ machineAt Q (24 + 9 * headerByte f 4 + 8 * headerByte f 6) (headerByte f 5) (headerByte f 7) → hidden ≡ headerByte f 8
-    → pairUnder hidden concrete abstraction ≡ pair_of f
-unfolding pair_of
+    → pairUnder hidden concrete abstraction ≡ pairOf f
+unfolding pairOf
 pair_is f Q concrete abstraction hidden w ec ea eh =
     rw (
       ec,
@@ -241,17 +241,17 @@ pair_is f Q concrete abstraction hidden w ec ea eh =
 
 -- ---- the table of such a file
 -- its entries have room in a lent table
-pub entries_fit : (f : List ℕ) → countsHold f ≡ true → entriesCount f ≤ tableRoom
-entries_fit f t = let r = in-range f t in entries-most (headerByte f 4) (headerByte f 5) (headerByte f 7) r.states-c r.states-a r.sets-a
+pub entries-fit : (f : List ℕ) → countsHold f ≡ true → entriesCount f ≤ tableRoom
+entries-fit f t = let r = in-range f t in entries-most (headerByte f 4) (headerByte f 5) (headerByte f 7) r.states-c r.states-a r.sets-a
 
 -- and they end where the payload does
-pub entries-end : (f : List ℕ) → note_of f ≡ true → entriesPlace f + 2 * entriesCount f ≡ payloadDemanded f
+pub entries-end : (f : List ℕ) → noteOf f ≡ true → entriesPlace f + 2 * entriesCount f ≡ payloadDemanded f
 unfolding payloadDemanded payloadLength
 entries-end f t = rw t (omega arith)
 
 pub table_is : (f Q T : List ℕ) → Loaded f Q
     → front (entriesCount f) (λ e. numberAt 2 Q (entriesPlace f + 2 * e)) T ≡ entriesOf f ++ drop (length (entriesOf f)) T
-unfolding entriesOf pair_of machineAt
+unfolding entriesOf pairOf machineAt
 table_is f Q T w =
     let P = payloadOf f (length f / 512) in
     rw (table-length (entriesCount f) (λ e. numberAt 2 P (entriesPlace f + 2 * e)))
@@ -272,7 +272,7 @@ later-valid f h = each-valid _ _ (λ i l. block-valid f (suc i) (h (suc i) (omeg
 -- where the first n of the later blocks are passed, they hold
 pub later-hold : (f : List ℕ) (n : ℕ) → each n (λ i. blockValidity f (suc i)) ≡ valid → (i : ℕ) → 0 < i → i < suc n → BlockHolds f i
 later-hold f n e zero p l = absurd (omega arith)
-later-hold f n e (suc i) p l = block-holds f (suc i) (each_at n _ e i (omega arith))
+later-hold f n e (suc i) p l = block-holds f (suc i) (each-at n _ e i (omega arith))
 
 pub blocks-valid : (f : List ℕ) → blocksValidity f ≡ valid → BlocksValid f
 unfolding blocksValidity laterBlocks
@@ -284,16 +284,16 @@ blocks-valid f e =
 
 -- a file of the length that its counts demand: the later blocks, then the padding
 pub blocks-then : (f : List ℕ) → length f ≡ demanded f
-    → blocksValidity f ≡ and_then (laterBlocks f) (cond (not (paddingHolds f)) (refused (refusal bad-padding 0 0 0)) valid)
+    → blocksValidity f ≡ andThen (laterBlocks f) (cond (not (paddingHolds f)) (refused (refusal bad-padding 0 0 0)) valid)
 unfolding blocksValidity
-blocks-then f e = rw (not_f (eq-eqb (length f) (demanded f) e))
+blocks-then f e = rw (not-f (eq-eqb (length f) (demanded f) e))
 
 -- it has no more than 116
 pub payload-fits : (f : List ℕ) → countsHold f ≡ true → payloadDemanded f ≤ payloadMost
 unfolding payloadDemanded
 payload-fits f t =
     let r = in-range f t in
-    payload-most (headerByte f 4) (headerByte f 5) (headerByte f 6) (headerByte f 7) (note_of f) r.states-c r.states-a r.sets-c r.sets-a
+    payload-most (headerByte f 4) (headerByte f 5) (headerByte f 6) (headerByte f 7) (noteOf f) r.states-c r.states-a r.sets-c r.sets-a
 
 pub few-blocks : (f : List ℕ) → FirstValid f → length f ≡ demanded f → length f / 512 ≤ 116
 few-blocks f v e = let w = fitting f e in omega (arith, payload-fits f v.counts)
@@ -304,31 +304,31 @@ unfolding payloadOf
 loaded f Q w v e h q =
     let n = 508 * (length f / 512) in
     let fit = fitting f e in
-    let long : length Q ≡ w = front_length (payloadByte f) (replicate w 0) q (rw (length-replicate {A = ℕ} w 0) h) ∙ length-replicate w 0 in
+    let long : length Q ≡ w = front-length (payloadByte f) (replicate w 0) q (rw (length-replicate {A = ℕ} w 0) h) ∙ length-replicate w 0 in
     record { long = v.long; counts = v.counts; room = omega arith; same = front-padded (payloadByte f) w n q }
 
 -- ---- the lent table, and all the tests in their order
 -- the lent table of a reading that is not refused
-pub table-after : (f T : List ℕ) (v : Tested) (note : Bool) → v ≡ valid → note_of f ≡ note
-    → bufferAfter v (table_of f) T ≡ cond note (entriesOf f ++ drop (length (entriesOf f)) T) T
-unfolding table_of
-table-after f T v note e t = buffer-made v (cond (note_of f) (entriesOf f) []) T e ∙ rw t (cases note)
+pub table-after : (f T : List ℕ) (v : Tested) (note : Bool) → v ≡ valid → noteOf f ≡ note
+    → bufferAfter v (table-of f) T ≡ cond note (entriesOf f ++ drop (length (entriesOf f)) T) T
+unfolding table-of
+table-after f T v note e t = buffer-made v (cond (noteOf f) (entriesOf f) []) T e ∙ rw t (cases note)
   where
     cases : (n : Bool) → cond n (entriesOf f) [] ++ drop (length (cond n (entriesOf f) [])) T ≡ cond n (entriesOf f ++ drop (length (entriesOf f)) T) T
     cases true = refl
     cases false = refl
 
-pub read_short : (f : List ℕ) (room : ℕ) → room < tableRoom → readValidity f room ≡ refused (refusal short-buffer 0 0 0)
+pub read-short : (f : List ℕ) (room : ℕ) → room < tableRoom → readValidity f room ≡ refused (refusal short-buffer 0 0 0)
 unfolding readValidity
-read_short f room h = then-refused _ _ _ (buffer-short tableRoom room h)
+read-short f room h = then-refused _ _ _ (buffer-short tableRoom room h)
 
 module _ (f : List ℕ) (room : ℕ) (h : tableRoom ≤ room) where
-  grouped : readValidity f room ≡ and_then (and_then (firstValidity f) (blocksValidity f)) (pairValidity (pair_of f))
+  grouped : readValidity f room ≡ andThen (andThen (firstValidity f) (blocksValidity f)) (pairValidity (pairOf f))
   unfolding readValidity
-  grouped = then-of _ _ (buffer-valid tableRoom room h) ∙ sym (then-then (firstValidity f) (blocksValidity f) (pairValidity (pair_of f)))
+  grouped = then-of _ _ (buffer-valid tableRoom room h) ∙ sym (then-then (firstValidity f) (blocksValidity f) (pairValidity (pairOf f)))
 
-  pub tests-refused : (r : Refusal) → and_then (firstValidity f) (blocksValidity f) ≡ refused r → readValidity f room ≡ refused r
+  pub tests-refused : (r : Refusal) → andThen (firstValidity f) (blocksValidity f) ≡ refused r → readValidity f room ≡ refused r
   tests-refused r e = grouped ∙ then-refused _ _ r e
 
-  pub read-pair : and_then (firstValidity f) (blocksValidity f) ≡ valid → readValidity f room ≡ pairValidity (pair_of f)
+  pub read-pair : andThen (firstValidity f) (blocksValidity f) ≡ valid → readValidity f room ≡ pairValidity (pairOf f)
   read-pair e = grouped ∙ then-of _ _ e

@@ -12,7 +12,7 @@ use Rattle.machine.specs.WellFormed.{wellFormed, nonemptySets}
 use Rattle.machine.specs.Machines.{observation, matched, nC, nA, setsC, setsA}
 use Rattle.machine.specs.Refusals.{valid, answer, refused, refusal, bad-first-block, bad-block, misplaced}
 use Rattle.codec.specs.Format.{letters, fileLength, fileOf}
-use Rattle.codec.specs.Reader.{inputRoom, taken, checkHolds, numberFound, damagedNumber, BlockHolds, blockValidity, headerByte, headerHolds, firstValidity, demanded, entriesOf, readAnswer, readTable, size_of}
+use Rattle.codec.specs.Reader.{inputRoom, taken, checkHolds, numberFound, damagedNumber, BlockHolds, blockValidity, headerByte, headerHolds, firstValidity, demanded, entriesOf, readAnswer, readTable, sizeOf}
 use Rattle.codec.specs.Writer.{fileRoom, writeAnswer, writeBuffer}
 
 -- what the types of the code give of a machine, whoever made it
@@ -58,12 +58,12 @@ IsEarly r = (r.number ≤ 6) ⊎ ((r.number ≡ misplaced) × (r.first ≡ 0))
 -- refusals up to 6, and 19 of block 0, rest on the first block and the length alone
 abbrev pub FirstBlock : Type 0
 FirstBlock = (f g lent : List ℕ) → length f ≡ length g → take 512 f ≡ take 512 g
-    → (firstValidity f ≡ firstValidity g) × (demanded f ≡ demanded g) × (size_of f ≡ size_of g)
+    → (firstValidity f ≡ firstValidity g) × (demanded f ≡ demanded g) × (sizeOf f ≡ sizeOf g)
     × ((r : Refusal) → IsEarly r → readAnswer f lent ≡ refused r → readAnswer g lent ≡ refused r)
 
 -- of a file of whole blocks, the first alone tells the size
 abbrev pub FirstBlockTellsSize : Type 0
-FirstBlockTellsSize = (f : List ℕ) → (length f ≡ 0 → ⊥) → length f % 512 ≡ 0 → size_of (take 512 f) ≡ size_of f
+FirstBlockTellsSize = (f : List ℕ) → (length f ≡ 0 → ⊥) → length f % 512 ≡ 0 → sizeOf (take 512 f) ≡ sizeOf f
 
 -- ---- Document 02, No. 5: damaged or misplaced
 -- what the reader's 3, 7 and 19 mean. "3 and 7 mean a wrong check only. A misplaced block tells its place and the number found in it."

@@ -14,7 +14,7 @@ use Rattle.machine.specs.declared.Pair.{Pair}
 use Rattle.machine.specs.Machines.{observation, successors, fairSet, nC, nA, setsC, setsA}
 use Rattle.machine.specs.Table.{entries, tableRoom}
 use Rattle.machine.specs.declared.Refusal.{Refusal}
-use Rattle.machine.specs.Refusals.{valid, answer, refused, refusal, and_then, short-buffer, bufferValidity}
+use Rattle.machine.specs.Refusals.{valid, answer, refused, refusal, andThen, short-buffer, bufferValidity}
 use Rattle.machine.specs.RefusalsLaws.{then-of, then-refused, then-answer, given-at, buffer-valid, buffer-short, buffer-made, buffer-kept}
 use Rattle.machine.specs.WellFormed.{nonemptyValidity, nonemptySets, wellFormed}
 use Rattle.machine.specs.WellFormedLaws.{WellPair, well-valid}
@@ -22,19 +22,19 @@ use Rattle.machine.specs.EmptySetsLaws.{nonempty-valid, nonempty-at}
 use Rattle.codec.specs.declared.Size.TheVariants as size
 use Rattle.codec.specs.Writer.{fileRoom, writeValidity, writeAnswer, writeBuffer}
 use Rattle.codec.specs.Answers.{sizedOf}
-use Rattle.codec.specs.Format.{byte_of, bytes_of, numbers, letters, header, machineBytes, tableBytes, payload, payloadMost, payloadRoom, payloadLength, blocksFor, fileLength, checkAt, blockFront, block, blocked, fileOf}
+use Rattle.codec.specs.Format.{byteOf, bytesOf, numbers, letters, header, machineBytes, tableBytes, payload, payloadMost, payloadRoom, payloadLength, blocksFor, fileLength, checkAt, blockFront, block, blocked, fileOf}
 use Rattle.codec.specs.NumberLaws.{bytes-length, numbers-length}
-use Rattle.codec.specs.ListLaws.{table_of, rows_more, sets_then, sets-none, sets-snoc, sets-at, sets-front, sets-zeros, pasted}
-use Rattle.codec.specs.FormatLaws.{header-length, machine-length, payload-length, payload-small, blocks-small, front_length, block-length, block_cong, check-cong}
+use Rattle.codec.specs.ListLaws.{table-of, rows-more, sets-then, sets-none, sets-snoc, sets-at, sets-front, sets-zeros, pasted}
+use Rattle.codec.specs.FormatLaws.{header-length, machine-length, payload-length, payload-small, blocks-small, front-length, block-length, block-cong, check-cong}
 
 -- ---- a number, a byte a turn: r is what is left of x after i bytes
-pub store-none : (l : List ℕ) (at x : ℕ) → l ≡ sets l at (bytes_of 0 x)
-unfolding bytes_of table
+pub store-none : (l : List ℕ) (at x : ℕ) → l ≡ sets l at (bytesOf 0 x)
+unfolding bytesOf table
 store-none l at x = refl
 
-pub store_byte : (l s : List ℕ) (at x i r : ℕ) → s ≡ sets l at (bytes_of i x) → r ≡ x / 256 ^ i → set s (at + i) (r % 256) ≡ sets l at (bytes_of (i + 1) x)
-unfolding bytes_of byte_of
-store_byte l s at x i r e q = rw q (sets-snoc l s at i (λ k. x / 256 ^ k % 256) e)
+pub store-byte : (l s : List ℕ) (at x i r : ℕ) → s ≡ sets l at (bytesOf i x) → r ≡ x / 256 ^ i → set s (at + i) (r % 256) ≡ sets l at (bytesOf (i + 1) x)
+unfolding bytesOf byteOf
+store-byte l s at x i r e q = rw q (sets-snoc l s at i (λ k. x / 256 ^ k % 256) e)
 
 pub left-none : (x : ℕ) → x ≡ x / 256 ^ 0
 left-none x = sym (div-one x)
@@ -43,24 +43,24 @@ pub left-next : (x i r : ℕ) → r ≡ x / 256 ^ i → r / 256 ≡ x / 256 ^ (i
 left-next x i r e = rw (e, add-one, pow-suc) (div-div-eq-div-mul x (256 ^ i) 256)
 
 -- a number of two bytes, at once
-pub store_two : (l : List ℕ) (at x : ℕ) → x < 65536 → set (set l at (x % 256)) (at + 1) (x / 256) ≡ sets l at (bytes_of 2 x)
-unfolding bytes_of table byte_of
-store_two l at x h = let e : x / 256 ≡ x / 256 % 256 = omega arith in rw (div-one, add-one, ← e)
+pub store-two : (l : List ℕ) (at x : ℕ) → x < 65536 → set (set l at (x % 256)) (at + 1) (x / 256) ≡ sets l at (bytesOf 2 x)
+unfolding bytesOf table byteOf
+store-two l at x h = let e : x / 256 ≡ x / 256 % 256 = omega arith in rw (div-one, add-one, ← e)
 
 -- ---- numbers, one a turn
 pub numbers-none : (n : ℕ) (l : List ℕ) (at : ℕ) (f : ℕ → ℕ) → l ≡ sets l at (numbers n 0 f)
 unfolding numbers table
 numbers-none n l at f = let e : n * 0 ≡ 0 = omega arith in rw e
 
-pub numbers_more : (n count : ℕ) (f : ℕ → ℕ) → 0 < n → numbers n (count + 1) f ≡ numbers n count f ++ bytes_of n (f count)
-unfolding numbers bytes_of
-numbers_more n count f h = rows_more n count (λ k. byte_of (f k)) h
+pub numbers-more : (n count : ℕ) (f : ℕ → ℕ) → 0 < n → numbers n (count + 1) f ≡ numbers n count f ++ bytesOf n (f count)
+unfolding numbers bytesOf
+numbers-more n count f h = rows-more n count (λ k. byteOf (f k)) h
 
 pub store-next : (n : ℕ) (l s t : List ℕ) (at count : ℕ) (f : ℕ → ℕ) → 0 < n → s ≡ sets l at (numbers n count f)
-    → t ≡ sets s (at + n * count) (bytes_of n (f count)) → t ≡ sets l at (numbers n (count + 1) f)
+    → t ≡ sets s (at + n * count) (bytesOf n (f count)) → t ≡ sets l at (numbers n (count + 1) f)
 store-next n l s t at count f h e g =
-    sets_then l s t (numbers n count f) (bytes_of n (f count)) at (n * count) (at + n * count) e g (numbers-length n count f) refl
-    ∙ ap (sets l at) (sym (numbers_more n count f h))
+    sets-then l s t (numbers n count f) (bytesOf n (f count)) at (n * count) (at + n * count) e g (numbers-length n count f) refl
+    ∙ ap (sets l at) (sym (numbers-more n count f h))
 
 -- ---- the header: the letters, then the rest, with the note as the code makes it a byte
 note-byte : (note : Bool) → bool_byte note ≡ cond note 1 0
@@ -77,20 +77,20 @@ store-header p note l s t room kept e f =
 -- ---- a machine: observations, start mask, successor masks, sets
 pub store-machine : (m : Machine) (l s t u v : List ℕ) (at : ℕ) → m.states ≤ length m.observations → at + m.states ≤ length l
     → s ≡ paste l at (drop 0 m.observations) m.states
-    → t ≡ sets s (at + m.states) (bytes_of 8 m.start) → u ≡ sets t (at + m.states + 8) (numbers 8 m.states (λ i. get_or m.successors i 0))
+    → t ≡ sets s (at + m.states) (bytesOf 8 m.start) → u ≡ sets t (at + m.states + 8) (numbers 8 m.states (λ i. get_or m.successors i 0))
     → v ≡ sets u (at + m.states + 8 + 8 * m.states) (numbers 8 m.sets (λ i. get_or m.fairness i 0)) → v ≡ sets l at (machineBytes m)
 unfolding machineBytes observation successors fairSet
 store-machine m l s t u v at long room e f g h =
     let N = m.states in
     let O = table N (λ i. get_or m.observations i 0) in
-    let S = bytes_of 8 m.start in
+    let S = bytesOf 8 m.start in
     let M = numbers 8 N (λ i. get_or m.successors i 0) in
     let F = numbers 8 m.sets (λ i. get_or m.fairness i 0) in
     let observed : s ≡ sets l at O = pasted l m.observations s at 0 N (omega arith) room e
     ∙ ap (sets l at) (table-cong N (λ i. get_or m.observations (0 + i) 0) (λ i. get_or m.observations i 0) (λ i q. ap (λ (k : ℕ). get_or m.observations k 0) (zero-add i))) in
-    let behind-start = sets_then t u v M F (at + N + 8) (8 * N) (at + N + 8 + 8 * N) g h (numbers-length 8 N (λ i. get_or m.successors i 0)) refl in
-    let behind-observations = sets_then s t v S (M ++ F) (at + N) 8 (at + N + 8) f behind-start (bytes-length 8 m.start) refl in
-    sets_then l s v O (S ++ (M ++ F)) at N (at + N) observed behind-observations (table-length N (λ i. get_or m.observations i 0)) refl
+    let behind-start = sets-then t u v M F (at + N + 8) (8 * N) (at + N + 8 + 8 * N) g h (numbers-length 8 N (λ i. get_or m.successors i 0)) refl in
+    let behind-observations = sets-then s t v S (M ++ F) (at + N) 8 (at + N + 8) f behind-start (bytes-length 8 m.start) refl in
+    sets-then l s v O (S ++ (M ++ F)) at N (at + N) observed behind-observations (table-length N (λ i. get_or m.observations i 0)) refl
 
 -- ---- the payload: l, the lists after the header and after each machine, and the list after the table
 module _ (p : Pair) (note : Bool) (T l s t u : List ℕ) (i j : ℕ)
@@ -103,9 +103,9 @@ module _ (p : Pair) (note : Bool) (T l s t u : List ℕ) (i j : ℕ)
       let C = machineBytes p.concrete in
       let A = machineBytes p.abstraction in
       let E = tableBytes p note T in
-      let behind-rig = sets_then t u v A E i (9 * nA p + 8 * setsA p + 8) j score e (machine-length p.abstraction) j-is in
-      let behind-header = sets_then s t v C (A ++ E) 16 (9 * nC p + 8 * setsC p + 8) i rig behind-rig (machine-length p.concrete) i-is in
-      sets_then l s v (header p note) (C ++ (A ++ E)) 0 16 16 head behind-header (header-length p note) refl
+      let behind-rig = sets-then t u v A E i (9 * nA p + 8 * setsA p + 8) j score e (machine-length p.abstraction) j-is in
+      let behind-header = sets-then s t v C (A ++ E) 16 (9 * nC p + 8 * setsC p + 8) i rig behind-rig (machine-length p.concrete) i-is in
+      sets-then l s v (header p note) (C ++ (A ++ E)) 0 16 16 head behind-header (header-length p note) refl
 
   -- the payload's length and its bytes, with a table and without
   pub store-table : note ≡ true → (v : List ℕ) → v ≡ sets u j (numbers 2 (entries p) (λ e. get_or T e 0))
@@ -125,26 +125,26 @@ module _ (p : Pair) (note : Bool) (T l s t u : List ℕ) (i j : ℕ)
 
 -- ---- a block: the list after its number, after its part of the payload, and after its check
 module _ (Q l s t u : List ℕ) (i check : ℕ) (long : 508 * i + 508 ≤ length Q) (room : 512 * i + 512 ≤ length l) (kept : length s ≡ length l)
-    (number : s ≡ sets l (512 * i) (bytes_of 2 i))
+    (number : s ≡ sets l (512 * i) (bytesOf 2 i))
     (part : t ≡ paste s (512 * i + 2) (drop (508 * i) Q) 508)
     (sum : check ≡ checkAt t (512 * i))
-    (last : u ≡ sets t (512 * i + 510) (bytes_of 2 check)) where
+    (last : u ≡ sets t (512 * i + 510) (bytesOf 2 check)) where
   store-front : t ≡ sets l (512 * i) (blockFront Q i)
   unfolding blockFront
-  store-front = sets_then l s t (bytes_of 2 i) (table 508 (λ k. get_or Q (508 * i + k) 0)) (512 * i) 2 (512 * i + 2) number
+  store-front = sets-then l s t (bytesOf 2 i) (table 508 (λ k. get_or Q (508 * i + k) 0)) (512 * i) 2 (512 * i + 2) number
       (pasted s Q t (512 * i + 2) (508 * i) 508 long (omega arith) part) (bytes-length 2 i) refl
 
   check-is : check ≡ checkAt (blockFront Q i) 0
   check-is = sum ∙ check-cong t (blockFront Q i) (512 * i) 0
       (λ k h. ap (λ (x : List ℕ). get_or x (512 * i + k) 0) store-front
-      ∙ sets-at l (blockFront Q i) (512 * i) k 0 (omega (arith, front_length Q i)) (omega (arith, front_length Q i))
+      ∙ sets-at l (blockFront Q i) (512 * i) k 0 (omega (arith, front-length Q i)) (omega (arith, front-length Q i))
       ∙ ap (λ (n : ℕ). get_or (blockFront Q i) n 0) (sym (zero-add k)))
 
   pub store-block : u ≡ sets l (512 * i) (block Q i)
   unfolding block
   store-block =
-      sets_then l t u (blockFront Q i) (bytes_of 2 (checkAt (blockFront Q i) 0)) (512 * i) 510 (512 * i + 510)
-      store-front (last ∙ ap (λ (n : ℕ). sets t (512 * i + 510) (bytes_of 2 n)) check-is) (front_length Q i) refl
+      sets-then l t u (blockFront Q i) (bytesOf 2 (checkAt (blockFront Q i) 0)) (512 * i) 510 (512 * i + 510)
+      store-front (last ∙ ap (λ (n : ℕ). sets t (512 * i + 510) (bytesOf 2 n)) check-is) (front-length Q i) refl
 
 -- ---- blocks, one a turn
 pub blocks-none : (Q l : List ℕ) → l ≡ sets l 0 (table (512 * 0) (λ k. get_or (block Q (k / 512)) (k % 512) 0))
@@ -153,9 +153,9 @@ blocks-none Q l = sets-none l 0 (λ k. get_or (block Q (k / 512)) (k % 512) 0)
 pub store-blocks : (Q l s t : List ℕ) (i : ℕ) → s ≡ sets l 0 (table (512 * i) (λ k. get_or (block Q (k / 512)) (k % 512) 0)) → t ≡ sets s (512 * i) (block Q i)
     → t ≡ sets l 0 (table (512 * (i + 1)) (λ k. get_or (block Q (k / 512)) (k % 512) 0))
 store-blocks Q l s t i e f =
-    sets_then l s t (table (512 * i) (λ k. get_or (block Q (k / 512)) (k % 512) 0)) (block Q i) 0 (512 * i) (512 * i) e f (table-length (512 * i) _) (omega arith)
-    ∙ ap (sets l 0) (sym (rows_more 512 i (λ j k. get_or (block Q j) k 0) (omega arith)
-    ∙ ap (λ (x : List ℕ). table (512 * i) (λ k. get_or (block Q (k / 512)) (k % 512) 0) ++ x) (table_of 0 512 (block Q i) (block-length Q i))))
+    sets-then l s t (table (512 * i) (λ k. get_or (block Q (k / 512)) (k % 512) 0)) (block Q i) 0 (512 * i) (512 * i) e f (table-length (512 * i) _) (omega arith)
+    ∙ ap (sets l 0) (sym (rows-more 512 i (λ j k. get_or (block Q j) k 0) (omega arith)
+    ∙ ap (λ (x : List ℕ). table (512 * i) (λ k. get_or (block Q (k / 512)) (k % 512) 0) ++ x) (table-of 0 512 (block Q i) (block-length Q i))))
 
 -- ---- a file: the payload, whose length is len, is stored over zeros, then cut into blocks
 pub length-small : (p : Pair) (note : Bool) (len : ℕ) → WellPair p → len ≡ payloadLength (nC p) (nA p) (setsC p) (setsA p) note → len ≤ payloadMost
@@ -176,7 +176,7 @@ store-file p note T R l s zeros len small room long len_is e f =
     let Q-length : length Q ≡ len = payload-length p note T ∙ sym len_is in
     let Z-length : length Z ≡ zeros = length-replicate {A = ℕ} zeros 0 in
     let same = table-cong (512 * ((len + 507) / 508)) (λ k. get_or (block R (k / 512)) (k % 512) 0) (λ k. get_or (block Q (k / 512)) (k % 512) 0)
-    (λ k h. ap (λ (x : List ℕ). get_or x (k % 512) 0) (block_cong R Q (k / 512) (λ j r.
+    (λ k h. ap (λ (x : List ℕ). get_or x (k % 512) 0) (block-cong R Q (k / 512) (λ j r.
     ap (λ (x : List ℕ). get_or x (508 * (k / 512) + j) 0) e
     ∙ sets-zeros Z Q (508 * (k / 512) + j) (omega arith) (get_or-replicate zeros (508 * (k / 512) + j) 0 0 (omega arith))))) in
     let whole = table (512 * ((length Q + 507) / 508)) (λ k. get_or (block Q (k / 512)) (k % 512) 0) in
@@ -189,7 +189,7 @@ unfolding writeValidity
 short-table p tableLen bufferLen h = then-refused _ _ _ (buffer-short tableRoom tableLen h)
 
 -- a table with room tells nothing
-with-table : (p : Pair) (tableLen bufferLen : ℕ) → tableRoom ≤ tableLen → writeValidity p tableLen bufferLen ≡ and_then (bufferValidity fileRoom bufferLen) (nonemptyValidity p)
+with-table : (p : Pair) (tableLen bufferLen : ℕ) → tableRoom ≤ tableLen → writeValidity p tableLen bufferLen ≡ andThen (bufferValidity fileRoom bufferLen) (nonemptyValidity p)
 unfolding writeValidity
 with-table p tableLen bufferLen h = then-of _ _ (buffer-valid tableRoom tableLen h)
 
@@ -200,8 +200,8 @@ pub with-room : (p : Pair) (tableLen bufferLen : ℕ) → tableRoom ≤ tableLen
 with-room p tableLen bufferLen h k = with-table p tableLen bufferLen h ∙ then-of _ _ (buffer-valid fileRoom bufferLen k)
 
 -- of lent tables with room it makes no difference which
-pub same_tests : (p : Pair) (m n bufferLen : ℕ) → tableRoom ≤ m → tableRoom ≤ n → writeValidity p m bufferLen ≡ writeValidity p n bufferLen
-same_tests p m n bufferLen h k = with-table p m bufferLen h ∙ sym (with-table p n bufferLen k)
+pub same-tests : (p : Pair) (m n bufferLen : ℕ) → tableRoom ≤ m → tableRoom ≤ n → writeValidity p m bufferLen ≡ writeValidity p n bufferLen
+same-tests p m n bufferLen h k = with-table p m bufferLen h ∙ sym (with-table p n bufferLen k)
 
 module _ (p : Pair) (note : Bool) (T buffer : List ℕ) where
   pub write-refused : {r q : Refusal} → writeValidity p (length T) (length buffer) ≡ refused r → q ≡ r

@@ -54,8 +54,8 @@ fn check_at(s: &[u8], at: usize) -> u32
 
 // Copies count bytes from a place of one slice to a place of another.
 fn copy_to(src: &[u8], from: usize, count: usize, dst: &mut [u8], to: usize)
-    requires count_in_bounds { from + count ≤ length src.now }
-    requires count_in_bounds_2 { to + count ≤ length dst.old }
+    requires source { from + count ≤ length src.now }
+    requires target { to + count ≤ length dst.old }
     ensures { dst.new ≡ paste dst.old to (drop from src.now) count }
 {
     for i in 0..count {

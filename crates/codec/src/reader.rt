@@ -1,12 +1,12 @@
 // Reading a file, and its length from the first block alone.
 ghost use Rattle.std.specs.Prelude.{true, ◌++◌, ◌≡◌, ◌+◌, ◌*◌, ◌/◌, ◌^◌, ◌≤◌, ◌<◌, length, get_or, drop, replicate, eqb};
 ghost use Rattle.mask.specs.Bounded.{every};
-ghost use Rattle.machine.specs.Refusals.{answer, refused, valid, tested_of, and_then, bufferAfter};
+ghost use Rattle.machine.specs.Refusals.{answer, refused, valid, testedOf, andThen, bufferAfter};
 ghost use Rattle.machine.specs.WellFormed.{pairValidity};
 ghost use Rattle.machine.specs.Table.{tableRoom};
 ghost use Rattle.codec.specs.Format.{letters, numberAt, payloadLength};
-ghost use Rattle.codec.specs.Reader.{checkHolds, numberFound, damagedNumber, blockValidity, payloadByte, headerByte, note_of, headerHolds, countsHold, headerValidity, firstValidity, payloadDemanded, demanded, laterBlocks, paddingHolds, blocksValidity, machineAt, pair_of, entriesOf, taken, readAnswer, table_of, readTable, zeroMachine, zeroPair, size_of};
-ghost use Rattle.codec.specs.Answers.{read_of, pairGiven, sizedOf, refusalOf};
+ghost use Rattle.codec.specs.Reader.{checkHolds, numberFound, damagedNumber, blockValidity, payloadByte, headerByte, noteOf, headerHolds, countsHold, headerValidity, firstValidity, payloadDemanded, demanded, laterBlocks, paddingHolds, blocksValidity, machineAt, pairOf, entriesOf, taken, readAnswer, table-of, readTable, zeroMachine, zeroPair, sizeOf};
+ghost use Rattle.codec.specs.Answers.{readOf, pairGiven, sizedOf, refusalOf};
 ghost use Rattle.codec.specs.Loading.{Loaded};
 ghost use Rattle.mask.specs.Tables.{front};
 
@@ -62,7 +62,7 @@ fn damaged_number(i: usize) -> u32
 // Block i: its check, and right after it its number.
 fn block_validity(bytes: &[u8], i: usize) -> Validity
     requires { 512 * i + 512 ≤ length bytes.now }
-    ensures { tested_of result ≡ blockValidity bytes.now i }
+    ensures { testedOf result ≡ blockValidity bytes.now i }
 {
     if !check_holds(bytes, i) {
         return Validity::Refused(machine::refuse(damaged_number(i), i, 0, 0));
@@ -115,7 +115,7 @@ fn header_byte(bytes: &[u8], k: usize) -> usize
 // The note whether a table follows.
 fn note_of(bytes: &[u8]) -> bool
     requires { 512 ≤ length bytes.now }
-    ensures { result ≡ note_of bytes.now }
+    ensures { result ≡ noteOf bytes.now }
 {
     header_byte(bytes, 9) == 1
 }
@@ -148,7 +148,7 @@ fn counts_hold(bytes: &[u8]) -> bool
 
 // Refusals 2, 3, 19 of block 0, 4 and 5, which rest on the length and the first block.
 fn first_validity(bytes: &[u8]) -> Validity
-    ensures { tested_of result ≡ firstValidity bytes.now }
+    ensures { testedOf result ≡ firstValidity bytes.now }
 {
     if bytes.len() == 0 {
         return Validity::Refused(machine::refuse(machine::BAD_LENGTH, 0, 0, 0));
@@ -165,7 +165,7 @@ fn first_validity(bytes: &[u8]) -> Validity
 // Refusals 4 and 5.
 fn header_validity(bytes: &[u8]) -> Validity
     requires { 512 ≤ length bytes.now }
-    ensures { tested_of result ≡ headerValidity bytes.now }
+    ensures { testedOf result ≡ headerValidity bytes.now }
 {
     if !header_holds(bytes) {
         return Validity::Refused(machine::refuse(machine::BAD_HEADER, 0, 0, 0));
@@ -205,7 +205,7 @@ fn payload_demanded(bytes: &[u8]) -> usize
 
 // A file's length in bytes, by its first block; refusals 2 to 5, and 19 of block 0.
 pub fn file_size(bytes: &[u8]) -> Size
-    ensures { sizedOf result ≡ size_of bytes.now }
+    ensures { sizedOf result ≡ sizeOf bytes.now }
 {
     match first_validity(bytes) {
         Validity::Refused(r) => Size::Refused(r),
@@ -221,7 +221,7 @@ pub fn file_size(bytes: &[u8]) -> Size
 // Refusals 7 and 19 of the blocks after block 0, the lowest first.
 fn later_blocks(bytes: &[u8]) -> Validity
     requires { 512 ≤ length bytes.now }
-    ensures { tested_of result ≡ laterBlocks bytes.now }
+    ensures { testedOf result ≡ laterBlocks bytes.now }
 {
     let later = bytes.len() / 512 - 1;
     for i in 0..later {
@@ -247,7 +247,7 @@ fn padding_holds(bytes: &[u8]) -> bool
 // Refusals 7 and 19 of the later blocks, and 8.
 fn later_validity(bytes: &[u8]) -> Validity
     requires { length bytes.now ≡ demanded bytes.now }
-    ensures { tested_of result ≡ blocksValidity bytes.now }
+    ensures { testedOf result ≡ blocksValidity bytes.now }
 {
     let blocks = later_blocks(bytes);
     if let Validity::Refused(r) = blocks {
@@ -261,7 +261,7 @@ fn later_validity(bytes: &[u8]) -> Validity
 
 // Refusals 2 to 8, and 19: up to 6, with 19 of block 0, by the first block and the length that it demands.
 fn file_validity(bytes: &[u8]) -> Validity
-    ensures { tested_of result ≡ and_then (firstValidity bytes.now) (blocksValidity bytes.now) }
+    ensures { testedOf result ≡ andThen (firstValidity bytes.now) (blocksValidity bytes.now) }
 {
     match file_size(bytes) {
         Size::Refused(r) => Validity::Refused(r),
@@ -302,8 +302,8 @@ fn observations_at(q: &[u8], at: usize, n: usize) -> [u8; 64]
 
 // Writes the count masks at a place to the front of a buffer.
 fn masks_at(q: &[u8], at: usize, count: usize, out: &mut [u64])
-    requires count_in_bounds { count ≤ length out.old }
-    requires count_in_bounds_2 { at + 8 * count ≤ length q.now }
+    requires target { count ≤ length out.old }
+    requires source { at + 8 * count ≤ length q.now }
     ensures { out.new ≡ front count (λ k. numberAt 8 q.now (at + 8 * k)) out.old }
 {
     for k in 0..count {
@@ -313,8 +313,8 @@ fn masks_at(q: &[u8], at: usize, count: usize, out: &mut [u64])
 
 // Writes the count table entries at a place to the front of a table.
 fn entries_at(q: &[u8], at: usize, count: usize, table: &mut [u16])
-    requires count_in_bounds { count ≤ length table.old }
-    requires count_in_bounds_2 { at + 2 * count ≤ length q.now }
+    requires target { count ≤ length table.old }
+    requires source { at + 2 * count ≤ length q.now }
     ensures { table.new ≡ front count (λ e. numberAt 2 q.now (at + 2 * e)) table.old }
 {
     for e in 0..count {
@@ -345,7 +345,7 @@ fn machine_at(q: &[u8], at: usize, n: usize, sets: usize) -> Machine
 // The machines and the hidden mask of a file whose payload is loaded.
 fn pair_at(bytes: &[u8], q: &[u8]) -> Pair
     requires { Loaded bytes.now q.now }
-    ensures { result ≡ pair_of bytes.now }
+    ensures { result ≡ pairOf bytes.now }
 {
     let c = header_byte(bytes, 4);
     let a = header_byte(bytes, 5);
@@ -362,7 +362,7 @@ fn pair_at(bytes: &[u8], q: &[u8]) -> Pair
 // Writes the table of a file whose payload is loaded to the front of a lent table.
 fn table_at(bytes: &[u8], q: &[u8], table: &mut [u16])
     requires loaded { Loaded bytes.now q.now }
-    requires bytes_value { note_of bytes.now ≡ true }
+    requires bytes_value { noteOf bytes.now ≡ true }
     requires table_room_in_bounds { tableRoom ≤ length table.old }
     ensures { table.new ≡ entriesOf bytes.now ++ drop (length (entriesOf bytes.now)) table.old }
 {
@@ -392,7 +392,7 @@ fn zero_machine() -> Machine
 
 // The answer beside a refusal.
 fn refused_show(r: Refusal) -> Show
-    ensures answer { read_of result ≡ refused r }
+    ensures answer { readOf result ≡ refused r }
     ensures machines { result.pair ≡ zeroPair }
 {
     Show {
@@ -407,11 +407,11 @@ fn refused_show(r: Refusal) -> Show
 
 // The show of a file whose blocks hold, with its table in the lent one: refusals 9 to 11, and what is taken.
 fn take_show(bytes: &[u8], table: &mut [u16]) -> Show
-    requires bytes_value { and_then (firstValidity bytes.now) (blocksValidity bytes.now) ≡ valid }
+    requires bytes_value { andThen (firstValidity bytes.now) (blocksValidity bytes.now) ≡ valid }
     requires table_room_in_bounds { tableRoom ≤ length table.old }
-    ensures answer { read_of result ≡ and_then (pairValidity (pair_of bytes.now)) (answer (taken (pair_of bytes.now) (note_of bytes.now))) }
-    ensures machines { result.pair ≡ pairGiven (and_then (pairValidity (pair_of bytes.now)) (answer (taken (pair_of bytes.now) (note_of bytes.now)))) }
-    ensures content { table.new ≡ bufferAfter (pairValidity (pair_of bytes.now)) (table_of bytes.now) table.old }
+    ensures answer { readOf result ≡ andThen (pairValidity (pairOf bytes.now)) (answer (taken (pairOf bytes.now) (noteOf bytes.now))) }
+    ensures machines { result.pair ≡ pairGiven (andThen (pairValidity (pairOf bytes.now)) (answer (taken (pairOf bytes.now) (noteOf bytes.now)))) }
+    ensures content { table.new ≡ bufferAfter (pairValidity (pairOf bytes.now)) (table-of bytes.now) table.old }
 {
     let mut payload = [0u8; PAYLOAD_ROOM];
     join(bytes, &mut payload);
@@ -433,7 +433,7 @@ fn take_show(bytes: &[u8], table: &mut [u16]) -> Show
 
 // Reads a file: its machines with their hidden mask, the note whether a table came, and the table into a lent one.
 pub fn read_file(bytes: &[u8], table: &mut [u16]) -> Show
-    ensures answer { read_of result ≡ readAnswer bytes.now table.old }
+    ensures answer { readOf result ≡ readAnswer bytes.now table.old }
     ensures machines { result.pair ≡ pairGiven (readAnswer bytes.now table.old) }
     ensures content { table.new ≡ readTable bytes.now table.old }
 {

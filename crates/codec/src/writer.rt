@@ -7,7 +7,7 @@ ghost use Rattle.machine.specs.WellFormed.{wellFormed};
 ghost use Rattle.machine.specs.Table.{tableRoom};
 ghost use Rattle.codec.specs.Writer.{fileRoom, writeAnswer, writeBuffer};
 ghost use Rattle.codec.specs.Answers.{sizedOf};
-ghost use Rattle.codec.specs.Format.{bytes_of, numbers, header, machineBytes, payload, payloadMost, payloadLength, fileLength, block, fileOf};
+ghost use Rattle.codec.specs.Format.{bytesOf, numbers, header, machineBytes, payload, payloadMost, payloadLength, fileLength, block, fileOf};
 
 use super::{FILE_ROOM, PAYLOAD_ROOM, Size, check_at, copy_to};
 use machine::{Machine, Pair, Validity};
@@ -17,7 +17,7 @@ use machine::{Machine, Pair, Validity};
 // Writes the n bytes of x at a place, low byte first.
 fn put_number(out: &mut [u8], at: usize, x: u64, n: usize)
     requires { at + n ≤ length out.old }
-    ensures { out.new ≡ sets out.old at (bytes_of n x) }
+    ensures { out.new ≡ sets out.old at (bytesOf n x) }
 {
     let mut rest = x;
     for i in 0..n {

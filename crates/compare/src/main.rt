@@ -1,5 +1,6 @@
 // Compares solver, solver by turns, check and player with brute force on series of small pairs, and writes a line of counts for each.
 #![tactic(auto)]
+
 ghost use Rattle.std.specs.Prelude.{true, false, ◌≡◌};
 
 use brute::Shape;
@@ -115,14 +116,17 @@ fn under(
     y: Numbers,
     trial: Trial,
 ) -> io::Result<()> {
-    line(rt, Series {
-        concrete: c,
-        concretes: x,
-        abstraction: a,
-        abstractions: y,
-        hidden,
-        trial,
-    })
+    line(
+        rt,
+        Series {
+            concrete: c,
+            concretes: x,
+            abstraction: a,
+            abstractions: y,
+            hidden,
+            trial,
+        },
+    )
 }
 
 // Tiny pairs, with all the tables and families that they have.

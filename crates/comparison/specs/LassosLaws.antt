@@ -5,7 +5,7 @@ use Rattle.std.proofs.Math.Path.{sym}
 use Rattle.std.proofs.lemmas.Bool.{lt-leb}
 use Rattle.mask.specs.Bounded.{every}
 use Rattle.mask.specs.Logic.{and}
-use Rattle.mask.specs.LogicLaws.{and-false-l, and-true-l, or_l, or-false-l, not-i, not_f}
+use Rattle.mask.specs.LogicLaws.{and-false-l, and-true-l, or-l, or-false-l, not-i, not-f}
 use Rattle.machine.specs.declared.Pair.{Pair}
 use Rattle.machine.specs.declared.Refusal.{Refusal}
 use Rattle.machine.specs.WellFormed.{wellFormed}
@@ -56,11 +56,11 @@ module _ (p : Pair) (T : List ℕ) (l : Lasso) (B : List ℕ) where
     module _ (e : sameFour x y ≡ true) where
       pub agrees-stopped : (x.number ≢ 0) → lassoAgrees p T l B x y ≡ true
       unfolding lassoAgrees
-      agrees-stopped h = and-true-l _ e ∙ or_l _ (not-i (ne_eqb _ _ h))
+      agrees-stopped h = and-true-l _ e ∙ or-l _ (not-i (ne_eqb _ _ h))
 
       pub agrees-run : x.number ≡ 0 → lassoAgrees p T l B x y ≡ runFits p T l B x.first x.second
       unfolding lassoAgrees
-      agrees-run h = and-true-l _ e ∙ or-false-l _ (not_f (eq-eqb _ _ h))
+      agrees-run h = and-true-l _ e ∙ or-false-l _ (not-f (eq-eqb _ _ h))
 
 pub power-none : (base n : ℕ) → n ≡ 0 → 1 ≡ power base n
 unfolding power
@@ -75,10 +75,10 @@ unfolding power
 power-two base n f g = rw (ne_eqb n 0 f, ne_eqb n 1 g)
 
 -- a lasso in the digits L of x, its loop of n states
-pub numbered_is : (p : Pair) (T L : List ℕ) (top s q x n : ℕ) (t : Tally) → L ≡ statesOf top x 4 → n ≡ q
+pub numbered-is : (p : Pair) (T L : List ℕ) (top s q x n : ℕ) (t : Tally) → L ≡ statesOf top x 4 → n ≡ q
     → t ≡ lassoTally p T (given (take s L) (take n (drop s L))) → t ≡ lassoTally p T (numberedLasso top s q x)
 unfolding numberedLasso
-numbered_is p T L top s q x n t e en et = et ∙ rw (e, en)
+numbered-is p T L top s q x n t e en et = et ∙ rw (e, en)
 
 -- with a buffer Z of any length
 tally-in : (p : Pair) (T : List ℕ) (l : Lasso) (Z B : List ℕ) (x y : Result Played) (v w : Refusal) (a : Bool) (t : Tally)
@@ -94,10 +94,10 @@ pub lasso-tally-is : (p : Pair) (T : List ℕ) (l : Lasso) (B : List ℕ) (x y :
 unfolding lassoTally
 lasso-tally-is p T l B x y v w a t = tally-in p T l zeros B x y v w a t
 
-pub shape_is : (p : Pair) (T : List ℕ) (top s q a b n : ℕ) (t : Tally) → a ≡ power (top + 1) s → b ≡ power (top + 1) q → n ≡ a * b
+pub shape-is : (p : Pair) (T : List ℕ) (top s q a b n : ℕ) (t : Tally) → a ≡ power (top + 1) s → b ≡ power (top + 1) q → n ≡ a * b
     → t ≡ total n (λ x. lassoTally p T (numberedLasso top s q x)) → t ≡ shapeTally p T top s q
 unfolding shapeTally
-shape_is p T top s q a b n t ea eb en et = et ∙ rw (en, ea, eb)
+shape-is p T top s q a b n t ea eb en et = et ∙ rw (en, ea, eb)
 
 pub lassos-is : (p : Pair) (T : List ℕ) (top longest n : ℕ) (t : Tally) → n ≡ 3 * (min longest 2 + 1)
     → t ≡ total n (λ i. shapeTally p T top (i / 3) (i % 3)) → t ≡ lassosTally p T top longest

@@ -3,7 +3,7 @@ use Rattle.std.specs.Prelude.{◌≡◌, ℕ, ◌+◌, ◌*◌, Bool, true, fals
 use Rattle.std.proofs.Common.{◌∙◌, sym, eq-eqb, ne_eqb}
 use Rattle.std.proofs.Math.Path.{ap}
 use Rattle.mask.specs.Logic.{not}
-use Rattle.mask.specs.LogicLaws.{and-false-l, and_i, and-true-l, not_f, not-i, or-false-l, or_l}
+use Rattle.mask.specs.LogicLaws.{and-false-l, and-i, and-true-l, not-f, not-i, or-false-l, or-l}
 use Rattle.machine.specs.declared.Pair.{Pair}
 use Rattle.machine.specs.declared.Refusal.{Refusal}
 use Rattle.machine.specs.Refusals.{Tested, refused, valid}
@@ -28,23 +28,23 @@ use Rattle.comparison.specs.Tables.{zeros, within, tableTally, triedTable}
 use Rattle.comparison.specs.Tallies.{nothing, plus, total, ofPair, ofSolution, ofUnsolved}
 
 module _ (own : Tally) (every : Bool) (carrying : ℕ) where
-  pub fits_refused : own.passing ≡ 0 → verdictFits own every carrying ≡ false
+  pub fits-refused : own.passing ≡ 0 → verdictFits own every carrying ≡ false
   unfolding verdictFits
-  fits_refused e = and-false-l _ (not_f (eq-eqb _ 0 e))
+  fits-refused e = and-false-l _ (not-f (eq-eqb _ 0 e))
 
   module _ (h : own.passing ≡ 0 → ⊥) where
     pub fits-some : every ≡ false → verdictFits own every carrying ≡ true
     unfolding verdictFits
-    fits-some t = and_i (not-i (ne_eqb _ 0 h)) (or_l _ (not-i t))
+    fits-some t = and-i (not-i (ne_eqb _ 0 h)) (or-l _ (not-i t))
 
     module _ (t : every ≡ true) where
       pub fits-none : own.carrying ≡ 0 → verdictFits own every carrying ≡ (carrying == 0)
       unfolding verdictFits
-      fits-none e = and-true-l _ (not-i (ne_eqb _ 0 h)) ∙ or-false-l _ (not_f t) ∙ rw (eq-eqb _ 0 e)
+      fits-none e = and-true-l _ (not-i (ne_eqb _ 0 h)) ∙ or-false-l _ (not-f t) ∙ rw (eq-eqb _ 0 e)
 
       pub fits-carried : (own.carrying ≢ 0) → verdictFits own every carrying ≡ not (carrying == 0)
       unfolding verdictFits
-      fits-carried e = and-true-l _ (not-i (ne_eqb _ 0 h)) ∙ or-false-l _ (not_f t) ∙ rw (ne_eqb _ 0 e)
+      fits-carried e = and-true-l _ (not-i (ne_eqb _ 0 h)) ∙ or-false-l _ (not-f t) ∙ rw (ne_eqb _ 0 e)
 
 module _ (p : Pair) (n : ℕ) (fits : Bool) (L S : List ℕ) where
   pub agrees-unfit : fits ≡ false → solutionAgrees p n fits L S ≡ false
@@ -120,9 +120,9 @@ module _ (t : Trial) (p : Pair) (v u : Tested) (x y : Refusal) (same : Bool) (tr
   pair-formed e S turns first formed r eS eo ef eg er = rw (er, eg, ef, eo, eS) (sym (pair-at ∙ rw e))
 
 module _ (s : Series) where
-  pub row_is : (x n : ℕ) (r : Tally) → n ≡ s.abstractions.count → r ≡ total n (λ i. pairTally s.trial (numberedPair s.concrete s.abstraction s.hidden x (i * s.abstractions.step))) → r ≡ rowTally s x
+  pub row-is : (x n : ℕ) (r : Tally) → n ≡ s.abstractions.count → r ≡ total n (λ i. pairTally s.trial (numberedPair s.concrete s.abstraction s.hidden x (i * s.abstractions.step))) → r ≡ rowTally s x
   unfolding rowTally
-  row_is x n r e er = er ∙ ap (λ k. total k (λ i. pairTally s.trial (numberedPair s.concrete s.abstraction s.hidden x (i * s.abstractions.step)))) e
+  row-is x n r e er = er ∙ ap (λ k. total k (λ i. pairTally s.trial (numberedPair s.concrete s.abstraction s.hidden x (i * s.abstractions.step)))) e
 
   pub series-is : (n : ℕ) (r : Tally) → n ≡ s.concretes.count → r ≡ total n (λ i. rowTally s (i * s.concretes.step)) → r ≡ seriesTally s
   unfolding seriesTally

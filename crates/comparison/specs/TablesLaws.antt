@@ -1,11 +1,11 @@
 -- Laws of tables that cover each other, and of tables laid over the front of a buffer.
 use Rattle.std.specs.Prelude.{◌≡◌, ℕ, ◌<◌, ◌≤◌, Bool, true, false, cond, List, length, ◌==◌, ◌≢◌, nat_le, nat_lt, slice_index, refl}
 use Rattle.std.proofs.Common.{◌∙◌, ap, eq-eqb, le-ltb, lt-ltb, ne_eqb}
-use Rattle.mask.specs.BoundedLaws.{every-not, every_of}
+use Rattle.mask.specs.BoundedLaws.{every-not, every-of}
 use Rattle.mask.specs.Logic.{not, or}
-use Rattle.mask.specs.LogicLaws.{and-false-l, and_i, and-true-l, not_f, not-i, or-false, or-false-l, or_l, or_r}
+use Rattle.mask.specs.LogicLaws.{and-false-l, and-i, and-true-l, not-f, not-i, or-false, or-false-l, or-l, or-r}
 use Rattle.mask.specs.Tables.{table}
-use Rattle.mask.specs.TablesLaws.{table_at, table-cong, table-length}
+use Rattle.mask.specs.TablesLaws.{table-at, table-cong, table-length}
 use Rattle.machine.specs.Table.{blank}
 use Rattle.machine.specs.Refusals.{Result}
 use Rattle.machine.specs.Verdict.{Verdict, checkVerdict, checkEmptySet}
@@ -24,19 +24,19 @@ coveredToo t s = or (t == blank) (not (s == blank))
 module _ (t s : ℕ) where
   pub too-blank : t ≡ blank → coveredToo t s ≡ true
   unfolding coveredToo
-  too-blank p = or_l _ (eq-eqb t blank p)
+  too-blank p = or-l _ (eq-eqb t blank p)
 
   pub too-held : (s ≢ blank) → coveredToo t s ≡ true
   unfolding coveredToo
-  too-held q = or_r _ (not-i (ne_eqb s blank q))
+  too-held q = or-r _ (not-i (ne_eqb s blank q))
 
   pub too-not : (t ≢ blank) → s ≡ blank → coveredToo t s ≡ false
   unfolding coveredToo
-  too-not p q = or-false (ne_eqb t blank p) (not_f (eq-eqb s blank q))
+  too-not p q = or-false (ne_eqb t blank p) (not-f (eq-eqb s blank q))
 
-pub within_of : (n : ℕ) (T S : List ℕ) → ((e : ℕ) → e < n → coveredToo (slice_index T e) (slice_index S e) ≡ true) → within n T S ≡ true
+pub within-of : (n : ℕ) (T S : List ℕ) → ((e : ℕ) → e < n → coveredToo (slice_index T e) (slice_index S e) ≡ true) → within n T S ≡ true
 unfolding within coveredToo
-within_of n T S h = every_of n _ h
+within-of n T S h = every-of n _ h
 
 pub within-not : (n : ℕ) (T S : List ℕ) (e : ℕ) → e < n → coveredToo (slice_index T e) (slice_index S e) ≡ false → within n T S ≡ false
 unfolding within coveredToo
@@ -50,7 +50,7 @@ module _ (n : ℕ) (x y : Refusal) (S T : List ℕ) where
 
   pub agrees-failing : sameFour x y ≡ true → x.number < 100 → tableAgrees n x y S T ≡ true
   unfolding tableAgrees
-  agrees-failing t h = and_i t (or_l _ (lt-ltb _ _ h))
+  agrees-failing t h = and-i t (or-l _ (lt-ltb _ _ h))
 
   pub agrees-passing : sameFour x y ≡ true → 100 ≤ x.number → tableAgrees n x y S T ≡ within n T S
   unfolding tableAgrees
@@ -63,7 +63,7 @@ overlaid n f T = table (length T) (λ e. cond (nat_lt e n) (f e) (slice_index T 
 -- what was exchanged before is of no account
 overlaid-twice : (n : ℕ) (f g : ℕ → ℕ) (T : List ℕ) → overlaid n f (overlaid n g T) ≡ overlaid n f T
 overlaid-twice n f g T =
-    rw (table-length (length T)) (table-cong (length T) _ _ (λ e h. ap (cond (nat_lt e n) (f e)) (table_at {A = ℕ} (length T) _ e 0 h) ∙ twice (nat_lt e n) (f e) (g e) (slice_index T e)))
+    rw (table-length (length T)) (table-cong (length T) _ _ (λ e h. ap (cond (nat_lt e n) (f e)) (table-at {A = ℕ} (length T) _ e 0 h) ∙ twice (nat_lt e n) (f e) (g e) (slice_index T e)))
   where
     twice : (b : Bool) (x y z : ℕ) → cond b x (cond b y z) ≡ cond b x z
     twice true x y z = refl
@@ -74,8 +74,8 @@ module _ (e q w s v : ℕ) where
   pub entry-changed : e ≡ q → v ≡ w → v ≡ cond (e == q) w s
   entry-changed h t = rw (eq-eqb e q h) t
 
-  pub entry_kept : (e ≢ q) → v ≡ s → v ≡ cond (e == q) w s
-  entry_kept h t = rw (ne_eqb e q h) t
+  pub entry-kept : (e ≢ q) → v ≡ s → v ≡ cond (e == q) w s
+  entry-kept h t = rw (ne_eqb e q h) t
 
 -- ---- table number x
 module _ (every : Bool) (top n : ℕ) (S : List ℕ) (x : ℕ) (T r : List ℕ) where

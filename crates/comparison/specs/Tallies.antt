@@ -74,8 +74,8 @@ unfoldable pub ofLasso : Bool → Bool → Tally
 ofLasso runs agrees = counts 0 0 0 0 0 0 0 0 1 (cond runs 1 0) 0 0 0 0 (cond agrees 0 1)
 
 -- one comparison that has no count of its own
-unfoldable pub of_test : Bool → Tally
-of_test agrees = counts 0 0 0 0 0 0 0 0 0 0 0 0 0 0 (cond agrees 0 1)
+unfoldable pub ofTest : Bool → Tally
+ofTest agrees = counts 0 0 0 0 0 0 0 0 0 0 0 0 0 0 (cond agrees 0 1)
 
 -- one turn
 unfoldable pub ofTurn : Bool → Bool → Tally

@@ -5,16 +5,16 @@ use Rattle.mask.specs.Logic.{not, and, or}
 use Rattle.machine.specs.declared.Pair.{Pair}
 use Rattle.machine.specs.declared.Refusal.{Refusal}
 use Rattle.machine.specs.Machines.{nC, nA, setsA}
-use Rattle.machine.specs.Refusals.{refusal, out_of_range}
+use Rattle.machine.specs.Refusals.{refusal, out-of-range}
 use Rattle.machine.specs.WellFormed.{nonemptyValidity}
-use Rattle.machine.specs.Table.{blank, entries, place_of, tableRoom}
+use Rattle.machine.specs.Table.{blank, entries, place-of, tableRoom}
 use Rattle.progress.specs.Turns.{firstGiven, turnAnswer, turnFamily, turnTable, lookUpAnswer}
 use Rattle.brute.specs.Families.{holdsPairs, familyTable, numberedFamily}
 use Rattle.brute.specs.Ranking.{tableRanked}
 use Rattle.comparison.specs.declared.tally.Tally.{Tally}
 use Rattle.comparison.specs.declared.turns.Known.{Known}
 use Rattle.comparison.specs.Answers.{testedFour, answeredFour, answerNumbers, sameFour, saysYes}
-use Rattle.comparison.specs.Tallies.{nothing, plus, total, of_test, ofTurn, ofLookUp}
+use Rattle.comparison.specs.Tallies.{nothing, plus, total, ofTest, ofTurn, ofLookUp}
 use Rattle.comparison.specs.Tables.{zeros, within}
 
 -- ---- a turn
@@ -29,8 +29,8 @@ marks = replicate tableRoom mark
 unfoldable pub keptFrom : ℕ → List ℕ → Bool
 keptFrom n T = every tableRoom (λ e. or (nat_lt e n) (slice_index T e == mark))
 
-unfoldable pub same_rows : List ℕ → List ℕ → Bool
-same_rows F N = every 448 (λ e. nat_eq (slice_index F e) (slice_index N e))
+unfoldable pub sameRows : List ℕ → List ℕ → Bool
+sameRows F N = every 448 (λ e. nat_eq (slice_index F e) (slice_index N e))
 
 -- N has the pairs with a rank over what G covers, and no stray bits
 unfoldable pub rowsFit : Pair → List ℕ → List ℕ → Bool
@@ -45,11 +45,11 @@ module _ (p : Pair) (k : Known) where
   unfoldable pub madeAgrees : Refusal → List ℕ → List ℕ → List ℕ → Bool
   madeAgrees said F N T =
       let G = familyTable p F zeros in
-      and (sameFour said (answerNumbers (same_rows F N))) (and (rowsFit p G N) (tableFits p k.entries (same_rows F N) G T))
+      and (sameFour said (answerNumbers (sameRows F N))) (and (rowsFit p G N) (tableFits p k.entries (sameRows F N) G T))
 
   -- and beside a refusal: family and table are as they were
   unfoldable pub stoppedAgrees : Refusal → List ℕ → List ℕ → List ℕ → Bool
-  stoppedAgrees said F N T = and (sameFour said k.plain) (and (same_rows F N) (keptFrom 0 T))
+  stoppedAgrees said F N T = and (sameFour said k.plain) (and (sameRows F N) (keptFrom 0 T))
 
   unfoldable pub turnAgrees : Refusal → List ℕ → List ℕ → List ℕ → Bool
   turnAgrees said F N T = cond (k.plain.number == 0) (madeAgrees said F N T) (stoppedAgrees said F N T)
@@ -72,8 +72,8 @@ in_range k j c a = and (not (j == 0)) (and (nat_le j k.sections) (and (nat_lt c 
 -- what a look-up has to say
 unfoldable pub plainLookUp : Known → List ℕ → ℕ → ℕ → ℕ → Refusal
 plainLookUp k G j c a =
-    let held = answerNumbers (not (slice_index G (place_of k.concretes k.abstractions (j - 1) c a) == blank)) in
-    cond (k.plain.number == 0) (cond (in_range k j c a) held (refusal out_of_range 0 0 0)) k.plain
+    let held = answerNumbers (not (slice_index G (place-of k.concretes k.abstractions (j - 1) c a) == blank)) in
+    cond (k.plain.number == 0) (cond (in_range k j c a) held (refusal out-of-range 0 0 0)) k.plain
 
 module _ (p : Pair) (k : Known) where
   -- one look-up
@@ -105,7 +105,7 @@ module _ (p : Pair) (k : Known) where
       let F = firstGiven p in
       let full = within k.entries (familyTable p (replicate 448 18446744073709551615) zeros) (familyTable p F zeros) in
       and (sameFour (testedFour (nonemptyValidity p)) k.plain)
-      (cond (k.plain.number == 0) (and (holdsPairs p F) full) (same_rows F (replicate 448 0)))
+      (cond (k.plain.number == 0) (and (holdsPairs p F) full) (sameRows F (replicate 448 0)))
 
 -- of n entries
 unfoldable pub sameEntries : ℕ → List ℕ → List ℕ → Bool
@@ -118,11 +118,11 @@ endAgrees p n F S = and (saysYes (turnSaid p F)) (sameEntries n (turnTable p F m
 module _ (p : Pair) (k : Known) (S : List ℕ) where
   -- the families from F to the finish, at most n of them, counted on to what was counted before
   unfoldable pub walked : ℕ → List ℕ → Tally → Tally
-  walked zero F sum = plus sum (of_test false)
+  walked zero F sum = plus sum (ofTest false)
   walked (suc n) F sum =
       let next = turnFamily p F (length marks) in
       let more = plus sum (familyTally p k F) in
-      let last = plus more (of_test (endAgrees p k.entries next S)) in
+      let last = plus more (ofTest (endAgrees p k.entries next S)) in
       let later = walked n next more in
       cond (saysYes (turnSaid p F)) last later
 
@@ -131,14 +131,14 @@ module _ (p : Pair) (k : Known) (S : List ℕ) where
   walkTally = walked (k.entries + 1) (firstGiven p) nothing
 
 -- what brute force says of a well-formed pair
-unfoldable pub known_of : Pair → Refusal → Known
-known_of p plain = record { plain = plain; entries = entries p; sections = setsA p; concretes = nC p; abstractions = nA p }
+unfoldable pub knownOf : Pair → Refusal → Known
+knownOf p plain = record { plain = plain; entries = entries p; sections = setsA p; concretes = nC p; abstractions = nA p }
 
 -- a pair that the solver takes, with its table S
 unfoldable pub turnsTally : Pair → Refusal → ℕ → ℕ → List ℕ → Tally
 turnsTally p plain row count S =
-    let k = known_of p plain in
-    plus (plus (of_test (firstAgrees p k)) (walkTally p k S)) (familiesTally p k row count)
+    let k = knownOf p plain in
+    plus (plus (ofTest (firstAgrees p k)) (walkTally p k S)) (familiesTally p k row count)
 
 -- and of one that it refuses
 unfoldable pub unknown : Refusal → Known
@@ -148,4 +148,4 @@ unknown plain = record { plain = plain; entries = 0; sections = 0; concretes = 0
 unfoldable pub stoppedTally : Pair → Refusal → Tally
 stoppedTally p plain =
     let k = unknown plain in
-    plus (of_test (firstAgrees p k)) (familyTally p k (replicate 448 5))
+    plus (ofTest (firstAgrees p k)) (familyTally p k (replicate 448 5))

@@ -2,7 +2,7 @@
 // the count for Carried; 200, c and the count for NotCarried, both with 1 as the last number where a concrete set is empty; 0 and 1 or 0 for yes
 // and no of a turn and a look-up.
 ghost use Rattle.std.specs.Prelude.{◌≡◌, if◌then◌else◌};
-ghost use Rattle.machine.specs.Refusals.{tested_of};
+ghost use Rattle.machine.specs.Refusals.{testedOf};
 ghost use Rattle.linecheck.specs.Answers.{verdictOf, emptySetOf};
 ghost use Rattle.player.specs.Answers.{playedOf};
 ghost use Rattle.progress.specs.Answers.{turnedOf, lookedUpOf};
@@ -17,8 +17,8 @@ use progress::{LookedUp, Turned};
 
 // The plain reading's answer about a table, in the check's form.
 pub fn as_checked(v: brute::Verdict) -> Checked
-    ensures result_value { verdictOf result ≡ plainVerdictOf v }
-    ensures result_value_2 { emptySetOf result ≡ plainEmptySetOf v }
+    ensures answer { verdictOf result ≡ plainVerdictOf v }
+    ensures empty { emptySetOf result ≡ plainEmptySetOf v }
 {
     match v {
         brute::Verdict::Carried(n, e) => Checked::Carried(n, e),
@@ -39,7 +39,7 @@ pub fn as_played(v: brute::Played) -> Played
 
 // The four numbers of what a test says.
 pub fn tested_four(v: Validity) -> Refusal
-    ensures { result ≡ testedFour (tested_of v) }
+    ensures { result ≡ testedFour (testedOf v) }
 {
     match v {
         Validity::Valid => machine::refuse(0, 0, 0, 0),

@@ -96,7 +96,7 @@ fn compare_numbered(p: Pair, table: &[u16], s: usize, q: usize, top: u8, x: u64)
 fn power_of(base: u64, n: usize) -> u64
     requires { base ≤ 256 }
     ensures value { result ≡ power base n }
-    ensures upper_bound { result ≤ 65536 }
+    ensures bound { result ≤ 65536 }
 {
     if n == 0 {
         return 1;

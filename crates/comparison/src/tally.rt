@@ -1,6 +1,6 @@
 // Counts of what was compared. They are added modulo 2^64.
 ghost use Rattle.std.specs.Prelude.{◌≡◌, if◌then◌else◌};
-ghost use Rattle.comparison.specs.Tallies.{nothing, plus, ofPair, ofSolution, ofUnsolved, ofTable, ofLasso, of_test, ofTurn, ofLookUp};
+ghost use Rattle.comparison.specs.Tallies.{nothing, plus, ofPair, ofSolution, ofUnsolved, ofTable, ofLasso, ofTest, ofTurn, ofLookUp};
 
 #[derive(Clone, Copy)]
 pub struct Tally {
@@ -120,7 +120,7 @@ pub fn of_lasso(runs: bool, agrees: bool) -> Tally
 
 // One comparison that has no count of its own.
 pub fn of_test(agrees: bool) -> Tally
-    ensures { result ≡ of_test agrees }
+    ensures { result ≡ ofTest agrees }
 {
     let mut t = none();
     t.differing = one_unless(agrees);

@@ -5,7 +5,7 @@ ghost use Rattle.machine.specs.WellFormed.{wellFormed};
 ghost use Rattle.machine.specs.Table.{tableRoom};
 ghost use Rattle.progress.specs.Turns.{turnFamily};
 ghost use Rattle.comparison.specs.Answers.{saysYes};
-ghost use Rattle.comparison.specs.Turns.{marks, keptFrom, same_rows, sameEntries, rowsFit, tableFits, turnAgrees, turnSaid, turnTally, in_range, plainLookUp, lookUpTally, lookUpsTally, familyTally, familiesTally, firstAgrees, endAgrees, walkTally, turnsTally, stoppedTally};
+ghost use Rattle.comparison.specs.Turns.{marks, keptFrom, sameRows, sameEntries, rowsFit, tableFits, turnAgrees, turnSaid, turnTally, in_range, plainLookUp, lookUpTally, lookUpsTally, familyTally, familiesTally, firstAgrees, endAgrees, walkTally, turnsTally, stoppedTally};
 
 use crate::answers::{answered_four, looked_four, same_four, says_yes, tested_four, turned_four};
 use crate::tables::is_within;
@@ -49,7 +49,7 @@ fn is_kept(from: usize, table: &[u16]) -> bool
 
 // Whether two families have the same rows.
 fn same_rows(x: &[u64; 448], y: &[u64; 448]) -> bool
-    ensures { result ≡ same_rows x.now y.now }
+    ensures { result ≡ sameRows x.now y.now }
 {
     for e in 0..448 {
         if x[e] != y[e] {
@@ -119,9 +119,9 @@ fn turn_agrees(
 
 // One turn.
 fn compare_turn(p: Pair, k: Known, family: [u64; 448]) -> Step
-    ensures tally_value { result.tally ≡ turnTally p k family }
-    ensures finished_value { result.finished ≡ saysYes (turnSaid p family) }
-    ensures family_value { result.family ≡ turnFamily p family (length marks) }
+    ensures tally { result.tally ≡ turnTally p k family }
+    ensures finished { result.finished ≡ saysYes (turnSaid p family) }
+    ensures family { result.family ≡ turnFamily p family (length marks) }
 {
     let mut table = [MARK; machine::TABLE_ROOM];
     let made = progress::turn(p, family, &mut table);
@@ -216,9 +216,9 @@ fn compare_look_ups(p: Pair, k: Known, family: [u64; 448]) -> Tally
 
 // The turn of one family, and its look-ups.
 fn compare_family(p: Pair, k: Known, family: [u64; 448]) -> Step
-    ensures tally_value { result.tally ≡ familyTally p k family }
-    ensures finished_value { result.finished ≡ saysYes (turnSaid p family) }
-    ensures family_value { result.family ≡ turnFamily p family (length marks) }
+    ensures tally { result.tally ≡ familyTally p k family }
+    ensures finished { result.finished ≡ saysYes (turnSaid p family) }
+    ensures family { result.family ≡ turnFamily p family (length marks) }
 {
     let step = compare_turn(p, k, family);
     let turned = step.tally;

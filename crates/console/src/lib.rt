@@ -2,7 +2,7 @@
 #![tactic(auto)]
 
 ghost use Rattle.std.specs.Prelude.{◌≡◌, take};
-ghost use Rattle.codec.specs.Reader.{size_of};
+ghost use Rattle.codec.specs.Reader.{sizeOf};
 ghost use Rattle.verdict.specs.Outcomes.{fileOutcome, outcomeNumber};
 ghost use Rattle.console.specs.FirstBlock.{sizeNumber};
 
@@ -29,7 +29,7 @@ pub fn console_answer(bytes: &[u8]) -> u32
 // The length in bytes that the whole file must have, by its first block, or a refusal's number, which is less than any length. It looks at
 // no more than the first block; fewer bytes are refused.
 pub fn first_block_answer(bytes: &[u8]) -> u32
-    ensures { result ≡ sizeNumber (size_of (take 512 bytes.now)) }
+    ensures { result ≡ sizeNumber (sizeOf (take 512 bytes.now)) }
 {
     let end = if bytes.len() < 512 { bytes.len() } else { 512 };
     match codec::reader::file_size(&bytes[..end]) {

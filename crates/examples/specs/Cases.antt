@@ -5,25 +5,25 @@ use Rattle.std.specs.Prelude.{Bool, true, false, List, [], ◌∷◌, ◌≡◌,
 use Rattle.mask.specs.Logic.{not, and, or}
 use Rattle.mask.specs.Bits.{hasBit}
 use Rattle.mask.specs.Bounded.{every, some, first, sum, count, everyIn, someIn}
-use Rattle.mask.specs.Tables.{mask_of, table}
+use Rattle.mask.specs.Tables.{maskOf, table}
 use Rattle.machine.specs.declared.Machine.{Machine}
 use Rattle.machine.specs.declared.Pair.{Pair}
 use Rattle.machine.specs.Machines.{observation, successors, moves, starts, fairSet, inFairSet, sameObservation, pairUnder, matched, next}
-use Rattle.machine.specs.Refusals.{Result, answer, refused, refusal, and_then, passOn}
+use Rattle.machine.specs.Refusals.{Result, answer, refused, refusal, andThen, passOn}
 use Rattle.machine.specs.WellFormed.{countsOk, beyond, stateBeyond, setBeyond, beyondCounts, firstEmpty, hasEmptySet, contentValidity, setsValidity, contentTests, pairTests, nonemptyValidity}
 use Rattle.machine.specs.Lassos.{Lasso, moment}
-use Rattle.machine.specs.Step.{steps, better, least, partner, staying, singleStep, found, state_of}
+use Rattle.machine.specs.Step.{steps, better, least, partner, staying, singleStep, found, stateOf}
 use Rattle.machine.specs.Iteration.{iterate, settle}
 use Rattle.machine.specs.Game.{pairSet, mem, sameSet, none, allMatched, goals, inX, roundX, xOver, xsOver, union, levelOver, levels, turn, firstFamily, sameFamily, family}
 use Rattle.machine.specs.Ranks.{levelOf, setOf, towerOver, tower, rankIn, rankTable, solverTable}
 use Rattle.machine.specs.Table.{blank, entryIndex, entry, covers, coveredCount}
-use Rattle.machine.specs.Lines.{nonBlank, lower, at_most, goalLine, rankLine, passes, linesValidity}
+use Rattle.machine.specs.Lines.{nonBlank, lower, atMost, goalLine, rankLine, passes, linesValidity}
 use Rattle.machine.specs.Verdict.{Verdict, carried, notCarried, startCovered, lackingStart, startVerdict, linesVerdict, emptySetTold}
 use Rattle.machine.specs.Player.{badLength, badStep, missedSet, lassoValidity, startPartner, startValidity, sectionAfter, follow, stepTo, placeAt, samePlace, lastRound, earlierRound, stemLength, loopLength, run, playValidity, playAnswer, Played, played}
 
 -- a machine whose start state is 0, from the lists of its states' observations and successor masks and of its sets
-machine_of : List ℕ → List ℕ → List ℕ → Machine
-machine_of observations successors sets = record {
+machineOf : List ℕ → List ℕ → List ℕ → Machine
+machineOf observations successors sets = record {
   states = length observations;
   sets = length sets;
   start = 1;
@@ -43,16 +43,16 @@ under hidden p = pairUnder hidden p.concrete p.abstraction
 
 -- K with its observation and its sets
 K : ℕ → List ℕ → Machine
-K o sets = machine_of (o ∷ []) (1 ∷ []) sets
+K o sets = machineOf (o ∷ []) (1 ∷ []) sets
 
 S : Machine
-S = machine_of (0 ∷ 0 ∷ []) (3 ∷ 2 ∷ []) (2 ∷ [])
+S = machineOf (0 ∷ 0 ∷ []) (3 ∷ 2 ∷ []) (2 ∷ [])
 
 Late : Machine
-Late = machine_of (0 ∷ 1 ∷ 2 ∷ 3 ∷ []) (2 ∷ 12 ∷ 4 ∷ 8 ∷ []) (15 ∷ [])
+Late = machineOf (0 ∷ 1 ∷ 2 ∷ 3 ∷ []) (2 ∷ 12 ∷ 4 ∷ 8 ∷ []) (15 ∷ [])
 
 Early : Machine
-Early = machine_of (0 ∷ 1 ∷ 1 ∷ 2 ∷ 3 ∷ []) (6 ∷ 8 ∷ 16 ∷ 8 ∷ 16 ∷ []) (31 ∷ [])
+Early = machineOf (0 ∷ 1 ∷ 1 ∷ 2 ∷ 3 ∷ []) (6 ∷ 8 ∷ 16 ∷ 8 ∷ 16 ∷ []) (31 ∷ [])
 
 -- what a case asks, and what is answered: the solver's table, the check's verdict on a table and whether a concrete set is empty, the player's run;
 -- the ranks alone, of machines that the solver refuses or not, and what stops the player
@@ -64,7 +64,7 @@ data Reply : Type 0 where
   stops : Result Played → Reply
 
 solve : Pair → Reply
-solve p = solves (and_then (nonemptyValidity p) (answer (solverTable p)))
+solve p = solves (andThen (nonemptyValidity p) (answer (solverTable p)))
 
 rankAll : Pair → Reply
 rankAll p = ranks (solverTable p)
@@ -117,32 +117,32 @@ answered =
     ∷ []
 
 cases : asked ≡ answered
-unfolding machine_of ◌by◌ K S Late Early solve check solveAndCheck play asked answered not and or hasBit every some first sum count everyIn someIn mask_of table observation successors moves starts fairSet inFairSet sameObservation matched next and_then passOn countsOk beyond stateBeyond setBeyond beyondCounts firstEmpty hasEmptySet contentValidity setsValidity contentTests pairTests moment steps better least partner staying singleStep found state_of iterate settle pairSet mem sameSet none allMatched goals inX roundX xOver xsOver union levelOver levels turn firstFamily sameFamily family levelOf setOf towerOver tower rankIn rankTable solverTable entryIndex entry covers coveredCount nonBlank lower at_most goalLine rankLine passes linesValidity startCovered lackingStart startVerdict linesVerdict emptySetTold badLength badStep missedSet lassoValidity startPartner startValidity sectionAfter follow stepTo placeAt samePlace lastRound earlierRound stemLength loopLength run playValidity playAnswer
+unfolding machineOf ◌by◌ K S Late Early solve check solveAndCheck play asked answered not and or hasBit every some first sum count everyIn someIn maskOf table observation successors moves starts fairSet inFairSet sameObservation matched next andThen passOn countsOk beyond stateBeyond setBeyond beyondCounts firstEmpty hasEmptySet contentValidity setsValidity contentTests pairTests moment steps better least partner staying singleStep found stateOf iterate settle pairSet mem sameSet none allMatched goals inX roundX xOver xsOver union levelOver levels turn firstFamily sameFamily family levelOf setOf towerOver tower rankIn rankTable solverTable entryIndex entry covers coveredCount nonBlank lower atMost goalLine rankLine passes linesValidity startCovered lackingStart startVerdict linesVerdict emptySetTold badLength badStep missedSet lassoValidity startPartner startValidity sectionAfter follow stepTo placeAt samePlace lastRound earlierRound stemLength loopLength run playValidity playAnswer
 cases = refl
 
 -- a concrete machine of two states, 0 to 0 and 1 to 0, one observation
 Two : List ℕ → Machine
-Two sets = machine_of (0 ∷ 0 ∷ []) (1 ∷ 1 ∷ []) sets
+Two sets = machineOf (0 ∷ 0 ∷ []) (1 ∷ 1 ∷ []) sets
 
 -- a machine of one state, which has no successor, and of one set, which is empty
 Stuck : Machine
-Stuck = machine_of (0 ∷ []) (0 ∷ []) (0 ∷ [])
+Stuck = machineOf (0 ∷ []) (0 ∷ []) (0 ∷ [])
 
 -- a concrete machine that shows a lamp, bit 2, in every second state
 Lamp : Machine
-Lamp = machine_of (0 ∷ 4 ∷ []) (2 ∷ 1 ∷ []) (3 ∷ [])
+Lamp = machineOf (0 ∷ 4 ∷ []) (2 ∷ 1 ∷ []) (3 ∷ [])
 
 -- an abstract machine that goes from 0 to 1 or 2 and back, and shows the lamp in 2
 Choice : Machine
-Choice = machine_of (0 ∷ 0 ∷ 4 ∷ []) (6 ∷ 1 ∷ 1 ∷ []) (7 ∷ [])
+Choice = machineOf (0 ∷ 0 ∷ 4 ∷ []) (6 ∷ 1 ∷ 1 ∷ []) (7 ∷ [])
 
 -- an abstract machine that goes from 0 to 1, and from 1 to 0 or 1
 Back : List ℕ → Machine
-Back sets = machine_of (0 ∷ 0 ∷ []) (2 ∷ 3 ∷ []) sets
+Back sets = machineOf (0 ∷ 0 ∷ []) (2 ∷ 3 ∷ []) sets
 
 -- an abstract machine of three states that goes from each to the two others
 Others : Machine
-Others = machine_of (0 ∷ 0 ∷ 0 ∷ []) (6 ∷ 5 ∷ 3 ∷ []) (7 ∷ [])
+Others = machineOf (0 ∷ 0 ∷ 0 ∷ []) (6 ∷ 5 ∷ 3 ∷ []) (7 ∷ [])
 
 -- cases with two concrete states, or with more than one set; what check and player say of the machines of case 2 and of case 3, where NotCarried and a
 -- failing entry stand beside an empty concrete set too; the order of 21: the concrete machine's before 11 of the abstract one, 11 before 21 of the
@@ -226,5 +226,5 @@ answeredMore =
     ∷ []
 
 casesMore : askedMore ≡ answeredMore
-unfolding machine_of ◌by◌ K S Late Early solve rankAll check solveAndCheck play stop askedMore answeredMore Two Stuck under Lamp Choice Back Others not and or hasBit every some first sum count everyIn someIn mask_of table observation successors moves starts fairSet inFairSet sameObservation matched next and_then passOn countsOk beyond stateBeyond setBeyond beyondCounts firstEmpty hasEmptySet contentValidity setsValidity contentTests pairTests moment steps better least partner staying singleStep found state_of iterate settle pairSet mem sameSet none allMatched goals inX roundX xOver xsOver union levelOver levels turn firstFamily sameFamily family levelOf setOf towerOver tower rankIn rankTable solverTable entryIndex entry covers coveredCount nonBlank lower at_most goalLine rankLine passes linesValidity startCovered lackingStart startVerdict linesVerdict emptySetTold badLength badStep missedSet lassoValidity startPartner startValidity sectionAfter follow stepTo placeAt samePlace lastRound earlierRound stemLength loopLength run playValidity playAnswer
+unfolding machineOf ◌by◌ K S Late Early solve rankAll check solveAndCheck play stop askedMore answeredMore Two Stuck under Lamp Choice Back Others not and or hasBit every some first sum count everyIn someIn maskOf table observation successors moves starts fairSet inFairSet sameObservation matched next andThen passOn countsOk beyond stateBeyond setBeyond beyondCounts firstEmpty hasEmptySet contentValidity setsValidity contentTests pairTests moment steps better least partner staying singleStep found stateOf iterate settle pairSet mem sameSet none allMatched goals inX roundX xOver xsOver union levelOver levels turn firstFamily sameFamily family levelOf setOf towerOver tower rankIn rankTable solverTable entryIndex entry covers coveredCount nonBlank lower atMost goalLine rankLine passes linesValidity startCovered lackingStart startVerdict linesVerdict emptySetTold badLength badStep missedSet lassoValidity startPartner startValidity sectionAfter follow stepTo placeAt samePlace lastRound earlierRound stemLength loopLength run playValidity playAnswer
 casesMore = refl

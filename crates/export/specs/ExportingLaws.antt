@@ -3,16 +3,16 @@ use Rattle.std.specs.Prelude.{List, ◌++◌, ◌≡◌, ℕ, ◌≤◌, ◌<◌
 use Rattle.std.proofs.Math.Path.{sym, ap}
 use Rattle.std.proofs.Common.{◌∙◌, arith, lt-ltb, le-ltb}
 use Rattle.std.proofs.Math.ListN.{drop}
-use Rattle.mask.specs.LogicLaws.{cond_cases}
+use Rattle.mask.specs.LogicLaws.{cond-cases}
 use Rattle.machine.specs.declared.Machine.{Machine}
 use Rattle.machine.specs.declared.Pair.{Pair}
 use Rattle.machine.specs.declared.Refusal.{Refusal}
-use Rattle.machine.specs.Refusals.{Result, answer, refused, valid, refusal, short-buffer, out_of_range}
+use Rattle.machine.specs.Refusals.{Result, answer, refused, valid, refusal, short-buffer, out-of-range}
 use Rattle.machine.specs.RefusalsLaws.{then-of, then-refused, then-answer, given-at, buffer-valid, buffer-short, buffer-made, buffer-kept}
 use Rattle.machine.specs.WellFormed.{machineValidity}
 use Rattle.machine.specs.WellFormedLaws.{both-valid}
 use Rattle.machine.specs.Table.{tableRoom}
-use Rattle.codec.specs.Reader.{pair_of, readValidity}
+use Rattle.codec.specs.Reader.{pairOf, readValidity}
 use Rattle.codec.specs.FileLaws.{read-well}
 use Rattle.hanoi.specs.Text.{textRoom, hoaText, textAnswer, textBuffer}
 use Rattle.hanoi.specs.CallLaws.{text-given, text-left}
@@ -21,11 +21,11 @@ use Rattle.export.specs.Exporting.{machineIn, whichValidity, exportValidity, exp
 
 -- ---- which machine it is
 module _ (f : List ℕ) where
-  pub first-machine : {p : Pair} (which : ℕ) → which ≡ 0 → p ≡ pair_of f → p.concrete ≡ machineIn f which
+  pub first-machine : {p : Pair} (which : ℕ) → which ≡ 0 → p ≡ pairOf f → p.concrete ≡ machineIn f which
   unfolding machineIn
   first-machine which e same = ap (λ (q : Pair). q.concrete) same ∙ ap (machineIn f) (sym e)
 
-  pub second-machine : {p : Pair} (which : ℕ) → which ≡ 1 → p ≡ pair_of f → p.abstraction ≡ machineIn f which
+  pub second-machine : {p : Pair} (which : ℕ) → which ≡ 1 → p ≡ pairOf f → p.abstraction ≡ machineIn f which
   unfolding machineIn
   second-machine which e same = ap (λ (q : Pair). q.abstraction) same ∙ ap (machineIn f) (sym e)
 
@@ -33,8 +33,8 @@ module _ (f : List ℕ) where
   machine-valid : (which : ℕ) → readValidity f tableRoom ≡ valid → machineValidity 8 (machineIn f which) ≡ valid
   unfolding machineIn
   machine-valid which e =
-      let both = both-valid (pair_of f) (read-well f tableRoom e) in
-      cond_cases (eqb which 0) (λ m. machineValidity 8 m ≡ valid) _ _ (λ t. both.0) (λ t. both.1)
+      let both = both-valid (pairOf f) (read-well f tableRoom e) in
+      cond-cases (eqb which 0) (λ m. machineValidity 8 m ≡ valid) _ _ (λ t. both.0) (λ t. both.1)
 
 -- ---- the tests decide the answer and the buffer
 module _ (f : List ℕ) (which : ℕ) (buffer : List ℕ) where
@@ -59,7 +59,7 @@ module _ (f : List ℕ) (which : ℕ) (buffer : List ℕ) where
       unfolding exportValidity
       tests = then-of _ _ (buffer-valid textRoom (length buffer) h) ∙ then-of _ _ read
 
-      pub export-neither : 2 ≤ which → Leaves (refused (refusal out_of_range 0 0 0)) buffer
+      pub export-neither : 2 ≤ which → Leaves (refused (refusal out-of-range 0 0 0)) buffer
       unfolding whichValidity
       export-neither l = stopped _ (tests ∙ rw (le-ltb which 2 l))
 

@@ -5,11 +5,11 @@ use Rattle.std.proofs.Math.Logic.{by_cases}
 use Rattle.std.proofs.Common.{sym, ap, ap₂, ◌∙◌, arith, eq-eqb, ne_eqb}
 use Rattle.std.proofs.Math.Decide.{dec_lt}
 use Rattle.mask.specs.Logic.{and, or}
-use Rattle.mask.specs.LogicLaws.{clash, cond_cases, or_l, or-false, or-false-l}
+use Rattle.mask.specs.LogicLaws.{clash, cond-cases, or-l, or-false, or-false-l}
 use Rattle.text.specs.Decimal.{decimal, isDigit}
 use Rattle.text.specs.EndsLaws.{digitFirst, decimal-digit-first, number-told}
 use Rattle.hanoi.specs.Words.{ascii, numbers, below, chosen, spread, joined}
-use Rattle.hanoi.specs.LinesLaws.{spread_end, spread-next, joined_end, joined-next}
+use Rattle.hanoi.specs.LinesLaws.{spread-end, spread-next, joined-end, joined-next}
 
 -- ---- numbers that stand one blank apart, in front of a byte that is neither a digit nor a blank
 -- numbers of at most 20 digits
@@ -19,23 +19,23 @@ pub data Small : List ℕ → Type 0 where
 
 spread-digit-first : (l x : List ℕ) → digitFirst x ≡ false → digitFirst (spread (ascii " ") (map decimal l) ++ x) ≡ false
 unfolding isDigit and
-spread-digit-first [] x h = rw spread_end h
+spread-digit-first [] x h = rw spread-end h
 spread-digit-first (n ∷ l) x h = rw spread-next
 
 module _ (c : ℕ) (x y : List ℕ) (other : isDigit c ≡ false) (apart : c ≡ 32 → ⊥) where
   spread-told : {l k : List ℕ} → Small l → Small k → spread (ascii " ") (map decimal l) ++ (c ∷ x) ≡ spread (ascii " ") (map decimal k) ++ (c ∷ y) → (l ≡ k) × (x ≡ y)
-  spread-told small-none small-none e = (refl, tail-eq_of_cons-eq (simp spread_end at e))
-  spread-told small-none (small-next b h) e = absurd (apart (head-eq_of_cons-eq (simp (spread_end, spread-next) at e)))
-  spread-told (small-next a g) small-none e = absurd (apart (head-eq_of_cons-eq (sym (simp (spread_end, spread-next) at e))))
+  spread-told small-none small-none e = (refl, tail-eq_of_cons-eq (simp spread-end at e))
+  spread-told small-none (small-next b h) e = absurd (apart (head-eq_of_cons-eq (simp (spread-end, spread-next) at e)))
+  spread-told (small-next a g) small-none e = absurd (apart (head-eq_of_cons-eq (sym (simp (spread-end, spread-next) at e))))
   spread-told (small-next {n} {l} a g) (small-next {n = m} {l = k} b h) e =
       let t = number-told n m _ _ a b (spread-digit-first l (c ∷ x) other) (spread-digit-first k (c ∷ y) other) (tail-eq_of_cons-eq (simp spread-next at e)) in
       let r = spread-told g h t.1 in
       (ap₂ ◌∷◌ t.0 r.0, r.1)
 
   pub joined-told : {l k : List ℕ} → Small l → Small k → joined (ascii " ") (map decimal l) ++ (c ∷ x) ≡ joined (ascii " ") (map decimal k) ++ (c ∷ y) → (l ≡ k) × (x ≡ y)
-  joined-told small-none small-none e = (refl, tail-eq_of_cons-eq (simp joined_end at e))
-  joined-told small-none (small-next {n} b h) e = absurd (clash other (ap digitFirst (simp (joined_end, joined-next) at e) ∙ decimal-digit-first n _))
-  joined-told (small-next {n} a g) small-none e = absurd (clash other (sym (ap digitFirst (simp (joined_end, joined-next) at e)) ∙ decimal-digit-first n _))
+  joined-told small-none small-none e = (refl, tail-eq_of_cons-eq (simp joined-end at e))
+  joined-told small-none (small-next {n} b h) e = absurd (clash other (ap digitFirst (simp (joined-end, joined-next) at e) ∙ decimal-digit-first n _))
+  joined-told (small-next {n} a g) small-none e = absurd (clash other (sym (ap digitFirst (simp (joined-end, joined-next) at e)) ∙ decimal-digit-first n _))
   joined-told (small-next a g) (small-next b h) e =
       spread-told (small-next a g) (small-next b h) (simp spread-next (ap (λ (t : List ℕ). 32 ∷ t) (simp joined-next at e)))
 
@@ -45,7 +45,7 @@ unfolding chosen numbers
 chosen-small p s zero h = small-none
 chosen-small p s (suc k) h =
     let later = chosen-small p (suc s) k (omega arith) in
-    cond_cases (p s) Small _ _ (λ t. small-next (omega arith) later) (λ t. later)
+    cond-cases (p s) Small _ _ (λ t. small-next (omega arith) later) (λ t. later)
 
 -- i is in a list
 has : ℕ → List ℕ → Bool
@@ -57,19 +57,19 @@ unfolding chosen numbers has
 has-lower p s zero i l = refl
 has-lower p s (suc k) i l =
     let later = has-lower p (suc s) k i (omega arith) in
-    cond_cases (p s) (λ r. has i r ≡ false) _ _ (λ t. or-false (ne_eqb i s (omega arith)) later) (λ t. later)
+    cond-cases (p s) (λ r. has i r ≡ false) _ _ (λ t. or-false (ne_eqb i s (omega arith)) later) (λ t. later)
 
-has_chosen : (p : ℕ → Bool) (s k i : ℕ) → s ≤ i → i < s + k → has i (chosen p (numbers s k)) ≡ p i
+has-chosen : (p : ℕ → Bool) (s k i : ℕ) → s ≤ i → i < s + k → has i (chosen p (numbers s k)) ≡ p i
 unfolding chosen numbers has
-has_chosen p s zero i a b = absurd (omega arith)
-has_chosen p s (suc k) i a b =
+has-chosen p s zero i a b = absurd (omega arith)
+has-chosen p s (suc k) i a b =
     by_cases (dec_lt s i)
     (λ l.
-    let later = has_chosen p (suc s) k i l (omega arith) in
-    cond_cases (p s) (λ r. has i r ≡ p i) _ _ (λ t. or-false-l _ (ne_eqb i s (omega arith)) ∙ later) (λ t. later))
+    let later = has-chosen p (suc s) k i l (omega arith) in
+    cond-cases (p s) (λ r. has i r ≡ p i) _ _ (λ t. or-false-l _ (ne_eqb i s (omega arith)) ∙ later) (λ t. later))
     (λ l.
     let e : i ≡ s = omega arith in
-    cond_cases (p s) (λ r. has i r ≡ p i) _ _ (λ t. or_l _ (eq-eqb i s e) ∙ sym (ap p e ∙ t)) (λ t. has-lower p (suc s) k i (omega arith) ∙ sym (ap p e ∙ t)))
+    cond-cases (p s) (λ r. has i r ≡ p i) _ _ (λ t. or-l _ (eq-eqb i s e) ∙ sym (ap p e ∙ t)) (λ t. has-lower p (suc s) k i (omega arith) ∙ sym (ap p e ∙ t)))
 
 pub chosen-told : (p q : ℕ → Bool) (n : ℕ) → chosen p (below n) ≡ chosen q (below n) → (i : ℕ) → i < n → p i ≡ q i
-chosen-told p q n e i h = sym (has_chosen p 0 n i (omega arith) (omega arith)) ∙ ap (has i) e ∙ has_chosen q 0 n i (omega arith) (omega arith)
+chosen-told p q n e i h = sym (has-chosen p 0 n i (omega arith) (omega arith)) ∙ ap (has i) e ∙ has-chosen q 0 n i (omega arith) (omega arith)

@@ -8,7 +8,7 @@ use Rattle.std.proofs.Math.Decide.{dec_lt}
 use native.Mathlib.Omega.{arith}
 use Rattle.std.proofs.Math.ListN.{length, length-append}
 use Rattle.std.proofs.lemmas.List.{length-replicate}
-use Rattle.mask.specs.LogicLaws.{cond_cases}
+use Rattle.mask.specs.LogicLaws.{cond-cases}
 use Rattle.mask.specs.Bits.{hasBit}
 use Rattle.mask.specs.BitsLaws.{has-none}
 use Rattle.text.specs.Decimal.{decimal, digitsUpTo}
@@ -33,7 +33,7 @@ module _ (f g : ℕ → List ℕ) (shorter : (i : ℕ) → length (f i) ≤ leng
   flat-most p s (suc n) (suc k) h =
       let later = flat-most p (suc s) n k (omega arith) in
       let first = length-append (g s) (flat_map g (numbers (suc s) k)) in
-      cond_cases (p s) (λ l. length (flat_map f l) ≤ length (g s ++ flat_map g (numbers (suc s) k))) _ _
+      cond-cases (p s) (λ l. length (flat_map f l) ≤ length (g s ++ flat_map g (numbers (suc s) k))) _ _
       (λ t. omega (arith, shorter s, later, first, length-append (f s) (flat_map f (chosen p (numbers (suc s) n)))))
       (λ t. omega (arith, later, first))
 
@@ -87,11 +87,11 @@ acceptance-most n h =
 
 literal-most : (o i : ℕ) → length (literal o i) ≤ length (literal 0 i)
 unfolding literal
-literal-most o i = rw (has-none i) (by_bit (hasBit o i))
+literal-most o i = rw (has-none i) (by-bit (hasBit o i))
   where
-    by_bit : (b : Bool) → length (cond b (ascii "") (ascii "!") ++ decimal i) ≤ suc (length (decimal i))
-    by_bit true = omega arith
-    by_bit false = omega arith
+    by-bit : (b : Bool) → length (cond b (ascii "") (ascii "!") ++ decimal i) ≤ suc (length (decimal i))
+    by-bit true = omega arith
+    by-bit false = omega arith
 
 label-all : length (flat_map (λ i. 38 ∷ literal 0 i) (below 8)) ≡ 24
 unfolding flat_map numbers decimal digitsUpTo literal hasBit
@@ -161,14 +161,14 @@ parts-length : (w : List ℕ) (ws : List (List ℕ)) → length (flatten (w ∷ 
 unfolding flatten
 parts-length w ws = length-append w (flatten ws)
 
-parts_none : length (flatten {A = ℕ} []) ≡ 0
+parts-none : length (flatten {A = ℕ} []) ≡ 0
 unfolding flatten
-parts_none = refl
+parts-none = refl
 
 head-most : (n k start : ℕ) → n ≤ 64 → k ≤ 8 → length (headText n k start) ≤ 839
 unfolding headText
 head-most n k start h q =
-    simp (parts-length, parts_none, length-append)
+    simp (parts-length, parts-none, length-append)
     (omega (arith, decimal-short 1 n (omega arith) (omega arith), decimal-short 0 k (omega arith) (omega arith), starts-most start, acceptance-most k q))
 
 -- ---- the whole
@@ -176,7 +176,7 @@ pub text-most : (m : Machine) → WellMachine 8 m → length (hoaText m) ≤ mos
 text-most m w =
     let few : m.sets ≤ 64 = omega (arith, w.sets-high) in
     rw (text-parts m few)
-    (simp (parts-length, parts_none)
+    (simp (parts-length, parts-none)
     (omega (
       arith,
       head-most m.states m.sets m.start w.states-high w.sets-high,

@@ -19,13 +19,13 @@ module _ (w : List ℕ) (ws : List (List ℕ)) (x : List ℕ) where
   unfolding joined
   joined-next = append_assoc w (spread (ascii " ") ws) x
 
-pub spread_end : (x : List ℕ) → spread (ascii " ") [] ++ x ≡ x
+pub spread-end : (x : List ℕ) → spread (ascii " ") [] ++ x ≡ x
 unfolding spread flat_map
-spread_end x = refl
+spread-end x = refl
 
-pub joined_end : (x : List ℕ) → joined (ascii " ") [] ++ x ≡ x
+pub joined-end : (x : List ℕ) → joined (ascii " ") [] ++ x ≡ x
 unfolding joined
-joined_end x = refl
+joined-end x = refl
 
 -- ---- a line
 line-is : (ws : List (List ℕ)) (x : List ℕ) → line ws ++ x ≡ joined (ascii " ") ws ++ (10 ∷ x)
@@ -34,16 +34,16 @@ line-is ws x = append_assoc (joined (ascii " ") ws) (ascii "\n") x
 
 pub start-next : (n : ℕ) (l x : List ℕ) → flat_map startLine (n ∷ l) ++ x ≡ ascii "Start: " ++ (decimal n ++ (10 ∷ (flat_map startLine l ++ x)))
 unfolding startLine flat_map
-start-next n l x = simp (append_assoc, line-is, joined-next, spread-next, spread_end)
+start-next n l x = simp (append_assoc, line-is, joined-next, spread-next, spread-end)
 
 -- ---- the sets of a state, in braces
 pub braces-next : (n : ℕ) (l x : List ℕ) → spread (ascii " ") (inBraces (n ∷ l)) ++ x ≡ ascii " {" ++ (joined (ascii " ") (map decimal (n ∷ l)) ++ (125 ∷ x))
 unfolding inBraces
-braces-next n l x = simp (spread-next, spread_end, append_assoc)
+braces-next n l x = simp (spread-next, spread-end, append_assoc)
 
 pub braces-end : (x : List ℕ) → spread (ascii " ") (inBraces []) ++ x ≡ x
 unfolding inBraces
-braces-end x = spread_end x
+braces-end x = spread-end x
 
 -- ---- the lines of a state
 module _ (m : Machine) (s : ℕ) where

@@ -2,7 +2,7 @@
 use Rattle.std.specs.Prelude.{cond, ℕ, ◌-◌, eqb, get_or}
 use mathlib.Core.List.{List, [], ◌∷◌, ◌++◌, map, flat_map, flatten}
 use Rattle.mask.specs.Bits.{hasBit}
-use Rattle.mask.specs.Tables.{mask_of}
+use Rattle.mask.specs.Tables.{maskOf}
 use Rattle.text.specs.Decimal.{decimal}
 use Rattle.machine.specs.declared.Machine.{Machine}
 use Rattle.hanoi.specs.Words.{ascii, numbers, below, statesOf, spread, joined}
@@ -32,7 +32,7 @@ stateText s o members successors = flatten (stateParts s o members successors)
 
 -- the mask of the sets below k that have state s
 unfoldable pub setsMask : ℕ → List ℕ → ℕ → ℕ
-setsMask k fairness s = mask_of k (λ j. hasBit (get_or fairness j 0) s)
+setsMask k fairness s = maskOf k (λ j. hasBit (get_or fairness j 0) s)
 
 -- the lines of state s of a machine with k sets
 unfoldable pub linesAt : ℕ → List ℕ → List ℕ → List ℕ → ℕ → List ℕ
@@ -91,5 +91,5 @@ unfoldable pub literals : ℕ → ℕ → ℕ → List ℕ
 literals o i count = spread (ascii "&") (map (literal o) (numbers i count))
 
 -- the lines from state s of n on
-unfoldable pub lines_from : ℕ → List ℕ → List ℕ → List ℕ → ℕ → ℕ → List ℕ
-lines_from k observations successors fairness s n = flat_map (linesAt k observations successors fairness) (numbers s (n - s))
+unfoldable pub linesFrom : ℕ → List ℕ → List ℕ → List ℕ → ℕ → ℕ → List ℕ
+linesFrom k observations successors fairness s n = flat_map (linesAt k observations successors fairness) (numbers s (n - s))

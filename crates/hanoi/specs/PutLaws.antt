@@ -8,8 +8,8 @@ use Rattle.std.proofs.Math.Seq.{sets, length-sets}
 use Rattle.codec.specs.ListLaws.{sets-append}
 use Rattle.hanoi.specs.Puts.{Room, Placed}
 
-pub placed_same : {before : List ℕ} {at : ℕ} {w after : List ℕ} {to : ℕ} → Placed before at w after to → length after ≡ length before
-placed_same {before} {at} {w} p = ap length p.bytes ∙ length-sets before at w
+pub placed-same : {before : List ℕ} {at : ℕ} {w after : List ℕ} {to : ℕ} → Placed before at w after to → length after ≡ length before
+placed-same {before} {at} {w} p = ap length p.bytes ∙ length-sets before at w
 
 -- a word, and another behind it
 pub placed-behind : (before : List ℕ) {mid after : List ℕ} (w v : List ℕ) {at k : ℕ} → mid ≡ sets before at w → after ≡ sets mid (at + length w) v → k ≡ length v
@@ -45,8 +45,8 @@ left-all out at all h = left-parts out at all (all ∷ []) (sym (append-nil all)
 
 module _ {out₀ : List ℕ} {at₀ : ℕ} {all out : List ℕ} {to : ℕ} where
   -- what is left, in other parts
-  left_as : (rest other : List (List ℕ)) → flatten rest ≡ flatten other → Left out₀ at₀ all out to rest → Left out₀ at₀ all out to other
-  left_as rest other e l = record {
+  left-as : (rest other : List (List ℕ)) → flatten rest ≡ flatten other → Left out₀ at₀ all out to rest → Left out₀ at₀ all out to other
+  left-as rest other e l = record {
     answer = ap (sets out to) (sym e) ∙ l.answer;
     place = ap (λ (w : List ℕ). to + length w) (sym e) ∙ l.place;
     same = l.same;
@@ -56,15 +56,15 @@ module _ {out₀ : List ℕ} {at₀ : ℕ} {all out : List ℕ} {to : ℕ} where
   module _ {w : List ℕ} {rest : List (List ℕ)} (l : Left out₀ at₀ all out to (w ∷ rest)) where
     pub left-to : (v : List ℕ) → w ≡ v → Left out₀ at₀ all out to (v ∷ rest)
     unfolding flatten
-    left-to v e = left_as (w ∷ rest) (v ∷ rest) (ap (λ (x : List ℕ). x ++ flatten rest) e) l
+    left-to v e = left-as (w ∷ rest) (v ∷ rest) (ap (λ (x : List ℕ). x ++ flatten rest) e) l
 
-    pub left_split : (v u : List ℕ) → w ≡ v ++ u → Left out₀ at₀ all out to (v ∷ u ∷ rest)
+    pub left-split : (v u : List ℕ) → w ≡ v ++ u → Left out₀ at₀ all out to (v ∷ u ∷ rest)
     unfolding flatten
-    left_split v u e = left_as (w ∷ rest) (v ∷ u ∷ rest) (ap (λ (x : List ℕ). x ++ flatten rest) e ∙ append_assoc v u (flatten rest)) l
+    left-split v u e = left-as (w ∷ rest) (v ∷ u ∷ rest) (ap (λ (x : List ℕ). x ++ flatten rest) e ∙ append_assoc v u (flatten rest)) l
 
     pub left-none : w ≡ [] → Left out₀ at₀ all out to rest
     unfolding flatten
-    left-none e = left_as (w ∷ rest) rest (ap (λ (x : List ℕ). x ++ flatten rest) e) l
+    left-none e = left-as (w ∷ rest) rest (ap (λ (x : List ℕ). x ++ flatten rest) e) l
 
     -- the next part has room
     pub left-room : Room to w
@@ -81,7 +81,7 @@ module _ {out₀ : List ℕ} {at₀ : ℕ} {all out : List ℕ} {to : ℕ} where
           ∙ sets-append w (flatten rest) out to
           ∙ l.answer;
       place = omega (arith, p.place, l.place, length-append w (flatten rest));
-      same = placed_same p ∙ l.same;
+      same = placed-same p ∙ l.same;
       room = l.room;
     }
 

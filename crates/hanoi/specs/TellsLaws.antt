@@ -158,9 +158,9 @@ module _ (a b : Machine) (ra : RepresentableMachine a) (rb : RepresentableMachin
     successors-same s l = by_cases (dec_lt s a.states) (λ h. (t.same-state s h).same-successors)
         (λ h. wa.successors-zero s (omega arith) l ∙ sym (wb.successors-zero s (omega (arith, t.same-states)) l))
 
-    set_at : (k s : ℕ) → k < a.sets → s < 64 → inFairSet a k s ≡ inFairSet b k s
+    set-at : (k s : ℕ) → k < a.sets → s < 64 → inFairSet a k s ≡ inFairSet b k s
     unfolding setsWith
-    set_at k s h l = by_cases (dec_lt s a.states)
+    set-at k s h l = by_cases (dec_lt s a.states)
         (λ q.
         let e = (t.same-state s q).same-sets ∙ ap (λ (n : ℕ). chosen (λ k. inFairSet b k s) (below n)) (sym t.same_count) in
         chosen-told (λ k. inFairSet a k s) (λ k. inFairSet b k s) a.sets e k h)
@@ -171,7 +171,7 @@ module _ (a b : Machine) (ra : RepresentableMachine a) (rb : RepresentableMachin
     fairness-same : (k : ℕ) → k < 8 → fairSet a k ≡ fairSet b k
     unfolding fairSet inFairSet
     fairness-same k l = by_cases (dec_lt k a.sets)
-        (λ h. mask-ext 64 (fairSet a k) (fairSet b k) (ra.fairness-mask k) (rb.fairness-mask k) (λ s q. set_at k s h q))
+        (λ h. mask-ext 64 (fairSet a k) (fairSet b k) (ra.fairness-mask k) (rb.fairness-mask k) (λ s q. set-at k s h q))
         (λ h. wa.fairness-zero k (omega arith) l ∙ sym (wb.fairness-zero k (omega (arith, t.same_count)) l))
 
     machine-same : a ≡ b

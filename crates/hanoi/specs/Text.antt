@@ -5,7 +5,7 @@ use Rattle.mask.specs.Bits.{hasBit}
 use Rattle.text.specs.Decimal.{decimal}
 use Rattle.machine.specs.declared.Machine.{Machine}
 use Rattle.machine.specs.Machines.{observation, successors, inFairSet}
-use Rattle.machine.specs.Refusals.{Result, answer, Tested, and_then, bufferValidity, bufferAfter}
+use Rattle.machine.specs.Refusals.{Result, answer, Tested, andThen, bufferValidity, bufferAfter}
 use Rattle.machine.specs.WellFormed.{machineValidity}
 use Rattle.hanoi.specs.Words.{ascii, below, chosen, statesOf, joined}
 
@@ -75,11 +75,11 @@ textRoom = 20000
 
 -- all that is tested: 1 of the lent buffer, then 5 and 9 to 11. "Either kind of machine is taken, with 1 to 8 sets."
 unfoldable pub textValidity : Machine → ℕ → Tested
-textValidity m room = and_then (bufferValidity textRoom room) (machineValidity 8 m)
+textValidity m room = andThen (bufferValidity textRoom room) (machineValidity 8 m)
 
 -- the text's length, or a refusal
 unfoldable pub textAnswer : Machine → ℕ → Result ℕ
-textAnswer m room = and_then (textValidity m room) (answer (length (hoaText m)))
+textAnswer m room = andThen (textValidity m room) (answer (length (hoaText m)))
 
 -- the lent buffer's final content: bytes "past the text are unchanged"
 unfoldable pub textBuffer : Machine → List ℕ → List ℕ

@@ -227,8 +227,8 @@ fn put_text(out: &mut [u8], m: Machine) -> usize
 
 // Writes the text of one machine, of either kind, into a lent buffer of 20,000 bytes or more, and gives the text's length, or where the call was stopped.
 pub fn write_text(m: Machine, out: &mut [u8]) -> Size
-    ensures result_value { sizedOf result ≡ textAnswer m (length out.old) }
-    ensures out_after { out.new ≡ textBuffer m out.old }
+    ensures answer { sizedOf result ≡ textAnswer m (length out.old) }
+    ensures content { out.new ≡ textBuffer m out.old }
 {
     if out.len() < TEXT_ROOM {
         return Size::Refused(machine::refuse(machine::SHORT_BUFFER, 0, 0, 0));

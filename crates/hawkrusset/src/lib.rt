@@ -1,11 +1,12 @@
 // The calls for C, in one archive. Each is the call of the same name of its library, and has its clauses.
 #![tactic(auto)]
+
 ghost use Rattle.std.specs.Prelude.{◌≡◌, take, length};
 ghost use Rattle.verdict.specs.Outcomes.{fileOutcome, outcomeNumber};
-ghost use Rattle.codec.specs.Reader.{size_of};
+ghost use Rattle.codec.specs.Reader.{sizeOf};
 ghost use Rattle.console.specs.FirstBlock.{sizeNumber};
 ghost use Rattle.machine.specs.Refusals.{spotAfter};
-ghost use Rattle.codec.specs.Answers.{length_of};
+ghost use Rattle.codec.specs.Answers.{lengthOf};
 ghost use Rattle.restore.specs.Restoring.{restoreAnswer, restoreBuffer};
 ghost use Rattle.machine.specs.Lassos.{given};
 ghost use Rattle.playback.specs.Playing.{fileRun, fileRunBuffer, toldToC, runNumber};
@@ -24,7 +25,7 @@ pub extern "C" fn console_answer(bytes: &[u8]) -> u32
 // no more than the first block; fewer bytes are refused.
 #[unsafe(no_mangle)]
 pub extern "C" fn first_block_answer(bytes: &[u8]) -> u32
-    ensures { result ≡ sizeNumber (size_of (take 512 bytes.now)) }
+    ensures { result ≡ sizeNumber (sizeOf (take 512 bytes.now)) }
 {
     console::first_block_answer(bytes)
 }
@@ -32,9 +33,9 @@ pub extern "C" fn first_block_answer(bytes: &[u8]) -> u32
 // The same for C: the file's length, or 0 with the refusal's number and spot in `spot`, which is unchanged beside a length.
 #[unsafe(no_mangle)]
 pub extern "C" fn solve_file(bytes: &[u8], out: &mut [u8], spot: &mut [u64; 4]) -> usize
-    ensures value { result ≡ length_of (restoreAnswer bytes.now out.old) }
-    ensures out_after { out.new ≡ restoreBuffer bytes.now out.old }
-    ensures spot_after { spot.new ≡ spotAfter (restoreAnswer bytes.now out.old) spot.old }
+    ensures value { result ≡ lengthOf (restoreAnswer bytes.now out.old) }
+    ensures content { out.new ≡ restoreBuffer bytes.now out.old }
+    ensures numbers { spot.new ≡ spotAfter (restoreAnswer bytes.now out.old) spot.old }
 {
     restore::solve_file(bytes, out, spot)
 }
@@ -50,8 +51,8 @@ pub extern "C" fn play_file(
     spot: &mut [u64; 4],
 ) -> u64
     ensures value { result ≡ runNumber (toldToC (fileRun bytes.now (given stem.now cycle.now) run.old)) }
-    ensures run_after { run.new ≡ fileRunBuffer bytes.now (given stem.now cycle.now) run.old }
-    ensures spot_after { spot.new ≡ spotAfter (toldToC (fileRun bytes.now (given stem.now cycle.now) run.old)) spot.old }
+    ensures content { run.new ≡ fileRunBuffer bytes.now (given stem.now cycle.now) run.old }
+    ensures numbers { spot.new ≡ spotAfter (toldToC (fileRun bytes.now (given stem.now cycle.now) run.old)) spot.old }
 {
     playback::play_file(bytes, stem, cycle, run, spot)
 }
@@ -106,9 +107,9 @@ pub extern "C" fn look_up_file(
 // The same for C: the text's length, or 0 with the refusal's number and spot in `spot`, which is unchanged beside a length.
 #[unsafe(no_mangle)]
 pub extern "C" fn hoa_file(bytes: &[u8], which: usize, out: &mut [u8], spot: &mut [u64; 4]) -> usize
-    ensures value { result ≡ length_of (exportAnswer bytes.now which (length out.old)) }
-    ensures out_after { out.new ≡ exportBuffer bytes.now which out.old }
-    ensures spot_after { spot.new ≡ spotAfter (exportAnswer bytes.now which (length out.old)) spot.old }
+    ensures value { result ≡ lengthOf (exportAnswer bytes.now which (length out.old)) }
+    ensures content { out.new ≡ exportBuffer bytes.now which out.old }
+    ensures numbers { spot.new ≡ spotAfter (exportAnswer bytes.now which (length out.old)) spot.old }
 {
     export::hoa_file(bytes, which, out, spot)
 }

@@ -7,8 +7,8 @@ use Rattle.machine.specs.Table.{blank}
 use Rattle.linecheck.specs.declared.Line.{Line}
 
 -- the line of the entry e of (j, c, a); `most` is m × P, `after` the section after j, `matched` the mask of the states that are matched with c
-unfoldable pub line_of : ℕ → ℕ → ℕ → ℕ → ℕ → ℕ → ℕ → ℕ → List ℕ → ℕ → Line
-line_of m most j after c a e matched concreteSets abstractSet =
+unfoldable pub lineOf : ℕ → ℕ → ℕ → ℕ → ℕ → ℕ → ℕ → ℕ → List ℕ → ℕ → Line
+lineOf m most j after c a e matched concreteSets abstractSet =
     let fails : Line = record { holds = false; section = 0; bound = 0 } in
     let goal : Line = record { holds = hasBit abstractSet a; section = after; bound = blank - 1 } in
     let below = (levelOf m e - 1) * m in

@@ -7,7 +7,7 @@ use Rattle.mask.specs.BoundedLaws.{someIn-cong}
 use Rattle.machine.specs.declared.Pair.{Pair}
 use Rattle.machine.specs.Machines.{nC, nA}
 use Rattle.machine.specs.WellFormedLaws.{WellPair}
-use Rattle.machine.specs.Step.{singleStep, in_row, found}
+use Rattle.machine.specs.Step.{singleStep, inRow, found}
 use Rattle.machine.specs.Table.{blank, entryIndex}
 use Rattle.machine.specs.RowLaws.{row-found}
 use Rattle.machine.specs.LinesLaws.{covers-bound}
@@ -18,7 +18,7 @@ module _ (p : Pair) (T : List ℕ) where
   -- what a single step finds in the row of section 1 beside c
   pub start-found : WellPair p → ((i : ℕ) → get_or T i 0 ≤ blank) → (c from to : ℕ) → from ≡ entryIndex (nC p) (nA p) 0 c 0 → to ≡ from + nA p → to ≤ length T
       → (present : ℕ) (entries : ℕ → ℕ)
-      → found (singleStep present p.abstraction.start (in_row p.abstraction.start (take (to - from) (drop from T)) (blank - 1)) entries) ≡ startCovered p T c
+      → found (singleStep present p.abstraction.start (inRow p.abstraction.start (take (to - from) (drop from T)) (blank - 1)) entries) ≡ startCovered p T c
   unfolding startCovered
   start-found w small c from to start end fits present entries =
       let s = p.abstraction.start in

@@ -12,11 +12,11 @@ ghost use Rattle.machine.specs.Ranks.{levelOf, setOf};
 ghost use Rattle.machine.specs.Table.{blank, tableRoom};
 ghost use Rattle.machine.specs.Lines.{linesValidity};
 ghost use Rattle.machine.specs.Observed.{matchedMasks};
-ghost use Rattle.machine.specs.Refusals.{answer, tested_of};
+ghost use Rattle.machine.specs.Refusals.{answer, testedOf};
 ghost use Rattle.machine.specs.Verdict.{lackingStart, startVerdict, checkVerdict, checkEmptySet};
 ghost use Rattle.linecheck.specs.Answers.{verdictOf, emptySetOf};
-ghost use Rattle.linecheck.specs.Bounds.{line_of};
-ghost use Rattle.linecheck.specs.Reciprocal.{reciprocal_of};
+ghost use Rattle.linecheck.specs.Bounds.{lineOf};
+ghost use Rattle.linecheck.specs.Reciprocal.{reciprocalOf};
 
 use machine::{Pair, Refusal, Validity};
 
@@ -48,7 +48,7 @@ struct Level {
 // has an arm, so that the compiler makes a list of them and tests no range.
 fn reciprocal_of(m: usize) -> usize
     requires { (0 < m) × (m ≤ 8) }
-    ensures { result ≡ reciprocal_of m }
+    ensures { result ≡ reciprocalOf m }
 {
     match m % 8 {
         0 => 65536,
@@ -91,7 +91,7 @@ fn line_of(
     abstract_set: u64,
 ) -> Line
     requires { (0 < m) × (m ≤ 8) }
-    ensures { result ≡ line_of m most j next c a e matched concrete_sets.now abstract_set }
+    ensures { result ≡ lineOf m most j next c a e matched concrete_sets.now abstract_set }
 {
     let fails = Line {
         holds: false,
@@ -127,7 +127,7 @@ fn line_of(
 // Whether each line of a table of well-formed machines holds, and if not where the first is that fails.
 fn lines_validity(p: Pair, matched: [u64; 64], table: &[u16]) -> Validity
     requires { (wellFormed p ≡ true) × ((matched ≡ matchedMasks p) × (tableRoom ≤ length table.now)) }
-    ensures { tested_of result ≡ linesValidity p table.now }
+    ensures { testedOf result ≡ linesValidity p table.now }
 {
     let concrete = p.concrete;
     let abstraction = p.abstraction;

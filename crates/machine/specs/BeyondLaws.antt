@@ -7,11 +7,11 @@ use Rattle.std.proofs.lemmas.Bool.{eqb-false, not-true, not-false}
 use Rattle.mask.specs.LogicLaws.{dec, clash, both}
 use Rattle.mask.specs.BitsLaws.{has-lt}
 use Rattle.machine.specs.WellFormed.{beyond}
-use Rattle.machine.specs.WellFormedLaws.{beyond-none, none-beyond, bits_small}
+use Rattle.machine.specs.WellFormedLaws.{beyond-none, none-beyond, bits-small}
 
 -- a mask has no state at or past n exactly if it is a number of n bits
 pub beyond-low : (n m : ℕ) → m < 2 ^ 64 → beyond n m ≡ false → m < 2 ^ n
-beyond-low n m h e = bits_small n m h (beyond-none n m e)
+beyond-low n m h e = bits-small n m h (beyond-none n m e)
 
 pub low-beyond : (n m : ℕ) → m < 2 ^ n → beyond n m ≡ false
 low-beyond n m h = none-beyond n m (λ i l t. has-lt n m i h t)

@@ -3,10 +3,10 @@ use Rattle.std.specs.Prelude.{Bool, true, false, ◌≡◌, refl, ℕ, suc, ◌�
 use Rattle.std.proofs.Common.{inl, inr, ⊎_elim, sym, ap, ◌∙◌, arith, pow_pos}
 use Rattle.std.proofs.Math.Dec.{ltb}
 use borrow.Author.Tests.{ltb-true, lt-ltb, le-ltb, ltb-false}
-use Rattle.mask.specs.LogicLaws.{dec, clash, refute, and_l, and_r, and_i, not-e, not-i}
+use Rattle.mask.specs.LogicLaws.{dec, clash, refute, and-l, and-r, and-i, not-e, not-i}
 use Rattle.mask.specs.Bits.{hasBit}
 use Rattle.mask.specs.BitsLaws.{has-none, no-bits-zero}
-use Rattle.mask.specs.BoundedLaws.{find, every-at, some_at}
+use Rattle.mask.specs.BoundedLaws.{find, every-at, some-at}
 use Rattle.machine.specs.declared.Machine.{Machine}
 use Rattle.machine.specs.declared.Pair.{Pair}
 use Rattle.machine.specs.declared.Refusal.{Refusal}
@@ -47,8 +47,8 @@ module _ (i : ℕ) (m : Machine) where
   tests-stopped true e = content-then-sets i m ∙ then-refused _ _ _ e
   tests-stopped false e = content-only i m ∙ e
 
-  pub tests_any : (nonempty : Bool) → nonempty ≡ false → contentValidity i m ≡ valid → contentTests nonempty i m ≡ valid
-  tests_any nonempty t e = rw t (content-only i m ∙ e)
+  pub tests-any : (nonempty : Bool) → nonempty ≡ false → contentValidity i m ≡ valid → contentTests nonempty i m ≡ valid
+  tests-any nonempty t e = rw t (content-only i m ∙ e)
 
   module _ (nonempty : Bool) (t : nonempty ≡ true) (e : contentValidity i m ≡ valid) (k : ℕ) (lowest : k ≡ emptySet m.sets m.fairness) where
     -- n is the set counted from 1
@@ -62,18 +62,18 @@ module _ (i : ℕ) (m : Machine) where
 
 -- ---- both machines
 module _ (p : Pair) where
-  sets_of : nonemptySets p ≡ true → (hasEmptySet p.concrete ≡ false) × (hasEmptySet p.abstraction ≡ false)
+  sets-of : nonemptySets p ≡ true → (hasEmptySet p.concrete ≡ false) × (hasEmptySet p.abstraction ≡ false)
   unfolding nonemptySets
-  sets_of t = (not-e _ (and_l _ _ t), not-e _ (and_r _ _ t))
+  sets-of t = (not-e _ (and-l _ _ t), not-e _ (and-r _ _ t))
 
   of-sets : hasEmptySet p.concrete ≡ false → hasEmptySet p.abstraction ≡ false → nonemptySets p ≡ true
   unfolding nonemptySets
-  of-sets c a = and_i (not-i c) (not-i a)
+  of-sets c a = and-i (not-i c) (not-i a)
 
   pub nonempty-valid : wellFormed p ≡ true → nonemptySets p ≡ true → nonemptyValidity p ≡ valid
   nonempty-valid well t =
       let h = tests-passed false p (well-is-valid p well) in
-      let s = sets_of t in
+      let s = sets-of t in
       passed-tests true p (record {
         concrete-counts = h.concrete-counts;
         abstract-counts = h.abstract-counts;
@@ -136,7 +136,7 @@ states-nonempty m h = refute _ (λ t.
 pub nonempty-has-state : NonemptyHasState
 nonempty-has-state p well =
     let w = well-pair p well in (
-      λ t. let s = sets_of p t in
+      λ t. let s = sets-of p t in
           (sets-have-states 8 p.concrete w.concrete (omega arith) s.0, sets-have-states 7 p.abstraction w.abstraction (omega arith) s.1),
       λ h. of-sets p (states-nonempty p.concrete h.0) (states-nonempty p.abstraction h.1),
     )
@@ -146,4 +146,4 @@ unfolding isFair
 empty-set-is-unfair m l t =
     let e = lowest-empty m t in
     let k = emptySet m.sets m.fairness in
-    refute _ (λ u. let q = some_at _ _ (every-at m.sets _ u k e.within) in clash (e.no-state (get_or l.loop q.0 0)) q.2)
+    refute _ (λ u. let q = some-at _ _ (every-at m.sets _ u k e.within) in clash (e.no-state (get_or l.loop q.0 0)) q.2)

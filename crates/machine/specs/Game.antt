@@ -4,7 +4,7 @@ use Rattle.std.specs.Bool.{beq}
 use Rattle.mask.specs.Logic.{not, and, or}
 use Rattle.mask.specs.Bits.{hasBit}
 use Rattle.mask.specs.Bounded.{every, some}
-use Rattle.mask.specs.Tables.{mask_of, table}
+use Rattle.mask.specs.Tables.{maskOf, table}
 use Rattle.machine.specs.declared.Pair.{Pair}
 use Rattle.machine.specs.Machines.{inFairSet, matched, next, nC, nA, setsC, setsA, pairs}
 use Rattle.machine.specs.Step.{steps}
@@ -13,7 +13,7 @@ use Rattle.machine.specs.Iteration.{iterate, settle}
 module _ (p : Pair) where
   -- the matched pairs that pass f: "all sets below hold matched pairs only"
   unfoldable pub pairSet : (ℕ → ℕ → Bool) → List ℕ
-  pairSet f = table (nC p) (λ c. mask_of (nA p) (λ a. and (matched p c a) (f c a)))
+  pairSet f = table (nC p) (λ c. maskOf (nA p) (λ a. and (matched p c a) (f c a)))
 
   -- (c, a) is in S
   unfoldable pub mem : List ℕ → ℕ → ℕ → Bool

@@ -7,7 +7,7 @@ use Rattle.std.proofs.Common.{◌∙◌}
 use Rattle.std.specs.Int.Bits.{bit_or}
 use borrow.Author.Tests.{eqb-true, eq-eqb}
 use Rattle.mask.specs.Logic.{or}
-use Rattle.mask.specs.LogicLaws.{dec, clash, refute, or_l, or-false-l}
+use Rattle.mask.specs.LogicLaws.{dec, clash, refute, or-l, or-false-l}
 use Rattle.mask.specs.Bits.{hasBit}
 use Rattle.mask.specs.BitsLaws.{has-or, bits-ext}
 use Rattle.machine.specs.declared.Machine.{Machine}
@@ -21,9 +21,9 @@ unfolding sameObservation
 same-zero x y = refl
 
 module _ (hidden : ℕ) where
-  pub same_refl : (x : ℕ) → sameObservation hidden x x ≡ true
+  pub same-refl : (x : ℕ) → sameObservation hidden x x ≡ true
   unfolding sameObservation
-  same_refl x = eq-eqb (bit_or hidden x) (bit_or hidden x) refl
+  same-refl x = eq-eqb (bit_or hidden x) (bit_or hidden x) refl
 
   pub same-sym : (x y : ℕ) → sameObservation hidden x y ≡ true → sameObservation hidden y x ≡ true
   unfolding sameObservation
@@ -34,9 +34,9 @@ module _ (hidden : ℕ) where
   same-trans x y z t u = eq-eqb (bit_or hidden x) (bit_or hidden z) (eqb-true (bit_or hidden x) (bit_or hidden y) t ∙ eqb-true (bit_or hidden y) (bit_or hidden z) u)
 
   -- they are the same exactly if they are equal in each bit that is not hidden
-  pub same_bit : (x y : ℕ) → sameObservation hidden x y ≡ true → (b : ℕ) → hasBit hidden b ≡ false → hasBit x b ≡ hasBit y b
+  pub same-bit : (x y : ℕ) → sameObservation hidden x y ≡ true → (b : ℕ) → hasBit hidden b ≡ false → hasBit x b ≡ hasBit y b
   unfolding sameObservation
-  same_bit x y t b h =
+  same-bit x y t b h =
       sym (has-or b hidden x ∙ or-false-l _ h) ∙ rw (eqb-true (bit_or hidden x) (bit_or hidden y) t) (has-or b hidden y ∙ or-false-l _ h)
 
   pub same-of-bits : (x y : ℕ) → ((b : ℕ) → hasBit hidden b ≡ false → hasBit x b ≡ hasBit y b) → sameObservation hidden x y ≡ true
@@ -44,14 +44,14 @@ module _ (hidden : ℕ) where
   same-of-bits x y h = eq-eqb (bit_or hidden x) (bit_or hidden y) (bits-ext (bit_or hidden x) (bit_or hidden y) (λ b. has-or b hidden x ∙ bit b ∙ sym (has-or b hidden y)))
     where
       bit : (b : ℕ) → or (hasBit hidden b) (hasBit x b) ≡ or (hasBit hidden b) (hasBit y b)
-      bit b = ⊎_elim (λ t. or_l _ t ∙ sym (or_l _ t)) (λ f. rw (h b f)) (dec (hasBit hidden b))
+      bit b = ⊎_elim (λ t. or-l _ t ∙ sym (or-l _ t)) (λ f. rw (h b f)) (dec (hasBit hidden b))
 
 -- hiding more bits keeps them the same
 abbrev pub HidesMore : ℕ → ℕ → Type 0
 HidesMore more hidden = (b : ℕ) → hasBit hidden b ≡ true → hasBit more b ≡ true
 
-pub same_more : (hidden more x y : ℕ) → HidesMore more hidden → sameObservation hidden x y ≡ true → sameObservation more x y ≡ true
-same_more hidden more x y h t = same-of-bits more x y (λ b f. same_bit hidden x y t b (refute _ (λ u. clash f (h b u))))
+pub same-more : (hidden more x y : ℕ) → HidesMore more hidden → sameObservation hidden x y ≡ true → sameObservation more x y ≡ true
+same-more hidden more x y h t = same-of-bits more x y (λ b f. same-bit hidden x y t b (refute _ (λ u. clash f (h b u))))
 
 -- ---- matched pairs
 -- with mask 0 it is document 01's: "A pair (c, a) is matched if the observations of c and a are equal"
@@ -63,7 +63,7 @@ matched-zero p e c a = rw e (same-zero (observation p.concrete c) (observation p
 module _ (hidden : ℕ) where
   pub matched-refl : (m : Machine) (s : ℕ) → matched (pairUnder hidden m m) s s ≡ true
   unfolding matched
-  matched-refl m s = same_refl hidden _
+  matched-refl m s = same-refl hidden _
 
   pub matched-sym : (m k : Machine) (s t : ℕ) → matched (pairUnder hidden m k) s t ≡ true → matched (pairUnder hidden k m) t s ≡ true
   unfolding matched
@@ -78,4 +78,4 @@ module _ (hidden : ℕ) where
 pub matched-more : (hidden more : ℕ) → HidesMore more hidden → (m k : Machine) (s t : ℕ)
     → matched (pairUnder hidden m k) s t ≡ true → matched (pairUnder more m k) s t ≡ true
 unfolding matched
-matched-more hidden more h m k s t g = same_more hidden more _ _ h g
+matched-more hidden more h m k s t g = same-more hidden more _ _ h g

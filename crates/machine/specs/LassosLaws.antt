@@ -2,8 +2,8 @@
 use Rattle.std.specs.Prelude.{true, ◌≡◌, ℕ, suc, ◌+◌, ◌-◌, ◌%◌, ◌≤◌, ◌<◌, length, get_or}
 use Rattle.std.proofs.Common.{ap, ◌∙◌, mod-eq_of_lt, arith}
 use borrow.Author.Tests.{ltb-true, lt-ltb, le-ltb}
-use Rattle.mask.specs.LogicLaws.{and_l, and_r, and_i}
-use Rattle.mask.specs.BoundedLaws.{every-at, every_of}
+use Rattle.mask.specs.LogicLaws.{and-l, and-r, and-i}
+use Rattle.mask.specs.BoundedLaws.{every-at, every-of}
 use Rattle.machine.specs.declared.Machine.{Machine}
 use Rattle.machine.specs.Machines.{moves}
 use Rattle.machine.specs.Lassos.{Lasso, lassoLength, moment, isLasso}
@@ -30,14 +30,14 @@ module _ (m : Machine) (l : Lasso) where
 
   pub lasso-loop : isLasso m l ≡ true → 0 < length l.loop
   unfolding isLasso
-  lasso-loop h = ltb-true _ _ (and_l _ _ h)
+  lasso-loop h = ltb-true _ _ (and-l _ _ h)
 
   pub lasso-goes : isLasso m l ≡ true → (t : ℕ) → t < lassoLength l → Goes t
   unfolding isLasso
   lasso-goes h t b =
-      let x = every-at (lassoLength l) _ (and_r _ _ h) t b in
-      (ltb-true _ _ (and_l _ _ x), and_r _ _ x)
+      let x = every-at (lassoLength l) _ (and-r _ _ h) t b in
+      (ltb-true _ _ (and-l _ _ x), and-r _ _ x)
 
   pub lasso-of : 0 < length l.loop → ((t : ℕ) → t < lassoLength l → Goes t) → isLasso m l ≡ true
   unfolding isLasso
-  lasso-of h f = and_i (lt-ltb 0 (length l.loop) h) (every_of (lassoLength l) _ (λ t b. let x = f t b in and_i (lt-ltb _ _ x.0) x.1))
+  lasso-of h f = and-i (lt-ltb 0 (length l.loop) h) (every-of (lassoLength l) _ (λ t b. let x = f t b in and-i (lt-ltb _ _ x.0) x.1))

@@ -20,8 +20,8 @@ module _ (p : Pair) (T : List ℕ) where
   lower j l c a = and (matched p c a) (or (eqb (entry p T j c a) 0) (ltb (levelOf (setsC p) (entry p T j c a)) l))
 
   -- the "pairs with entry at most r"
-  unfoldable pub at_most : ℕ → ℕ → ℕ → ℕ → Bool
-  at_most j r c a = and (matched p c a) (leb (entry p T j c a) r)
+  unfoldable pub atMost : ℕ → ℕ → ℕ → ℕ → Bool
+  atMost j r c a = and (matched p c a) (leb (entry p T j c a) r)
 
   -- "entry 0: a is in score set j, and the pair steps into the non-blank pairs of the next section"
   unfoldable pub goalLine : ℕ → ℕ → ℕ → Bool
@@ -32,7 +32,7 @@ module _ (p : Pair) (T : List ℕ) where
   unfoldable pub rankLine : ℕ → ℕ → ℕ → ℕ → Bool
   rankLine j r c a =
       let below = steps p (lower j (levelOf (setsC p) r)) c a in
-      let upto = steps p (at_most j r) c a in
+      let upto = steps p (atMost j r) c a in
       cond (inFairSet p.concrete (setOf (setsC p) r) c) below upto
 
   -- "An entry passes if it is blank, or the pair is matched, the entry is at most m × P, and" its line holds

@@ -11,15 +11,15 @@ use Rattle.std.specs.Int.Bits.{bit_and}
 use Rattle.std.proofs.lemmas.Nat.{and_le_l}
 use borrow.Author.Tests.{ltb-true, ltb-false, lt-ltb, le-ltb, leb-true, le-leb}
 use Rattle.mask.specs.Logic.{and}
-use Rattle.mask.specs.LogicLaws.{dec, clash, refute, both, below_suc, and_l, and_r, and_i, and-true-l, and-false-l, and_false_r}
-use Rattle.mask.specs.Bits.{hasBit, lowestOf, rest_of}
-use Rattle.mask.specs.BitsLaws.{has-and, has-none, lowest_set, lowest-lt, lowest-least}
+use Rattle.mask.specs.LogicLaws.{dec, clash, refute, both, below-suc, and-l, and-r, and-i, and-true-l, and-false-l, and-false-r}
+use Rattle.mask.specs.Bits.{hasBit, lowestOf, restOf}
+use Rattle.mask.specs.BitsLaws.{has-and, has-none, lowest-set, lowest-lt, lowest-least}
 use Rattle.mask.specs.Bounded.{some, someIn}
-use Rattle.mask.specs.BoundedLaws.{some_of, some-none}
-use Rattle.mask.specs.WalkLaws.{rest-above, rest_has, rest-keeps, rest-small}
+use Rattle.mask.specs.BoundedLaws.{some-of, some-none}
+use Rattle.mask.specs.WalkLaws.{rest-above, rest-has, rest-keeps, rest-small}
 use Rattle.machine.specs.declared.Partner.{Partner}
 use Rattle.machine.specs.declared.Partner.TheVariants.{State, Nobody}
-use Rattle.machine.specs.Step.{better, least, partner, alike, in_row, found, state_of}
+use Rattle.machine.specs.Step.{better, least, partner, alike, inRow, found, stateOf}
 use Rattle.machine.specs.SingleStep.{Candidate, Best}
 
 -- ---- the least of the numbers below n
@@ -35,16 +35,16 @@ module _ (p : ℕ → Bool) (key : ℕ → ℕ) where
   unfolding least
   least-miss n e = rw (and-false-l _ e)
 
-  pub least_step : (n : ℕ) (best : Partner) → least n p key ≡ best → p n ≡ true → least (suc n) p key ≡ cond (better key n best) (State n) best
+  pub least-step : (n : ℕ) (best : Partner) → least n p key ≡ best → p n ≡ true → least (suc n) p key ≡ cond (better key n best) (State n) best
   unfolding least
-  least_step n best e t = rw (e, and-true-l _ t)
+  least-step n best e t = rw (e, and-true-l _ t)
 
   -- what does not pass makes no difference
-  pub least_skip : (i j : ℕ) → i ≤ j → ((k : ℕ) → i ≤ k → k < j → p k ≡ false) → least j p key ≡ least i p key
-  least_skip i zero h b = ap (λ (n : ℕ). least n p key) (omega arith)
-  least_skip i (suc j) h b =
+  pub least-skip : (i j : ℕ) → i ≤ j → ((k : ℕ) → i ≤ k → k < j → p k ≡ false) → least j p key ≡ least i p key
+  least-skip i zero h b = ap (λ (n : ℕ). least n p key) (omega arith)
+  least-skip i (suc j) h b =
       by_cases (ℕ_discrete (suc j) i) (λ e. ap (λ (n : ℕ). least n p key) e)
-      (λ d. least-miss j (b j (omega arith) (omega arith)) ∙ least_skip i j (omega arith) (λ k l q. b k l (omega arith)))
+      (λ d. least-miss j (b j (omega arith) (omega arith)) ∙ least-skip i j (omega arith) (λ k l q. b k l (omega arith)))
 
   abbrev Named : ℕ → Type 0
   Named n = (a : ℕ) × (least n p key ≡ State a) × Least n p key a
@@ -57,7 +57,7 @@ module _ (p : ℕ → Bool) (key : ℕ → ℕ) where
   least-take n a l t k = record {
     below = omega arith;
     passes = t;
-    keyed = below_suc n (λ i. p i ≡ true → key n ≤ key i) (λ i h e. omega (arith, l.keyed i h e)) (λ e. omega arith);
+    keyed = below-suc n (λ i. p i ≡ true → key n ≤ key i) (λ i h e. omega (arith, l.keyed i h e)) (λ e. omega arith);
     first = λ i h e. omega (arith, l.keyed i h e);
   }
 
@@ -65,7 +65,7 @@ module _ (p : ℕ → Bool) (key : ℕ → ℕ) where
   least-keep n a l k = record {
     below = omega (arith, l.below);
     passes = l.passes;
-    keyed = below_suc n (λ i. p i ≡ true → key a ≤ key i) l.keyed k;
+    keyed = below-suc n (λ i. p i ≡ true → key a ≤ key i) l.keyed k;
     first = l.first;
   }
 
@@ -73,7 +73,7 @@ module _ (p : ℕ → Bool) (key : ℕ → ℕ) where
   least-only n b t = record {
     below = omega arith;
     passes = t;
-    keyed = below_suc n (λ i. p i ≡ true → key n ≤ key i) (λ i h e. absurd (clash (b i h) e)) (λ e. omega arith);
+    keyed = below-suc n (λ i. p i ≡ true → key n ≤ key i) (λ i h e. absurd (clash (b i h) e)) (λ e. omega arith);
     first = λ i h e. absurd (clash (b i h) e);
   }
 
@@ -85,14 +85,14 @@ module _ (p : ℕ → Bool) (key : ℕ → ℕ) where
     where
       hit : Named n ⊎ Unnamed n → p n ≡ true → Named (suc n) ⊎ Unnamed (suc n)
       hit (inl (a, e, l)) t =
-          ⊎_elim (λ u. inl (n, least_step n (State a) e t ∙ rw u, least-take n a l t (ltb-true _ _ u)))
-          (λ u. inl (a, least_step n (State a) e t ∙ rw u, least-keep n a l (λ v. ltb-false _ _ u)))
+          ⊎_elim (λ u. inl (n, least-step n (State a) e t ∙ rw u, least-take n a l t (ltb-true _ _ u)))
+          (λ u. inl (a, least-step n (State a) e t ∙ rw u, least-keep n a l (λ v. ltb-false _ _ u)))
           (dec (ltb (key n) (key a)))
-      hit (inr (e, b)) t = inl (n, least_step n Nobody e t, least-only n b t)
+      hit (inr (e, b)) t = inl (n, least-step n Nobody e t, least-only n b t)
 
       miss : Named n ⊎ Unnamed n → p n ≡ false → Named (suc n) ⊎ Unnamed (suc n)
       miss (inl (a, e, l)) t = inl (a, least-miss n t ∙ e, least-keep n a l (λ v. absurd (clash t v)))
-      miss (inr (e, b)) t = inr (least-miss n t ∙ e, below_suc n (λ i. p i ≡ false) b t)
+      miss (inr (e, b)) t = inr (least-miss n t ∙ e, below-suc n (λ i. p i ≡ false) b t)
 
   -- which number is named is told by what it is
   pub least-is : (n a : ℕ) → Least n p key a → least n p key ≡ State a
@@ -109,7 +109,7 @@ module _ (p : ℕ → Bool) (key : ℕ → ℕ) where
   pub least-found : (n : ℕ) → found (least n p key) ≡ some n p
   unfolding found
   least-found n =
-      ⊎_elim (λ v. ap found v.1 ∙ sym (some_of n p v.0 v.2.below v.2.passes)) (λ v. ap found v.0 ∙ sym (some-none n p v.1)) (least-view n)
+      ⊎_elim (λ v. ap found v.1 ∙ sym (some-of n p v.0 v.2.below v.2.passes)) (λ v. ap found v.0 ∙ sym (some-none n p v.1)) (least-view n)
 
 pub least-same : (n : ℕ) (p q : ℕ → Bool) (key rank : ℕ → ℕ) → ((i : ℕ) → i < n → p i ≡ q i)
     → ((i : ℕ) → i < n → p i ≡ true → key i ≡ rank i) → least n p key ≡ least n q rank
@@ -136,12 +136,12 @@ candidate moves S a = and (hasBit moves a) (S a)
 
 module _ (moves : ℕ) (S : ℕ → Bool) (key : ℕ → ℕ) where
   candidate-at : (i : ℕ) → i < 64 → candidate moves S i ≡ true → Candidate moves S i
-  candidate-at i h t = record { below = h; moved = and_l _ _ t; inside = and_r _ _ t }
+  candidate-at i h t = record { below = h; moved = and-l _ _ t; inside = and-r _ _ t }
 
   best-least : (a : ℕ) → Best moves S key a → Least 64 (candidate moves S) key a
   best-least a b = record {
     below = b.candidate.below;
-    passes = and_i b.candidate.moved b.candidate.inside;
+    passes = and-i b.candidate.moved b.candidate.inside;
     keyed = λ i h t. b.least i (candidate-at i h t);
     first = λ i h t. b.lowest i h (candidate-at i (omega (arith, b.candidate.below)) t);
   }
@@ -149,8 +149,8 @@ module _ (moves : ℕ) (S : ℕ → Bool) (key : ℕ → ℕ) where
   least-best : (a : ℕ) → Least 64 (candidate moves S) key a → Best moves S key a
   least-best a l = record {
     candidate = candidate-at a l.below l.passes;
-    least = λ i c. l.keyed i c.below (and_i c.moved c.inside);
-    lowest = λ i h c. l.first i h (and_i c.moved c.inside);
+    least = λ i c. l.keyed i c.below (and-i c.moved c.inside);
+    lowest = λ i h c. l.first i h (and-i c.moved c.inside);
   }
 
   pub partner-is : (a : ℕ) → Best moves S key a → partner moves S key ≡ State a
@@ -159,7 +159,7 @@ module _ (moves : ℕ) (S : ℕ → Bool) (key : ℕ → ℕ) where
 
   pub partner-none : ((i : ℕ) → i < 64 → hasBit moves i ≡ true → S i ≡ false) → partner moves S key ≡ Nobody
   unfolding partner
-  partner-none h = least-none (candidate moves S) key 64 (λ i l. ⊎_elim (λ e. and_false_r _ (h i l e)) (λ e. and-false-l _ e) (dec (hasBit moves i)))
+  partner-none h = least-none (candidate moves S) key 64 (λ i l. ⊎_elim (λ e. and-false-r _ (h i l e)) (λ e. and-false-l _ e) (dec (hasBit moves i)))
 
   -- there is a partner exactly if some state of the moves is in the set
   pub partner-found : found (partner moves S key) ≡ someIn 64 moves S
@@ -178,8 +178,8 @@ module _ (moves : ℕ) (S : ℕ → Bool) (key : ℕ → ℕ) where
       (λ v. let z : ◌≡◌ {A = ℕ} 0 1 = cc in absurd (omega arith)) partner-view
 
 -- a partner that there is has its number
-pub found-state : (b : Partner) → found b ≡ true → b ≡ State (state_of b)
-unfolding found state_of
+pub found-state : (b : Partner) → found b ≡ true → b ≡ State (stateOf b)
+unfolding found stateOf
 found-state (State a) t = refl
 found-state Nobody t = absurd (clash refl t)
 
@@ -203,17 +203,17 @@ module _ (moves row : ℕ) (h : moves < 2 ^ 64) where
       let m = bit_and moves row in
       let a = lowestOf 64 m in
       let p : 0 < m = omega arith in
-      let t : and (hasBit moves a) (hasBit row a) ≡ true = sym (has-and a moves row) ∙ lowest_set 64 m p small in
+      let t : and (hasBit moves a) (hasBit row a) ≡ true = sym (has-and a moves row) ∙ lowest-set 64 m p small in
       partner-is moves (hasBit row) alike a (record {
         candidate = candidate-at moves (hasBit row) alike a (lowest-lt 64 m p small) t;
         least = λ i c. omega arith;
-        lowest = λ i l c. absurd (clash (lowest-least 64 m i l) (has-and i moves row ∙ and_i c.moved c.inside));
+        lowest = λ i l c. absurd (clash (lowest-least 64 m i l) (has-and i moves row ∙ and-i c.moved c.inside));
       })
 
   pub partner-nobody : bit_and moves row ≡ 0 → partner moves (hasBit row) alike ≡ Nobody
   partner-nobody e =
       partner-none moves (hasBit row) alike
-      (λ i l t. refute (hasBit row i) (λ u. clash (has-none i) (ap (λ (m : ℕ). hasBit m i) (sym e) ∙ has-and i moves row ∙ and_i t u)))
+      (λ i l t. refute (hasBit row i) (λ u. clash (has-none i) (ap (λ (m : ℕ). hasBit m i) (sym e) ∙ has-and i moves row ∙ and-i t u)))
 
 -- ---- a set that is given by its entries: what is looked for among the matched moves
 unfoldable pub within : List ℕ → ℕ → ℕ → Bool
@@ -221,32 +221,32 @@ within row bound a = and (ltb a (length row)) (leb (get_or row a 0) bound)
 
 pub within-hit : (row : List ℕ) (bound a : ℕ) → a < length row → get_or row a 0 ≤ bound → within row bound a ≡ true
 unfolding within
-within-hit row bound a h k = and_i (lt-ltb a (length row) h) (le-leb (get_or row a 0) bound k)
+within-hit row bound a h k = and-i (lt-ltb a (length row) h) (le-leb (get_or row a 0) bound k)
 
 pub within-index : (row : List ℕ) (bound a : ℕ) → within row bound a ≡ true → a < length row
 unfolding within
-within-index row bound a t = ltb-true a (length row) (and_l _ _ t)
+within-index row bound a t = ltb-true a (length row) (and-l _ _ t)
 
 pub within-entry : (row : List ℕ) (bound a : ℕ) → within row bound a ≡ true → get_or row a 0 ≤ bound
 unfolding within
-within-entry row bound a t = leb-true (get_or row a 0) bound (and_r _ _ t)
+within-entry row bound a t = leb-true (get_or row a 0) bound (and-r _ _ t)
 
 pub within-miss : (row : List ℕ) (bound a : ℕ) → (a < length row → bound < get_or row a 0) → within row bound a ≡ false
 within-miss row bound a h = refute _ (λ t. omega (arith, h (within-index row bound a t), within-entry row bound a t))
 
 module _ (moves matched : ℕ) (row : List ℕ) (bound : ℕ) where
-  in-row : (a : ℕ) → and (hasBit moves a) (in_row matched row bound a) ≡ and (hasBit (bit_and moves matched) a) (within row bound a)
-  unfolding in_row within and
+  in-row : (a : ℕ) → and (hasBit moves a) (inRow matched row bound a) ≡ and (hasBit (bit_and moves matched) a) (within row bound a)
+  unfolding inRow within and
   in-row a = rw has-and (go (hasBit moves a))
     where
       go : (b : Bool) → and b (and (hasBit matched a) (within row bound a)) ≡ and (and b (hasBit matched a)) (within row bound a)
       go true = refl
       go false = refl
 
-  pub partner-row : (key : ℕ → ℕ) → partner moves (in_row matched row bound) key ≡ partner (bit_and moves matched) (within row bound) key
-  partner-row key = partner-cong moves (bit_and moves matched) (in_row matched row bound) (within row bound) key (λ i l. in-row i)
+  pub partner-row : (key : ℕ → ℕ) → partner moves (inRow matched row bound) key ≡ partner (bit_and moves matched) (within row bound) key
+  partner-row key = partner-cong moves (bit_and moves matched) (inRow matched row bound) (within row bound) key (λ i l. in-row i)
 
-  pub found-row : (key : ℕ → ℕ) → found (partner moves (in_row matched row bound) key) ≡ someIn 64 (bit_and moves matched) (within row bound)
+  pub found-row : (key : ℕ → ℕ) → found (partner moves (inRow matched row bound) key) ≡ someIn 64 (bit_and moves matched) (within row bound)
   found-row key = ap found (partner-row key) ∙ partner-found (bit_and moves matched) (within row bound) key
 
 -- ---- a walk that keeps the best state so far
@@ -259,9 +259,9 @@ pub record Passed (S : ℕ → Bool) (key : ℕ → ℕ) (moves m : ℕ) (best :
   pub left : (k : ℕ) → hasBit m k ≡ and (leb upto k) (hasBit moves k)
 
 module _ (S : ℕ → Bool) (key : ℕ → ℕ) (moves : ℕ) where
-  pub passed_start : moves < 2 ^ 64 → Passed S key moves moves Nobody
+  pub passed-start : moves < 2 ^ 64 → Passed S key moves moves Nobody
   unfolding least
-  passed_start h = record {
+  passed-start h = record {
     small = h;
     upto = 0;
     upto_le = omega arith;
@@ -271,31 +271,31 @@ module _ (S : ℕ → Bool) (key : ℕ → ℕ) (moves : ℕ) where
 
   module _ (m : ℕ) (best : Partner) (a : ℕ) (p : 0 < m) (low : a ≡ lowestOf 64 m) (d : Passed S key moves m best) where
     here : hasBit m a ≡ true
-    here = ap (hasBit m) low ∙ lowest_set 64 m p d.small
+    here = ap (hasBit m) low ∙ lowest-set 64 m p d.small
 
     above : d.upto ≤ a
-    above = leb-true _ _ (and_l _ _ (sym (d.left a) ∙ here))
+    above = leb-true _ _ (and-l _ _ (sym (d.left a) ∙ here))
 
     -- no state that passes was left out
     skipped : least a (candidate moves S) key ≡ best
     skipped =
-        least_skip (candidate moves S) key d.upto a above
-        (λ k l q. and-false-l _ (refute (hasBit moves k) (λ t. clash (lowest-least 64 m k (omega arith)) (d.left k ∙ and_i (le-leb d.upto k l) t))))
+        least-skip (candidate moves S) key d.upto a above
+        (λ k l q. and-false-l _ (refute (hasBit moves k) (λ t. clash (lowest-least 64 m k (omega arith)) (d.left k ∙ and-i (le-leb d.upto k l) t))))
         ∙ sym d.best-is
 
-    rest-left : (k : ℕ) → hasBit (rest_of m) k ≡ and (leb (suc a) k) (hasBit moves k)
+    rest-left : (k : ℕ) → hasBit (restOf m) k ≡ and (leb (suc a) k) (hasBit moves k)
     rest-left k = both _ _
-        (λ t. and_i (le-leb (suc a) k (omega (arith, rest-above 64 m p d.small k t))) (and_r _ _ (sym (d.left k) ∙ rest_has 64 m p d.small k t)))
-        (λ t. let l : suc a ≤ k = leb-true (suc a) k (and_l _ _ t) in
-        rest-keeps 64 m p d.small k (d.left k ∙ and_i (le-leb d.upto k (omega (arith, above))) (and_r _ _ t)) (λ e. omega arith))
+        (λ t. and-i (le-leb (suc a) k (omega (arith, rest-above 64 m p d.small k t))) (and-r _ _ (sym (d.left k) ∙ rest-has 64 m p d.small k t)))
+        (λ t. let l : suc a ≤ k = leb-true (suc a) k (and-l _ _ t) in
+        rest-keeps 64 m p d.small k (d.left k ∙ and-i (le-leb d.upto k (omega (arith, above))) (and-r _ _ t)) (λ e. omega arith))
 
-    pub passed-turn : Passed S key moves (rest_of m) (cond (and (S a) (better key a best)) (State a) best)
+    pub passed-turn : Passed S key moves (restOf m) (cond (and (S a) (better key a best)) (State a) best)
     unfolding least
     passed-turn = record {
       small = rest-small 64 m p d.small;
       upto = suc a;
       upto_le = omega (arith, lowest-lt 64 m p d.small);
-      best-is = rw (skipped, and-true-l (S a) (and_r _ _ (sym (d.left a) ∙ here)));
+      best-is = rw (skipped, and-true-l (S a) (and-r _ _ (sym (d.left a) ∙ here)));
       left = rest-left;
     }
 
@@ -303,8 +303,8 @@ module _ (S : ℕ → Bool) (key : ℕ → ℕ) (moves : ℕ) where
   unfolding partner
   passed-done best d =
       d.best-is
-      ∙ sym (least_skip (candidate moves S) key d.upto 64 d.upto_le
-      (λ k l q. and-false-l _ (refute (hasBit moves k) (λ t. clash (has-none k) (d.left k ∙ and_i (le-leb d.upto k l) t)))))
+      ∙ sym (least-skip (candidate moves S) key d.upto 64 d.upto_le
+      (λ k l q. and-false-l _ (refute (hasBit moves k) (λ t. clash (has-none k) (d.left k ∙ and-i (le-leb d.upto k l) t)))))
 
 -- ---- such a walk over a row of entries
 -- what an entry has to be below, to be taken in place of the best so far
@@ -331,31 +331,31 @@ module _ (row : List ℕ) (bound moves : ℕ) where
   abbrev Key : ℕ → ℕ
   Key a = get_or row a 0
 
-  pub walked_start : moves < 2 ^ 64 → Walked row bound moves moves Nobody (bound + 1)
+  pub walked-start : moves < 2 ^ 64 → Walked row bound moves moves Nobody (bound + 1)
   unfolding limitOf
-  walked_start h = record { passed = passed_start (within row bound) Key moves h; limit_is = refl; limit-le = omega arith }
+  walked-start h = record { passed = passed-start (within row bound) Key moves h; limit_is = refl; limit-le = omega arith }
 
   pub walked-done : (best : Partner) (limit : ℕ) → Walked row bound moves 0 best limit → best ≡ partner moves (within row bound) Key
   walked-done best limit d = passed-done (within row bound) Key moves best d.passed
 
   module _ (m : ℕ) (best : Partner) (limit a : ℕ) (p : 0 < m) (low : a ≡ lowestOf 64 m) (d : Walked row bound moves m best limit) where
-    pub walked-take : a < length row → Key a < limit → Walked row bound moves (rest_of m) (State a) (Key a)
+    pub walked-take : a < length row → Key a < limit → Walked row bound moves (restOf m) (State a) (Key a)
     unfolding limitOf
     walked-take h k =
         let t : and (within row bound a) (better Key a best) ≡ true =
-        and_i (within-hit row bound a h (omega (arith, d.limit-le))) (better-in Key bound best a (rw d.limit_is at k)) in
+        and-i (within-hit row bound a h (omega (arith, d.limit-le))) (better-in Key bound best a (rw d.limit_is at k)) in
         record {
           passed = rw t at (passed-turn (within row bound) Key moves m best a p low d.passed);
           limit_is = refl;
           limit-le = omega (arith, d.limit-le);
         }
 
-    pub walked-keep : (a < length row → limit ≤ Key a) → Walked row bound moves (rest_of m) best limit
+    pub walked-keep : (a < length row → limit ≤ Key a) → Walked row bound moves (restOf m) best limit
     walked-keep h =
         let t : and (within row bound a) (better Key a best) ≡ false = refute _ (λ u.
-        let i : a < length row = within-index row bound a (and_l _ _ u) in
+        let i : a < length row = within-index row bound a (and-l _ _ u) in
         let l : limitOf Key bound best ≤ Key a = omega (arith, d.limit_is, h i) in
-        clash (better-out Key bound best a l (within-entry row bound a (and_l _ _ u))) (and_r _ _ u)) in
+        clash (better-out Key bound best a l (within-entry row bound a (and-l _ _ u))) (and-r _ _ u)) in
         record {
           passed = rw t at (passed-turn (within row bound) Key moves m best a p low d.passed);
           limit_is = d.limit_is;
@@ -367,4 +367,4 @@ pub partner-below : (moves n : ℕ) (S R : ℕ → Bool) (key rank : ℕ → ℕ
     → ((i : ℕ) → i < n → S i ≡ R i) → ((i : ℕ) → i < n → key i ≡ rank i) → partner moves S key ≡ partner moves R rank
 partner-below moves n S R key rank moved set keys = partner-same moves moves S R key rank
     (λ i h. ⊎_elim (λ m. ap (and (hasBit moves i)) (set i (moved i h m))) (λ m. and-false-l _ m ∙ sym (and-false-l _ m)) (dec (hasBit moves i)))
-    (λ i h t. keys i (moved i h (and_l _ _ t)))
+    (λ i h t. keys i (moved i h (and-l _ _ t)))

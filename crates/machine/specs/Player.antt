@@ -6,11 +6,11 @@ use Rattle.mask.specs.Tables.{table}
 use Rattle.machine.specs.declared.Machine.{Machine}
 use Rattle.machine.specs.declared.Pair.{Pair}
 use Rattle.machine.specs.declared.Partner.{Partner}
-use Rattle.machine.specs.Refusals.{Result, Tested, answer, valid, refused, refusal, and_then, bufferValidity, bufferAfter, bad-lasso-length, bad-lasso-step, unfair-lasso, no-start-partner}
+use Rattle.machine.specs.Refusals.{Result, Tested, answer, valid, refused, refusal, andThen, bufferValidity, bufferAfter, bad-lasso-length, bad-lasso-step, unfair-lasso, no-start-partner}
 use Rattle.machine.specs.Machines.{successors, moves, starts, inFairSet, next, setsA}
 use Rattle.machine.specs.WellFormed.{pairValidity}
 use Rattle.machine.specs.Lassos.{Lasso, lassoLength, moment}
-use Rattle.machine.specs.Step.{partner, singleStep, found, state_of}
+use Rattle.machine.specs.Step.{partner, singleStep, found, stateOf}
 use Rattle.machine.specs.Table.{tableRoom, entry}
 use Rattle.machine.specs.Lines.{nonBlank, linesValidity}
 
@@ -63,11 +63,11 @@ module _ (p : Pair) (T : List ℕ) where
   follow j at d = singleStep at.state (successors p.abstraction at.state) (nonBlank p T j d) (entry p T j d)
 
   unfoldable pub stepTo : ℕ → Place → ℕ → Place
-  stepTo c at d = let j = sectionAfter c at in record { state = state_of (follow j at d); section = j }
+  stepTo c at d = let j = sectionAfter c at in record { state = stateOf (follow j at d); section = j }
 
   -- the place at moment t
   unfoldable pub placeAt : Lasso → ℕ → Place
-  placeAt l zero = record { state = state_of (startPartner (moment l 0)); section = 0 }
+  placeAt l zero = record { state = stateOf (startPartner (moment l 0)); section = 0 }
   placeAt l (suc t) = stepTo (moment l t) (placeAt l t) (moment l (suc t))
 
   -- the moment of the loop start after x rounds
@@ -102,7 +102,7 @@ module _ (p : Pair) (T : List ℕ) where
   -- 5, 9 to 16
   unfoldable pub playValidity : Lasso → Tested
   playValidity l =
-      and_then (pairValidity p) (and_then (linesValidity p T) (and_then (lassoValidity p.concrete l) (startValidity l)))
+      andThen (pairValidity p) (andThen (linesValidity p T) (andThen (lassoValidity p.concrete l) (startValidity l)))
 
 -- what the player can say of a lasso that it takes: stem length and loop length of the run
 pub data Played : Type 0 where
@@ -110,7 +110,7 @@ pub data Played : Type 0 where
 
 -- the player's answer where its buffers are long enough
 unfoldable pub playAnswer : Pair → List ℕ → Lasso → Result Played
-playAnswer p T l = and_then (playValidity p T l) (answer (played (stemLength p T l) (loopLength p T l)))
+playAnswer p T l = andThen (playValidity p T l) (answer (played (stemLength p T l) (loopLength p T l)))
 
 -- "a lent buffer of 28,672 bytes"
 abbrev pub runRoom : ℕ
@@ -119,11 +119,11 @@ runRoom = 28672
 -- all that the player tests, in document 01's order; the table and the buffer are lent
 unfoldable pub allValidity : Pair → List ℕ → Lasso → List ℕ → Tested
 allValidity p T l buffer =
-    and_then (bufferValidity tableRoom (length T)) (and_then (bufferValidity runRoom (length buffer)) (playValidity p T l))
+    andThen (bufferValidity tableRoom (length T)) (andThen (bufferValidity runRoom (length buffer)) (playValidity p T l))
 
 -- the player's whole answer
 unfoldable pub playerAnswer : Pair → List ℕ → Lasso → List ℕ → Result Played
-playerAnswer p T l buffer = and_then (allValidity p T l buffer) (answer (played (stemLength p T l) (loopLength p T l)))
+playerAnswer p T l buffer = andThen (allValidity p T l buffer) (answer (played (stemLength p T l) (loopLength p T l)))
 
 -- and the buffer's final content: "buffer bytes past the run are unchanged"
 unfoldable pub playerBuffer : Pair → List ℕ → Lasso → List ℕ → List ℕ

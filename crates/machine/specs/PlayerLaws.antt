@@ -7,13 +7,13 @@ use native.Mathlib.Omega.{arith}
 use Rattle.std.proofs.Math.ListN.{length}
 use borrow.Author.Tests.{eqb-true, eqb-false, eq-eqb, ne_eqb, ltb-false, lt-ltb, le-ltb, le-leb, lt-leb, not-true, not-false}
 use Rattle.mask.specs.Logic.{not, and}
-use Rattle.mask.specs.LogicLaws.{cond_cases, or_l, or_r, or-false-l, or-none, not-i, not_f, not_is, and-true-l, and-false-l}
+use Rattle.mask.specs.LogicLaws.{cond-cases, or-l, or-r, or-false-l, or-none, not-i, not-f, not-is, and-true-l, and-false-l}
 use Rattle.mask.specs.Bounded.{first}
 use Rattle.machine.specs.declared.Machine.{Machine}
 use Rattle.machine.specs.declared.Pair.{Pair}
 use Rattle.machine.specs.declared.Partner.TheVariants.{State, Nobody}
 use Rattle.machine.specs.declared.Refusal.{Refusal}
-use Rattle.machine.specs.Refusals.{and_then, valid, refused, refusal, bad-lasso-length, bad-lasso-step, unfair-lasso, no-start-partner}
+use Rattle.machine.specs.Refusals.{andThen, valid, refused, refusal, bad-lasso-length, bad-lasso-step, unfair-lasso, no-start-partner}
 use Rattle.machine.specs.RefusalsLaws.{then-of, then-refused, valid-next}
 use Rattle.machine.specs.Machines.{moves, starts, next, setsA}
 use Rattle.machine.specs.WellFormed.{pairValidity}
@@ -29,19 +29,19 @@ use Rattle.machine.specs.Player.{badLength, badStep, missedSet, lassoValidity, P
 module _ (l : Lasso) where
   pub length-empty : length l.loop ≡ 0 → badLength l ≡ true
   unfolding badLength
-  length-empty e = or_l _ (eq-eqb _ _ e)
+  length-empty e = or-l _ (eq-eqb _ _ e)
 
-  pub length_over : 64 < lassoLength l → badLength l ≡ true
+  pub length-over : 64 < lassoLength l → badLength l ≡ true
   unfolding badLength
-  length_over h = or_r _ (lt-ltb _ _ h)
+  length-over h = or-r _ (lt-ltb _ _ h)
 
-  pub length_whole : (length l.loop ≡ 0 → ⊥) → badLength l ≡ ltb 64 (lassoLength l)
+  pub length-whole : (length l.loop ≡ 0 → ⊥) → badLength l ≡ ltb 64 (lassoLength l)
   unfolding badLength
-  length_whole d = or-false-l _ (ne_eqb _ _ d)
+  length-whole d = or-false-l _ (ne_eqb _ _ d)
 
-  pub good_length : badLength l ≡ false → (0 < length l.loop) × (lassoLength l ≤ 64)
+  pub good-length : badLength l ≡ false → (0 < length l.loop) × (lassoLength l ≤ 64)
   unfolding badLength
-  good_length t =
+  good-length t =
       let q = or-none _ _ t in
       let some-loop : length l.loop ≡ 0 → ⊥ = eqb-false _ _ q.0 in
       (omega arith, ltb-false _ _ q.1)
@@ -56,27 +56,27 @@ module _ (m : Machine) (l : Lasso) (i : ℕ) where
   -- what is left to test where the state is one of the machine's and is entered rightly
   rest : moment l i < m.states → Entered → badStep m l i ≡ and (eqb (suc i) (lassoLength l)) (not (moves m (moment l i) (moment l (suc i))))
   unfolding badStep
-  rest h r = or-false-l _ (lt-leb _ _ h) ∙ or-false-l _ (cond_cases (eqb i 0) (λ b. b ≡ false)
+  rest h r = or-false-l _ (lt-leb _ _ h) ∙ or-false-l _ (cond-cases (eqb i 0) (λ b. b ≡ false)
       (not (starts m (moment l 0))) (not (moves m (moment l (i - 1)) (moment l i)))
-      (λ t. not_f (r.start (eqb-true _ _ t))) (λ t. not_f (r.entered (eqb-false _ _ t))))
+      (λ t. not-f (r.start (eqb-true _ _ t))) (λ t. not-f (r.entered (eqb-false _ _ t))))
 
   -- s is the state at position i
   module _ (s : ℕ) (at : s ≡ moment l i) where
     pub bad-state : m.states ≤ s → true ≡ badStep m l i
     unfolding badStep
-    bad-state h = sym (or_l _ (le-leb m.states (moment l i) (rw (← at) h)))
+    bad-state h = sym (or-l _ (le-leb m.states (moment l i) (rw (← at) h)))
 
     -- r tells whether s is a start
     module _ (e : i ≡ 0) (r : Bool) (is : r ≡ starts m s) where
-      starts_is : starts m (moment l 0) ≡ r
-      starts_is = cc (e, at, is)
+      starts-is : starts m (moment l 0) ≡ r
+      starts-is = cc (e, at, is)
 
       pub bad-start : B.not r ≡ true → true ≡ badStep m l i
       unfolding badStep
-      bad-start t = sym (or_r _ (or_l _ (rw (eq-eqb i 0 e) (not-i (starts_is ∙ not-true r t)))))
+      bad-start t = sym (or-r _ (or-l _ (rw (eq-eqb i 0 e) (not-i (starts-is ∙ not-true r t)))))
 
-      pub good_start : B.not r ≡ false → Entered
-      good_start t = record { start = λ z. starts_is ∙ not-false r t; entered = λ n. absurd (n e) }
+      pub good-start : B.not r ≡ false → Entered
+      good-start t = record { start = λ z. starts-is ∙ not-false r t; entered = λ n. absurd (n e) }
 
     -- r tells whether p, the state before, moves to s
     module _ (n : i ≡ 0 → ⊥) (p : ℕ) (before : p ≡ moment l (i - 1)) (r : Bool) (is : r ≡ moves m p s) where
@@ -85,7 +85,7 @@ module _ (m : Machine) (l : Lasso) (i : ℕ) where
 
       pub bad-entry : B.not r ≡ true → true ≡ badStep m l i
       unfolding badStep
-      bad-entry t = sym (or_r _ (or_l _ (rw (ne_eqb i 0 n) (not-i (entry-is ∙ not-true r t)))))
+      bad-entry t = sym (or-r _ (or-l _ (rw (ne_eqb i 0 n) (not-i (entry-is ∙ not-true r t)))))
 
       pub good-entry : B.not r ≡ false → Entered
       good-entry t = record { start = λ e. absurd (n e); entered = λ z. entry-is ∙ not-false r t }
@@ -98,7 +98,7 @@ module _ (m : Machine) (l : Lasso) (i : ℕ) where
       pub closing : suc i ≡ lassoLength l → (t : ℕ) → t ≡ moment l (suc i) → (r : Bool) → r ≡ moves m s t → B.not r ≡ badStep m l i
       closing e t back r is =
           let c : moves m (moment l i) (moment l (suc i)) ≡ r = cc (at, is, back) in
-          sym (rest (rw (← at) h) b ∙ and-true-l _ (eq-eqb _ _ e) ∙ ap not c ∙ not_is r)
+          sym (rest (rw (← at) h) b ∙ and-true-l _ (eq-eqb _ _ e) ∙ ap not c ∙ not-is r)
 
 -- ---- 13 to 15 together, each after all that is tested before it
 module _ (m : Machine) (l : Lasso) where
@@ -123,12 +123,12 @@ module _ (m : Machine) (l : Lasso) where
 
   pub lasso-length : lassoValidity m l ≡ valid → (0 < length l.loop) × (lassoLength l ≤ 64)
   unfolding lassoValidity
-  lasso-length e = good_length l (valid-next _ _ _ e).0
+  lasso-length e = good-length l (valid-next _ _ _ e).0
 
 -- ---- sections
 -- the section after a place is one of n
 pub after-lt : (n j e : ℕ) → j < n → cond (eqb e 0) (next n j) j < n
-after-lt n j e h = cond_cases (eqb e 0) (λ (i : ℕ). i < n) (next n j) j (λ t. next-lt n j h) (λ t. h)
+after-lt n j e h = cond-cases (eqb e 0) (λ (i : ℕ). i < n) (next n j) j (λ t. next-lt n j h) (λ t. h)
 
 module _ (p : Pair) (T : List ℕ) where
   -- ---- the start is a single step where no state is present
@@ -152,7 +152,7 @@ module _ (p : Pair) (T : List ℕ) where
       play-fails r e = then-of _ _ v ∙ then-refused _ _ r e
 
       module _ (t : linesValidity p T ≡ valid) where
-        left : playValidity p T l ≡ and_then (lassoValidity p.concrete l) (startValidity p T l)
+        left : playValidity p T l ≡ andThen (lassoValidity p.concrete l) (startValidity p T l)
         unfolding playValidity
         left = then-of _ _ v ∙ then-of _ _ t
 

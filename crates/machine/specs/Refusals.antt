@@ -19,9 +19,9 @@ abbrev pub valid : Tested
 valid = answer tt
 
 -- what document 01 says for each case of the answer of a test
-unfoldable pub tested_of : Validity → Tested
-tested_of Valid = valid
-tested_of (Refused r) = refused r
+unfoldable pub testedOf : Validity → Tested
+testedOf Valid = valid
+testedOf (Refused r) = refused r
 
 -- what comes after an answer is said of it; a refusal is passed on
 unfoldable pub passOn : {A B : Type 0} → Result A → (A → Result B) → Result B
@@ -29,13 +29,13 @@ passOn (answer a) f = f a
 passOn (refused r) f = refused r
 
 -- "Tested in this order": the first refusal of two counts. The second is another test, or the answer that is given unless the first refuses.
-unfoldable pub and_then : {A : Type 0} → Tested → Result A → Result A
-and_then v w = passOn v (λ t. w)
+unfoldable pub andThen : {A : Type 0} → Tested → Result A → Result A
+andThen v w = passOn v (λ t. w)
 
 -- the tests of 0, .., n - 1 in this order, the lowest first
 unfoldable pub each : ℕ → (ℕ → Tested) → Tested
 each zero t = valid
-each (suc n) t = and_then (each n t) (t n)
+each (suc n) t = andThen (each n t) (t n)
 
 -- a lent buffer's final content: what was made at its front, and the rest as it was. A refusal "changes no lent buffer".
 unfoldable pub bufferAfter : {A : Type 0} → Result A → List ℕ → List ℕ → List ℕ
@@ -75,8 +75,8 @@ bad-padding = 8
 abbrev pub beyond-counts : ℕ
 beyond-counts = 9
 
-abbrev pub no_start : ℕ
-no_start = 10
+abbrev pub no-start : ℕ
+no-start = 10
 
 abbrev pub no-successor : ℕ
 no-successor = 11
@@ -102,8 +102,8 @@ misplaced = 19
 
 -- Document 02, No. 6: "It refuses with 20, after all else, a look-up whose section or state is out of range." A machine of a file that is asked for by
 -- another number than 0 and 1 has it too.
-abbrev pub out_of_range : ℕ
-out_of_range = 20
+abbrev pub out-of-range : ℕ
+out-of-range = 20
 
 -- Document 02, No. 7: "It refuses with 21, after 11 of the same machine, a set without a state"
 abbrev pub empty-set : ℕ

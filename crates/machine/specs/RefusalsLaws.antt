@@ -10,7 +10,7 @@ use Rattle.std.proofs.lemmas.List.Edits.{sets}
 use Rattle.machine.specs.declared.Refusal.{Refusal}
 use Rattle.machine.specs.declared.Validity.{Validity}
 use Rattle.machine.specs.declared.Validity.TheVariants.{Valid, Refused}
-use Rattle.machine.specs.Refusals.{Result, answer, refused, Tested, valid, tested_of, and_then, passOn, each, bufferAfter, stateAfter, fourNumbers, spotAfter, bufferValidity, refusal, short-buffer}
+use Rattle.machine.specs.Refusals.{Result, answer, refused, Tested, valid, testedOf, andThen, passOn, each, bufferAfter, stateAfter, fourNumbers, spotAfter, bufferValidity, refusal, short-buffer}
 
 -- ---- answers and refusals
 module _ {A : Type 0} where
@@ -24,13 +24,13 @@ module _ {A : Type 0} where
   refused-is e = cc
 
 -- the answer of a test, as the code has it
-pub tested-valid : {v : Validity} {t : Tested} → tested_of v ≡ t → v ≡ Valid → t ≡ valid
-unfolding tested_of
-tested-valid e z = sym e ∙ ap tested_of z
+pub tested-valid : {v : Validity} {t : Tested} → testedOf v ≡ t → v ≡ Valid → t ≡ valid
+unfolding testedOf
+tested-valid e z = sym e ∙ ap testedOf z
 
-pub tested-refused : {v : Validity} {t : Tested} {r : Refusal} → tested_of v ≡ t → v ≡ Refused r → t ≡ refused r
-unfolding tested_of
-tested-refused e z = sym e ∙ ap tested_of z
+pub tested-refused : {v : Validity} {t : Tested} {r : Refusal} → testedOf v ≡ t → v ≡ Refused r → t ≡ refused r
+unfolding testedOf
+tested-refused e z = sym e ∙ ap testedOf z
 
 -- what is refused where b holds is valid only where b does not and the rest is
 pub valid-next : (b : Bool) (r : Refusal) (v : Tested) → cond b (refused r) v ≡ valid → (b ≡ false) × (v ≡ valid)
@@ -44,44 +44,44 @@ valid-if false v r e = absurd (refused-not-answer e)
 
 -- ---- the first refusal of two
 module _ {A : Type 0} where
-  pub then-of : (v : Tested) (w : Result A) → v ≡ valid → and_then v w ≡ w
-  unfolding and_then passOn
+  pub then-of : (v : Tested) (w : Result A) → v ≡ valid → andThen v w ≡ w
+  unfolding andThen passOn
   then-of v w e = rw e
 
-  pub then-refused : (v : Tested) (w : Result A) (r : Refusal) → v ≡ refused r → and_then v w ≡ refused r
-  unfolding and_then passOn
+  pub then-refused : (v : Tested) (w : Result A) (r : Refusal) → v ≡ refused r → andThen v w ≡ refused r
+  unfolding andThen passOn
   then-refused v w r e = rw e
 
   -- an answer is given only where nothing is refused
-  pub then-answer : (v : Tested) (w : Result A) {a : A} → and_then v w ≡ answer a → (v ≡ valid) × (w ≡ answer a)
-  unfolding and_then passOn
+  pub then-answer : (v : Tested) (w : Result A) {a : A} → andThen v w ≡ answer a → (v ≡ valid) × (w ≡ answer a)
+  unfolding andThen passOn
   then-answer (answer t) w e = (refl, e)
   then-answer (refused r) w e = absurd (refused-not-answer e)
 
   -- a refusal is the first test's, or the first tells nothing
-  pub then-cases : (v : Tested) (w : Result A) (r : Refusal) → and_then v w ≡ refused r → (v ≡ refused r) ⊎ ((v ≡ valid) × (w ≡ refused r))
-  unfolding and_then passOn
+  pub then-cases : (v : Tested) (w : Result A) (r : Refusal) → andThen v w ≡ refused r → (v ≡ refused r) ⊎ ((v ≡ valid) × (w ≡ refused r))
+  unfolding andThen passOn
   then-cases (answer t) w r e = inr (refl, e)
   then-cases (refused s) w r e = inl (ap refused (refused-is e))
 
-  pub then-then : (u v : Tested) (w : Result A) → and_then (and_then u v) w ≡ and_then u (and_then v w)
-  unfolding and_then passOn
+  pub then-then : (u v : Tested) (w : Result A) → andThen (andThen u v) w ≡ andThen u (andThen v w)
+  unfolding andThen passOn
   then-then (answer t) v w = refl
   then-then (refused r) v w = refl
 
   -- an answer behind tests
-  pub given-at : (v : Tested) (a : A) {b : A} → and_then v (answer a) ≡ answer b → (v ≡ valid) × (a ≡ b)
+  pub given-at : (v : Tested) (a : A) {b : A} → andThen v (answer a) ≡ answer b → (v ≡ valid) × (a ≡ b)
   given-at v a e = let q = then-answer v (answer a) e in (q.0, answer-is q.1)
 
-  pub given-refused : (v : Tested) (a : A) {r : Refusal} → and_then v (answer a) ≡ refused r → v ≡ refused r
-  unfolding and_then passOn
+  pub given-refused : (v : Tested) (a : A) {r : Refusal} → andThen v (answer a) ≡ refused r → v ≡ refused r
+  unfolding andThen passOn
   given-refused (answer t) a e = absurd (refused-not-answer (sym e))
   given-refused (refused s) a e = ap refused (refused-is e)
 
 module _ {A B : Type 0} where
-  pub pass_of : (v : Result A) (f : A → Result B) {a : A} → v ≡ answer a → passOn v f ≡ f a
+  pub pass-of : (v : Result A) (f : A → Result B) {a : A} → v ≡ answer a → passOn v f ≡ f a
   unfolding passOn
-  pass_of v f e = rw e
+  pass-of v f e = rw e
 
   pub pass-refused : (v : Result A) (f : A → Result B) {r : Refusal} → v ≡ refused r → passOn v f ≡ refused r
   unfolding passOn
@@ -94,23 +94,23 @@ module _ {A B : Type 0} where
   pass-answer (refused r) f e = absurd (refused-not-answer e)
 
 -- ---- tests in a row, the lowest first
-pub each_none : (t : ℕ → Tested) → each 0 t ≡ valid
+pub each-none : (t : ℕ → Tested) → each 0 t ≡ valid
 unfolding each
-each_none t = refl
+each-none t = refl
 
-pub each_next : (n : ℕ) (t : ℕ → Tested) → each n t ≡ valid → t n ≡ valid → each (suc n) t ≡ valid
+pub each-next : (n : ℕ) (t : ℕ → Tested) → each n t ≡ valid → t n ≡ valid → each (suc n) t ≡ valid
 unfolding each
-each_next n t e h = then-of _ _ e ∙ h
+each-next n t e h = then-of _ _ e ∙ h
 
 pub each-valid : (n : ℕ) (t : ℕ → Tested) → ((i : ℕ) → i < n → t i ≡ valid) → each n t ≡ valid
-each-valid zero t h = each_none t
-each-valid (suc n) t h = each_next n t (each-valid n t (λ i l. h i (omega arith))) (h n (omega arith))
+each-valid zero t h = each-none t
+each-valid (suc n) t h = each-next n t (each-valid n t (λ i l. h i (omega arith))) (h n (omega arith))
 
-pub each_at : (n : ℕ) (t : ℕ → Tested) → each n t ≡ valid → (i : ℕ) → i < n → t i ≡ valid
+pub each-at : (n : ℕ) (t : ℕ → Tested) → each n t ≡ valid → (i : ℕ) → i < n → t i ≡ valid
 unfolding each
-each_at zero t e i l = absurd (omega arith)
-each_at (suc n) t e i l = let b = then-answer (each n t) (t n) e in
-    by_cases (dec_lt i n) (λ q. each_at n t b.0 i q) (λ q. let z : n ≡ i = omega arith in subst (λ (k : ℕ). t k ≡ valid) z b.1)
+each-at zero t e i l = absurd (omega arith)
+each-at (suc n) t e i l = let b = then-answer (each n t) (t n) e in
+    by_cases (dec_lt i n) (λ q. each-at n t b.0 i q) (λ q. let z : n ≡ i = omega arith in subst (λ (k : ℕ). t k ≡ valid) z b.1)
 
 -- the refusal of the lowest that refuses
 pub each-refused : (n : ℕ) (t : ℕ → Tested) (i : ℕ) {r : Refusal} → i < n → each i t ≡ valid → t i ≡ refused r → each n t ≡ refused r
@@ -118,7 +118,7 @@ unfolding each
 each-refused zero t i l e h = absurd (omega arith)
 each-refused (suc n) t i {r} l e h =
     by_cases (dec_lt i n) (λ q. then-refused _ _ r (each-refused n t i q e h))
-    (λ q. let z : i ≡ n = omega arith in subst (λ (k : ℕ). each k t ≡ valid → t k ≡ refused r → and_then (each n t) (t n) ≡ refused r) (sym z) (λ a b. then-of _ _ a ∙ b) e h)
+    (λ q. let z : i ≡ n = omega arith in subst (λ (k : ℕ). each k t ≡ valid → t k ≡ refused r → andThen (each n t) (t n) ≡ refused r) (sym z) (λ a b. then-of _ _ a ∙ b) e h)
 
 -- ---- whatever a test refuses with, a fact holds of it
 abbrev pub RefusesOnly : (Refusal → Type 0) → Tested → Type 0
@@ -135,8 +135,8 @@ module _ (F : Refusal → Type 0) where
   refuses-cond true v w p q = p refl
   refuses-cond false v w p q = q refl
 
-  pub refuses-then : (v w : Tested) → RefusesOnly F v → (v ≡ valid → RefusesOnly F w) → RefusesOnly F (and_then v w)
-  unfolding and_then passOn
+  pub refuses-then : (v w : Tested) → RefusesOnly F v → (v ≡ valid → RefusesOnly F w) → RefusesOnly F (andThen v w)
+  unfolding andThen passOn
   refuses-then (answer t) w p q = q refl
   refuses-then (refused s) w p q = p
 
@@ -195,17 +195,17 @@ module _ {A : Type 0} where
   spot-put spot e = rw e
 
 -- ---- tests that say the same, with what is said and written where they refuse nothing
-pub then_same : {A : Type 0} (v u : Tested) (w x : Result A) → v ≡ u → (v ≡ valid → w ≡ x) → and_then v w ≡ and_then u x
-unfolding and_then passOn
-then_same v u w x e h = go v h ∙ ap (λ (v : Tested). and_then v x) e
+pub then-same : {A : Type 0} (v u : Tested) (w x : Result A) → v ≡ u → (v ≡ valid → w ≡ x) → andThen v w ≡ andThen u x
+unfolding andThen passOn
+then-same v u w x e h = go v h ∙ ap (λ (v : Tested). andThen v x) e
   where
-    go : (v : Tested) → (v ≡ valid → w ≡ x) → and_then v w ≡ and_then v x
+    go : (v : Tested) → (v ≡ valid → w ≡ x) → andThen v w ≡ andThen v x
     go (answer t) h = h refl
     go (refused r) h = refl
 
-pub after_same : (v u : Tested) (made other buffer : List ℕ) → v ≡ u → (v ≡ valid → made ≡ other) → bufferAfter v made buffer ≡ bufferAfter u other buffer
+pub after-same : (v u : Tested) (made other buffer : List ℕ) → v ≡ u → (v ≡ valid → made ≡ other) → bufferAfter v made buffer ≡ bufferAfter u other buffer
 unfolding bufferAfter
-after_same v u made other buffer e h = go v h ∙ ap (λ (v : Tested). bufferAfter v other buffer) e
+after-same v u made other buffer e h = go v h ∙ ap (λ (v : Tested). bufferAfter v other buffer) e
   where
     go : (v : Tested) → (v ≡ valid → made ≡ other) → bufferAfter v made buffer ≡ bufferAfter v other buffer
     go (answer t) h = rw (h refl)

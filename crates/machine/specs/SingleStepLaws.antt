@@ -6,13 +6,13 @@ use Rattle.std.proofs.Math.Logic.{by_cases}
 use Rattle.std.proofs.Math.Path.{ap}
 use Rattle.std.proofs.Math.Decide.{dec_lt, ℕ_discrete}
 use Rattle.std.specs.Int.Bits.{bit_and}
-use Rattle.mask.specs.LogicLaws.{clash, refute, and_l, and_r, and_i}
+use Rattle.mask.specs.LogicLaws.{clash, refute, and-l, and-r, and-i}
 use Rattle.mask.specs.Bits.{hasBit, lowestOf}
 use Rattle.mask.specs.BitsLaws.{has-lt, has-and}
 use Rattle.mask.specs.Bounded.{someIn}
 use Rattle.mask.specs.BoundedLaws.{someIn-of}
 use Rattle.machine.specs.declared.Partner.TheVariants.{State, Nobody}
-use Rattle.machine.specs.Step.{partner, staying, singleStep, alike, in_row, found, state_of}
+use Rattle.machine.specs.Step.{partner, staying, singleStep, alike, inRow, found, stateOf}
 use Rattle.machine.specs.PartnerLaws.{partner-is, partner-none, partner-found, partner-view, partner-at, found-state, partner-below, partner-lowest, partner-nobody, within, found-row}
 use Rattle.machine.specs.SingleStep.{Candidate, Best, Chosen, Names, NamesChosen, FoundAnywhere}
 
@@ -42,16 +42,16 @@ module _ (present : ℕ) (entries : ℕ → ℕ) where
     single-found = partner-found moves S Key
 
     -- ---- of least key, the lowest of these, is the chosen one
-    chosen_of : (a : ℕ) → Best moves S Key a → Chosen present moves S entries a
-    chosen_of a b = record {
+    chosen-of : (a : ℕ) → Best moves S Key a → Chosen present moves S entries a
+    chosen-of a b = record {
       candidate = b.candidate;
       least = λ i c. omega (arith, b.least i c, staying-low a, staying-high i);
       stays = λ c l. by_cases (ℕ_discrete a present) (λ e. e) (λ n. absurd (omega (arith, b.least present c, staying-away a n, staying-here present refl)));
       lowest = λ n i l c. omega (arith, b.lowest i l c, staying-away a n, staying-high i);
     }
 
-    best_of : (a : ℕ) → Chosen present moves S entries a → Best moves S Key a
-    best_of a c = record { candidate = c.candidate; least = keyed; lowest = first }
+    best-of : (a : ℕ) → Chosen present moves S entries a → Best moves S Key a
+    best-of a c = record { candidate = c.candidate; least = keyed; lowest = first }
       where
         -- where a is not the present state, that one has a greater entry if it is a candidate
         greater : (a ≡ present → ⊥) → Candidate moves S present → entries a < entries present
@@ -69,7 +69,7 @@ module _ (present : ℕ) (entries : ℕ → ℕ) where
     pub names : Names present moves S entries
     unfolding singleStep found
     names = record {
-      chosen = λ a. (λ e. chosen_of a (partner-at moves S Key a e), λ c. partner-is moves S Key a (best_of a c));
+      chosen = λ a. (λ e. chosen-of a (partner-at moves S Key a e), λ c. partner-is moves S Key a (best-of a c));
       nobody = (
         λ e i c. clash (sym (partner-found moves S Key) ∙ ap found e) (someIn-of 64 moves S i c.below c.moved c.inside),
         λ none. partner-none moves S Key (λ i h t. refute (S i) (λ u. none i (record { below = h; moved = t; inside = u }))),
@@ -99,7 +99,7 @@ module _ (present : ℕ) (entries : ℕ → ℕ) where
         ⊎_elim (λ v. single-leaves v.0 v.2 (λ c. absurd (out c)) ∙ sym v.1) (λ v. single-nobody v.0 ∙ sym v.0) (partner-view moves S entries)
 
     -- what is named where there is one
-    pub chosen-named : found (singleStep present moves S entries) ≡ true → Chosen present moves S entries (state_of (singleStep present moves S entries))
+    pub chosen-named : found (singleStep present moves S entries) ≡ true → Chosen present moves S entries (stateOf (singleStep present moves S entries))
     chosen-named t = (names.chosen _).0 (found-state _ t)
 
 pub names-chosen : NamesChosen
@@ -125,16 +125,16 @@ module _ (present moves row : ℕ) (h : moves < 2 ^ 64) where
   mask-stays t =
       let bits = sym (has-and present moves row) ∙ t in
       single-stays present alike moves (hasBit row)
-      (record { below = has-lt 64 moves present h (and_l _ _ bits); moved = and_l _ _ bits; inside = and_r _ _ bits }) (λ i c. omega arith)
+      (record { below = has-lt 64 moves present h (and-l _ _ bits); moved = and-l _ _ bits; inside = and-r _ _ bits }) (λ i c. omega arith)
 
   pub mask-nobody : bit_and moves row ≡ 0 → singleStep present moves (hasBit row) alike ≡ Nobody
   mask-nobody e = single-nobody present alike moves (hasBit row) (partner-nobody moves row h e)
 
   pub mask-lowest : (bit_and moves row ≡ 0 → ⊥) → hasBit (bit_and moves row) present ≡ false → singleStep present moves (hasBit row) alike ≡ State (lowestOf 64 (bit_and moves row))
-  mask-lowest d t = single-away present alike moves (hasBit row) (λ c. clash t (has-and present moves row ∙ and_i c.moved c.inside)) ∙ partner-lowest moves row h d
+  mask-lowest d t = single-away present alike moves (hasBit row) (λ c. clash t (has-and present moves row ∙ and-i c.moved c.inside)) ∙ partner-lowest moves row h d
 
 -- ---- a set that is given by its entries and a bound
 pub single-row : (present moves matched : ℕ) (row : List ℕ) (bound : ℕ) (entries : ℕ → ℕ)
-    → found (singleStep present moves (in_row matched row bound) entries) ≡ someIn 64 (bit_and moves matched) (within row bound)
+    → found (singleStep present moves (inRow matched row bound) entries) ≡ someIn 64 (bit_and moves matched) (within row bound)
 unfolding singleStep
 single-row present moves matched row bound entries = found-row moves matched row bound (staying present entries)

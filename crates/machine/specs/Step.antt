@@ -40,8 +40,8 @@ abbrev pub alike : ℕ → ℕ
 alike a = 0
 
 -- a set given by entries with a bound: the matched states whose entry in the row is at most the bound
-unfoldable pub in_row : ℕ → List ℕ → ℕ → ℕ → Bool
-in_row matched row bound a = and (hasBit matched a) (and (ltb a (length row)) (leb (get_or row a 0) bound))
+unfoldable pub inRow : ℕ → List ℕ → ℕ → ℕ → Bool
+inRow matched row bound a = and (hasBit matched a) (and (ltb a (length row)) (leb (get_or row a 0) bound))
 
 -- there is a partner
 unfoldable pub found : Partner → Bool
@@ -49,6 +49,6 @@ found (State a) = true
 found Nobody = false
 
 -- the partner's number, 0 where there is none
-unfoldable pub state_of : Partner → ℕ
-state_of (State a) = a
-state_of Nobody = 0
+unfoldable pub stateOf : Partner → ℕ
+stateOf (State a) = a
+stateOf Nobody = 0

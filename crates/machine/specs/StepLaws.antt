@@ -30,16 +30,16 @@ module _ (p : Pair) where
   unfolding steps moves
   steps-at S c a t d hd u = someIn-at (nA p) _ (S d) (everyIn-at (nC p) _ _ t d hd u)
 
-  pub steps_of : (S : ℕ → ℕ → Bool) (c a : ℕ) → Steps S c a → steps p S c a ≡ true
+  pub steps-of : (S : ℕ → ℕ → Bool) (c a : ℕ) → Steps S c a → steps p S c a ≡ true
   unfolding steps moves
-  steps_of S c a h =
+  steps-of S c a h =
       everyIn-of (nC p) _ _ (λ d hd u. let q = h d hd u in someIn-of (nA p) _ (S d) q.0 q.1 q.2 q.3)
 
   -- a larger set is stepped into by whatever steps into a smaller one
   pub steps-mono : (S R : ℕ → ℕ → Bool) → ((d b : ℕ) → d < nC p → b < nA p → S d b ≡ true → R d b ≡ true)
       → (c a : ℕ) → steps p S c a ≡ true → steps p R c a ≡ true
   steps-mono S R h c a t =
-      steps_of R c a (λ d hd u. let q = steps-at S c a t d hd u in (q.0, q.1, q.2, h d q.0 hd q.1 q.3))
+      steps-of R c a (λ d hd u. let q = steps-at S c a t d hd u in (q.0, q.1, q.2, h d q.0 hd q.1 q.3))
 
   pub steps-cong : (S R : ℕ → ℕ → Bool) → ((d b : ℕ) → d < nC p → b < nA p → S d b ≡ R d b) → (c a : ℕ) → steps p S c a ≡ steps p R c a
   steps-cong S R h c a =

@@ -3,7 +3,7 @@ use Rattle.std.specs.Prelude.{Bool, true, false, cond, List, ◌≡◌, ℕ, ◌
 use Rattle.mask.specs.Logic.{not, and}
 use Rattle.mask.specs.Bounded.{first, someIn}
 use Rattle.machine.specs.declared.Pair.{Pair}
-use Rattle.machine.specs.Refusals.{Result, answer, refused, and_then, bufferValidity}
+use Rattle.machine.specs.Refusals.{Result, answer, refused, andThen, bufferValidity}
 use Rattle.machine.specs.Machines.{starts, nC, nA}
 use Rattle.machine.specs.WellFormed.{hasEmptySet, pairValidity}
 use Rattle.machine.specs.Table.{tableRoom, covers, coveredCount}
@@ -15,8 +15,8 @@ pub data Verdict : Type 0 where
   notCarried : ℕ → ℕ → Verdict
 
 -- "101 no table", of a file
-abbrev pub no_table : ℕ
-no_table = 101
+abbrev pub no-table : ℕ
+no-table = 101
 
 -- "100 Carried, .. 200 + c NotCarried"
 unfoldable pub verdictNumber : Verdict → ℕ
@@ -42,11 +42,11 @@ startVerdict p T = cond (ltb (lackingStart p T) (nC p)) (notCarried (lackingStar
 
 -- 5, 9 to 12, and the answer
 unfoldable pub linesVerdict : Pair → List ℕ → Result Verdict
-linesVerdict p T = and_then (pairValidity p) (and_then (linesValidity p T) (answer (startVerdict p T)))
+linesVerdict p T = andThen (pairValidity p) (andThen (linesValidity p T) (answer (startVerdict p T)))
 
 -- the check's whole answer, of a lent table: 1 before all else
 unfoldable pub checkVerdict : Pair → List ℕ → Result Verdict
-checkVerdict p T = and_then (bufferValidity tableRoom (length T)) (linesVerdict p T)
+checkVerdict p T = andThen (bufferValidity tableRoom (length T)) (linesVerdict p T)
 
 -- Document 02, No. 7: "the check's answer .. tells whether a rig set is empty", beside Carried and beside NotCarried; beside a refusal it is false
 unfoldable pub emptySetTold : Pair → Result Verdict → Bool

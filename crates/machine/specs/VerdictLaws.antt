@@ -5,7 +5,7 @@ use Rattle.std.proofs.Math.Path.{◌≡◌}
 use Rattle.std.proofs.Common.{◌∙◌, arith}
 use borrow.Author.Tests.{lt-ltb, le-ltb, ltb-false}
 use Rattle.mask.specs.Logic.{and, not}
-use Rattle.mask.specs.LogicLaws.{dec, clash, cond_cases, and_i, and-false-l, and_false_r, not-i, not_f}
+use Rattle.mask.specs.LogicLaws.{dec, clash, cond-cases, and-i, and-false-l, and-false-r, not-i, not-f}
 use Rattle.mask.specs.BoundedLaws.{first-is, first-none, first-before}
 use Rattle.machine.specs.declared.Pair.{Pair}
 use Rattle.machine.specs.declared.Refusal.{Refusal}
@@ -74,11 +74,11 @@ module _ (p : Pair) (T : List ℕ) where
 
   pub lacks-covered : (c : ℕ) → startCovered p T c ≡ true → lacks c ≡ false
   unfolding lacks
-  lacks-covered c t = and_false_r _ (not_f t)
+  lacks-covered c t = and-false-r _ (not-f t)
 
   pub lacks-is : (c : ℕ) → starts p.concrete c ≡ true → startCovered p T c ≡ false → lacks c ≡ true
   unfolding lacks
-  lacks-is c t u = and_i t (not-i u)
+  lacks-is c t u = and-i t (not-i u)
 
   pub lacking-is : (c : ℕ) → c < nC p → lacks c ≡ true → ((k : ℕ) → k < c → lacks k ≡ false) → lackingStart p T ≡ c
   unfolding lackingStart lacks
@@ -101,7 +101,7 @@ module _ (p : Pair) (T : List ℕ) where
   -- below the lowest state that lacks one, each start state has a partner
   pub before-lacking : (c : ℕ) → c < lackingStart p T → starts p.concrete c ≡ true → startCovered p T c ≡ true
   unfolding lackingStart
-  before-lacking c h s = ⊎_elim (λ t. t) (λ t. absurd (clash (first-before (nC p) _ c h) (and_i s (not-i t)))) (dec (startCovered p T c))
+  before-lacking c h s = ⊎_elim (λ t. t) (λ t. absurd (clash (first-before (nC p) _ c h) (and-i s (not-i t)))) (dec (startCovered p T c))
 
   -- Carried is said only where nothing is refused and each start state has a partner
   pub record IsCarried : Type 0 where
@@ -111,7 +111,7 @@ module _ (p : Pair) (T : List ℕ) where
 
   carried-starts : (n : ℕ) → startVerdict p T ≡ carried n → HasStarts p T
   unfolding startVerdict
-  carried-starts n = cond_cases (ltb (lackingStart p T) (nC p))
+  carried-starts n = cond-cases (ltb (lackingStart p T) (nC p))
       (λ v. v ≡ carried n → HasStarts p T) _ _
       (λ u e. let z : ◌≡◌ {A = ℕ} 0 1 = cc in absurd (omega arith))
       (λ u e c h. before-lacking c (omega (arith, ltb-false (lackingStart p T) (nC p) u)))

@@ -5,7 +5,7 @@ use Rattle.mask.specs.Logic.{not, and, or}
 use Rattle.mask.specs.Bounded.{some, first, someIn}
 use Rattle.machine.specs.declared.Machine.{Machine}
 use Rattle.machine.specs.declared.Pair.{Pair}
-use Rattle.machine.specs.Refusals.{Tested, valid, answer, refused, refusal, and_then, bad-counts, beyond-counts, no_start, no-successor, empty-set}
+use Rattle.machine.specs.Refusals.{Tested, valid, answer, refused, refusal, andThen, bad-counts, beyond-counts, no-start, no-successor, empty-set}
 
 -- 5: "1 to 64" states; "1 to 8 fairness sets for a rig, 1 to 7 for a score"
 unfoldable pub countsOk : ℕ → ℕ → ℕ → Bool
@@ -47,7 +47,7 @@ unfoldable pub contentValidity : ℕ → Machine → Tested
 contentValidity i m =
     let s = stuckState m.states m.successors in
     cond (beyondCounts m) (refused (refusal beyond-counts i 0 0))
-    (cond (eqb m.start 0) (refused (refusal no_start i 0 0))
+    (cond (eqb m.start 0) (refused (refusal no-start i 0 0))
     (cond (ltb s 64) (refused (refusal no-successor i s 0)) valid))
 
 -- a machine has an empty set
@@ -60,7 +60,7 @@ setsValidity i m = cond (hasEmptySet m) (refused (refusal empty-set i (suc (empt
 
 -- all that is tested of the content of machine number i: 9, 10 and 11, and 21 "after 11 of the same machine" where its sets shall be nonempty
 unfoldable pub contentTests : Bool → ℕ → Machine → Tested
-contentTests true i m = and_then (contentValidity i m) (setsValidity i m)
+contentTests true i m = andThen (contentValidity i m) (setsValidity i m)
 contentTests false i m = contentValidity i m
 
 -- one machine with at most `limit` sets: "A later call on one machine takes 1 to 8 sets unless its kind is said, and has it as machine 0"
@@ -72,7 +72,7 @@ unfoldable pub pairTests : Bool → Pair → Tested
 pairTests nonempty p =
     let C = p.concrete in
     let A = p.abstraction in
-    cond (and (countsOk 8 C.states C.sets) (countsOk 7 A.states A.sets)) (and_then (contentTests nonempty 0 C) (contentTests nonempty 1 A))
+    cond (and (countsOk 8 C.states C.sets) (countsOk 7 A.states A.sets)) (andThen (contentTests nonempty 0 C) (contentTests nonempty 1 A))
     (refused (refusal bad-counts 0 0 0))
 
 -- 5 and 9 to 11: "For 9 to 11 the rig goes through all three before the score."

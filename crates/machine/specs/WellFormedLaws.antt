@@ -6,14 +6,14 @@ use Rattle.std.proofs.Common.{sym, ◌∙◌, le_trans, mul-le-mul_right, mul-le
 use Rattle.std.proofs.Math.Decide.{dec_le}
 use borrow.Author.Tests.{eqb-true, eqb-false, leb-true, le-leb, lt-ltb, le-ltb}
 use Rattle.mask.specs.Logic.{and}
-use Rattle.mask.specs.LogicLaws.{clash, refute, and_l, and_r, and_i, and-false-l, and_false_r, or-none, not-false}
+use Rattle.mask.specs.LogicLaws.{clash, refute, and-l, and-r, and-i, and-false-l, and-false-r, or-none, not-false}
 use Rattle.mask.specs.Bits.{hasBit}
 use Rattle.mask.specs.BitsLaws.{has-small}
 use Rattle.mask.specs.BoundedLaws.{none-at, someIn-of, someIn-at}
 use Rattle.machine.specs.declared.Machine.{Machine}
 use Rattle.machine.specs.declared.Pair.{Pair}
 use Rattle.machine.specs.declared.Refusal.{Refusal}
-use Rattle.machine.specs.Refusals.{Tested, valid, answer, refused, refusal, bad-counts, beyond-counts, no_start, no-successor, and_then}
+use Rattle.machine.specs.Refusals.{Tested, valid, answer, refused, refusal, bad-counts, beyond-counts, no-start, no-successor, andThen}
 use Rattle.machine.specs.RefusalsLaws.{valid-next, valid-if, then-answer, then-of, then-refused, RefusesOnly, refuses-none, refuses-at, refuses-cond, refuses-then}
 use Rattle.machine.specs.Machines.{observation, successors, moves, starts, fairSet, inFairSet, nC, nA, setsC, setsA, pairs}
 use Rattle.machine.specs.Table.{tableRoom}
@@ -38,12 +38,12 @@ module _ (nonempty : Bool) (p : Pair) where
 
   pub bad-abstract-counts : countsOk 7 p.abstraction.states p.abstraction.sets ≡ false → pairTests nonempty p ≡ refused (refusal bad-counts 0 0 0)
   unfolding pairTests
-  bad-abstract-counts h = rw (and_false_r _ h)
+  bad-abstract-counts h = rw (and-false-r _ h)
 
   module _ (c : countsOk 8 p.concrete.states p.concrete.sets ≡ true) (a : countsOk 7 p.abstraction.states p.abstraction.sets ≡ true) where
-    contents : pairTests nonempty p ≡ and_then (contentTests nonempty 0 p.concrete) (contentTests nonempty 1 p.abstraction)
+    contents : pairTests nonempty p ≡ andThen (contentTests nonempty 0 p.concrete) (contentTests nonempty 1 p.abstraction)
     unfolding pairTests
-    contents = rw (and_i c a)
+    contents = rw (and-i c a)
 
     pub bad-concrete : (r : Refusal) → contentTests nonempty 0 p.concrete ≡ refused r → pairTests nonempty p ≡ refused r
     bad-concrete r e = contents ∙ then-refused _ _ r e
@@ -57,7 +57,7 @@ module _ (i : ℕ) (m : Machine) where
   unfolding contentTests
   content-only = refl
 
-  pub content-then-sets : contentTests true i m ≡ and_then (contentValidity i m) (setsValidity i m)
+  pub content-then-sets : contentTests true i m ≡ andThen (contentValidity i m) (setsValidity i m)
   unfolding contentTests
   content-then-sets = refl
 
@@ -73,7 +73,7 @@ unfolding pairTests
 tests-passed nonempty p e =
     let a = valid-if _ _ _ e in
     let b = then-answer (contentTests nonempty 0 p.concrete) (contentTests nonempty 1 p.abstraction) a.1 in
-    record { concrete-counts = and_l _ _ a.0; abstract-counts = and_r _ _ a.0; concrete = b.0; abstraction = b.1 }
+    record { concrete-counts = and-l _ _ a.0; abstract-counts = and-r _ _ a.0; concrete = b.0; abstraction = b.1 }
 
 pub passed-tests : (nonempty : Bool) (p : Pair) → PairPasses nonempty p → pairTests nonempty p ≡ valid
 passed-tests nonempty p h = good-concrete nonempty p h.concrete-counts h.abstract-counts h.concrete ∙ h.abstraction
@@ -106,13 +106,13 @@ pub record WellMachine (limit : ℕ) (m : Machine) : Type 0 where
 pub counts-at : (limit states sets : ℕ) → countsOk limit states sets ≡ true → (0 < states) × (states ≤ 64) × (0 < sets) × (sets ≤ limit)
 unfolding countsOk
 counts-at limit states sets t =
-    let a = and_l (and (leb 1 states) (leb states 64)) _ t in
-    let b = and_r (and (leb 1 states) (leb states 64)) _ t in
-    (leb-true 1 states (and_l _ _ a), leb-true states 64 (and_r _ _ a), leb-true 1 sets (and_l _ _ b), leb-true sets limit (and_r _ _ b))
+    let a = and-l (and (leb 1 states) (leb states 64)) _ t in
+    let b = and-r (and (leb 1 states) (leb states 64)) _ t in
+    (leb-true 1 states (and-l _ _ a), leb-true states 64 (and-r _ _ a), leb-true 1 sets (and-l _ _ b), leb-true sets limit (and-r _ _ b))
 
-pub counts_of : (limit states sets : ℕ) → 0 < states → states ≤ 64 → 0 < sets → sets ≤ limit → countsOk limit states sets ≡ true
+pub counts-of : (limit states sets : ℕ) → 0 < states → states ≤ 64 → 0 < sets → sets ≤ limit → countsOk limit states sets ≡ true
 unfolding countsOk
-counts_of limit states sets a b c d = and_i (and_i (le-leb 1 states a) (le-leb states 64 b)) (and_i (le-leb 1 sets c) (le-leb sets limit d))
+counts-of limit states sets a b c d = and-i (and-i (le-leb 1 states a) (le-leb states 64 b)) (and-i (le-leb 1 sets c) (le-leb sets limit d))
 
 module _ (limit i : ℕ) (m : Machine) where
   tests : contentValidity i m ≡ valid → (beyondCounts m ≡ false) × (m.start ≡ 0 → ⊥) × (stuckState m.states m.successors < 64 → ⊥)
@@ -146,13 +146,13 @@ module _ (limit i : ℕ) (m : Machine) where
   unfolding setBeyond fairSet
   set-in k l t = rw (lt-ltb k m.sets l) at t
 
-  set_past : (k : ℕ) → m.sets ≤ k → setBeyond m.states m.sets m.fairness k ≡ false → fairSet m k ≡ 0
+  set-past : (k : ℕ) → m.sets ≤ k → setBeyond m.states m.sets m.fairness k ≡ false → fairSet m k ≡ 0
   unfolding setBeyond fairSet
-  set_past k l t = eqb-true _ 0 (not-false _ (rw (le-ltb k m.sets l) at t))
+  set-past k l t = eqb-true _ 0 (not-false _ (rw (le-ltb k m.sets l) at t))
 
-  not_stuck : (stuckState m.states m.successors < 64 → ⊥) → (s : ℕ) → s < 64 → s < m.states → successors m s ≡ 0 → ⊥
+  not-stuck : (stuckState m.states m.successors < 64 → ⊥) → (s : ℕ) → s < 64 → s < m.states → successors m s ≡ 0 → ⊥
   unfolding successors
-  not_stuck h s q l e = none-is-empty 64 m.states m.successors h s q l e
+  not-stuck h s q l e = none-is-empty 64 m.states m.successors h s q l e
 
   pub well-machine : limit ≤ 8 → countsOk limit m.states m.sets ≡ true → contentValidity i m ≡ valid → WellMachine limit m
   unfolding starts moves inFairSet
@@ -170,9 +170,9 @@ module _ (limit i : ℕ) (m : Machine) where
         set-bits = λ k b l. beyond-none _ _ (set-in k l (q.2 k (omega (arith, n.3)))) b;
         observation-zero = λ s l h. (state-past s l (q.1 s h)).0;
         successors-zero = λ s l h. (state-past s l (q.1 s h)).1;
-        fairness-zero = λ k l h. set_past k l (q.2 k h);
+        fairness-zero = λ k l h. set-past k l (q.2 k h);
         has-start = t.1;
-        has_move = λ s l. not_stuck t.2 s (omega (arith, n.1)) l;
+        has_move = λ s l. not-stuck t.2 s (omega (arith, n.1)) l;
       }
 
 -- ---- one machine by itself
@@ -195,7 +195,7 @@ both-valid p e =
     let q = tests-passed false p e in
     let c = counts-at 7 _ _ q.abstract-counts in (
       taken p.concrete 0 q.concrete-counts (sym (content-only 0 p.concrete) ∙ q.concrete),
-      taken p.abstraction 1 (counts_of 8 _ _ c.0 c.1 c.2 (omega (arith, c.3))) (sym (content-only 1 p.abstraction) ∙ q.abstraction),
+      taken p.abstraction 1 (counts-of 8 _ _ c.0 c.1 c.2 (omega (arith, c.3))) (sym (content-only 1 p.abstraction) ∙ q.abstraction),
     )
 
 -- and what one that is taken gives
@@ -204,8 +204,8 @@ unfolding machineValidity
 valid-machine limit m h e = let t = valid-if _ _ _ e in well-machine limit 0 m h t.0 t.1
 
 -- a mask that a program holds, with no state at or past n, is a number of n bits
-pub bits_small : (n mask : ℕ) → mask < 2 ^ 64 → ((i : ℕ) → i < 64 → hasBit mask i ≡ true → i < n) → mask < 2 ^ n
-bits_small n mask h b = has-small 64 n mask h (λ i l k. refute _ (λ t. absurd (omega (arith, b i k t))))
+pub bits-small : (n mask : ℕ) → mask < 2 ^ 64 → ((i : ℕ) → i < 64 → hasBit mask i ≡ true → i < n) → mask < 2 ^ n
+bits-small n mask h b = has-small 64 n mask h (λ i l k. refute _ (λ t. absurd (omega (arith, b i k t))))
 
 -- ---- a pair
 pub record WellPair (p : Pair) : Type 0 where
@@ -236,17 +236,17 @@ pub mul-bound : (a b m n : ℕ) → a ≤ m → b ≤ n → a * b ≤ m * n
 mul-bound a b m n p q = le_trans (mul-le-mul_right b p) (mul-le-mul_left m q)
 
 -- the bounds of products: P, m × P and n × P
-pub some_pairs : (p : Pair) → WellPair p → 0 < pairs p
-some_pairs p w = mul-pos w.concrete.states-low w.abstraction.states-low
+pub some-pairs : (p : Pair) → WellPair p → 0 < pairs p
+some-pairs p w = mul-pos w.concrete.states-low w.abstraction.states-low
 
-pub pairs_small : (p : Pair) → WellPair p → pairs p ≤ 4096
-pairs_small p w = mul-bound (nC p) (nA p) 64 64 w.concrete.states-high w.abstraction.states-high
+pub pairs-small : (p : Pair) → WellPair p → pairs p ≤ 4096
+pairs-small p w = mul-bound (nC p) (nA p) 64 64 w.concrete.states-high w.abstraction.states-high
 
 pub ranks-small : (p : Pair) → WellPair p → setsC p * pairs p ≤ 32768
-ranks-small p w = mul-bound (setsC p) (pairs p) 8 4096 w.concrete.sets-high (pairs_small p w)
+ranks-small p w = mul-bound (setsC p) (pairs p) 8 4096 w.concrete.sets-high (pairs-small p w)
 
 pub entries-small : (p : Pair) → WellPair p → setsA p * pairs p ≤ tableRoom
-entries-small p w = mul-bound (setsA p) (pairs p) 7 4096 w.abstraction.sets-high (pairs_small p w)
+entries-small p w = mul-bound (setsA p) (pairs p) 7 4096 w.abstraction.sets-high (pairs-small p w)
 
 -- section j lies within a table of 28,672 entries
 pub section-fits : (p : Pair) → WellPair p → (j : ℕ) → j < setsA p → j * pairs p + pairs p ≤ tableRoom
@@ -259,7 +259,7 @@ module _ (F : Refusal → Type 0) (late : (number x y z : ℕ) → 9 ≤ number 
   content-refuses i m =
       let s = stuckState m.states m.successors in
       refuses-cond F (beyondCounts m) _ _ (λ t. refuses-at F _ (late beyond-counts i 0 0 (omega arith) (omega arith)))
-      (λ t. refuses-cond F (eqb m.start 0) _ _ (λ u. refuses-at F _ (late no_start i 0 0 (omega arith) (omega arith)))
+      (λ t. refuses-cond F (eqb m.start 0) _ _ (λ u. refuses-at F _ (late no-start i 0 0 (omega arith) (omega arith)))
       (λ u. refuses-cond F (ltb s 64) _ _ (λ x. refuses-at F _ (late no-successor i s 0 (omega arith) (omega arith))) (λ x. refuses-none F)))
 
   pub pair-refuses : (p : Pair) → (and (countsOk 8 (nC p) (setsC p)) (countsOk 7 (nA p) (setsA p)) ≡ false → F (refusal bad-counts 0 0 0)) → RefusesOnly F (pairValidity p)

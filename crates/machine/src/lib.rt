@@ -1,14 +1,15 @@
 // Machines, pairs of machines, refusals, the single step, and where a table's sections and entries lie. The definitions of well-formedness stand
 // here too; crate `validity` tests it.
 #![tactic(auto)]
+
 ghost use Rattle.std.specs.Prelude.{◌≡◌, ℕ, get_or};
 ghost use Rattle.std.proofs.lemmas.List.Edits.{sets};
 ghost use Rattle.mask.specs.Bits.{hasBit};
 ghost use Rattle.machine.specs.Machines.{sameObservation, next};
 ghost use Rattle.machine.specs.Refusals.{refusal, fourNumbers};
-ghost use Rattle.machine.specs.Step.{partner, singleStep, found, state_of, alike, in_row};
+ghost use Rattle.machine.specs.Step.{partner, singleStep, found, stateOf, alike, inRow};
 ghost use Rattle.machine.specs.Observed.{sameMask, matchedMasks};
-ghost use Rattle.machine.specs.Table.{place_of};
+ghost use Rattle.machine.specs.Table.{place-of};
 
 // A finite machine with fairness sets. Document 01: the rig is the concrete machine, the score the abstract one.
 #[derive(Clone, Copy)]
@@ -193,7 +194,7 @@ pub fn partner_in(present: usize, moves: u64, row: u64) -> Partner
 
 // Of the moves that are matched with c' and whose entry is at most the bound, the one of least entry, the lowest of these.
 fn least_within(moves: u64, matched: u64, row: &[u16], bound: u16) -> Partner
-    ensures { result ≡ partner moves (in_row matched row.now bound) (λ a. get_or row.now a 0) }
+    ensures { result ≡ partner moves (inRow matched row.now bound) (λ a. get_or row.now a 0) }
 {
     let mut m = moves & matched;
     let mut best = Partner::Nobody;
@@ -216,7 +217,7 @@ fn least_within(moves: u64, matched: u64, row: &[u16], bound: u16) -> Partner
 // The single step, in the abstract state `present`, into a set that is given by its entries beside c' and a bound: of the moves that are matched
 // with c' and whose entry is at most the bound, those of least entry; of these the present state if it is among them, else the lowest.
 pub fn partner_within(present: usize, moves: u64, matched: u64, row: &[u16], bound: u16) -> Partner
-    ensures { result ≡ singleStep present moves (in_row matched row.now bound) (λ a. get_or row.now a 0) }
+    ensures { result ≡ singleStep present moves (inRow matched row.now bound) (λ a. get_or row.now a 0) }
 {
     let found = least_within(moves, matched, row, bound);
     let Partner::State(best) = found else {
@@ -234,7 +235,7 @@ pub fn partner_within(present: usize, moves: u64, matched: u64, row: &[u16], bou
 
 // Whether `partner_within` names a partner, whatever the present state; it stops at the first.
 pub fn has_partner(moves: u64, matched: u64, row: &[u16], bound: u16) -> bool
-    ensures { (present : ℕ) → result ≡ found (singleStep present moves (in_row matched row.now bound) (λ a. get_or row.now a 0)) }
+    ensures { (present : ℕ) → result ≡ found (singleStep present moves (inRow matched row.now bound) (λ a. get_or row.now a 0)) }
 {
     let mut m = moves & matched;
     while m != 0 {
@@ -251,7 +252,7 @@ pub fn has_partner(moves: u64, matched: u64, row: &[u16], bound: u16) -> bool
 
 // The partner's number, 0 where there is none.
 pub fn state_of(found: Partner) -> usize
-    ensures { result ≡ state_of found }
+    ensures { result ≡ stateOf found }
 {
     match found {
         Partner::State(a) => a,
@@ -273,7 +274,7 @@ pub fn next_section(n: usize, j: usize) -> usize
 
 // The place in a table of entry (j, c, a). It takes each number modulo 256, so that any have an answer; counts, sections and states are less.
 pub fn entry_index(nc: usize, na: usize, j: usize, c: usize, a: usize) -> usize
-    ensures { result ≡ place_of nc na j c a }
+    ensures { result ≡ place-of nc na j c a }
 {
     (j % 256 * (nc % 256) + c % 256) * (na % 256) + a % 256
 }

@@ -12,8 +12,8 @@ unfoldable pub lowestOf : ℕ → ℕ → ℕ
 lowestOf w m = count_trailing_zeros w m
 
 -- the mask without its lowest state
-unfoldable pub rest_of : ℕ → ℕ
-rest_of m = bit_and m (m - 1)
+unfoldable pub restOf : ℕ → ℕ
+restOf m = bit_and m (m - 1)
 
 -- the mask of all states below w
 unfoldable pub fullMask : ℕ → ℕ

@@ -8,8 +8,8 @@ use Rattle.std.specs.Int.Bits.{bit_and, bit_or, and_step, and_self, or_step}
 use Rattle.std.proofs.lemmas.Nat.{and_le_r, trailing_le}
 use Rattle.std.specs.Int.Count.{count_trailing_zeros, under}
 use Rattle.mask.specs.Logic.{not, and, or}
-use Rattle.mask.specs.LogicLaws.{clash, and_true_r, not-i}
-use Rattle.mask.specs.Bits.{hasBit, lowestOf, rest_of, withBit, fullMask}
+use Rattle.mask.specs.LogicLaws.{clash, and-true-r, not-i}
+use Rattle.mask.specs.Bits.{hasBit, lowestOf, restOf, withBit, fullMask}
 
 pub has-zero : (m : ℕ) → hasBit m 0 ≡ eqb (m % 2) 1
 unfolding hasBit
@@ -68,14 +68,14 @@ mask-ext (suc w) a b ha hb h =
     mask-ext w (a / 2) (b / 2) (half-small w a ha) (half-small w b hb) (λ i l. sym (has-suc a i) ∙ h (suc i) (omega arith) ∙ has-suc b i) in
     omega (arith, odd-eq a b (h 0 (omega arith)))
 
-width_of : (n : ℕ) → n < 2 ^ n
-width_of zero = omega arith
-width_of (suc n) = rw pow-suc (omega (arith, width_of n))
+width-of : (n : ℕ) → n < 2 ^ n
+width-of zero = omega arith
+width-of (suc n) = rw pow-suc (omega (arith, width-of n))
 
 -- and numbers of any width by all their bits
 pub bits-ext : (a b : ℕ) → ((i : ℕ) → hasBit a i ≡ hasBit b i) → a ≡ b
 bits-ext a b h =
-    mask-ext (a + b) a b (omega (arith, width_of a, pow_mono {i = a} {j = a + b} (omega arith))) (omega (arith, width_of b, pow_mono {i = b} {j = a + b} (omega arith)))
+    mask-ext (a + b) a b (omega (arith, width-of a, pow_mono {i = a} {j = a + b} (omega arith))) (omega (arith, width-of b, pow_mono {i = b} {j = a + b} (omega arith)))
     (λ i l. h i)
 
 -- a mask whose states all lie below w is a number of w bits
@@ -104,9 +104,9 @@ unfolding lowestOf count_trailing_zeros
 lowest-odd w m e = ap (λ (d : ℕ). under d (count_trailing_zeros w (m / 2))) e
 
 -- the lowest state is in the mask
-pub lowest_set : (w m : ℕ) → 0 < m → m < 2 ^ w → hasBit m (lowestOf w m) ≡ true
-lowest_set zero m p h = absurd (omega arith)
-lowest_set (suc w) m p h = go (λ q. lowest_set w (m / 2) q (half-small w m h)) (parity m)
+pub lowest-set : (w m : ℕ) → 0 < m → m < 2 ^ w → hasBit m (lowestOf w m) ≡ true
+lowest-set zero m p h = absurd (omega arith)
+lowest-set (suc w) m p h = go (λ q. lowest-set w (m / 2) q (half-small w m h)) (parity m)
   where
     go : (0 < m / 2 → hasBit (m / 2) (lowestOf w (m / 2)) ≡ true) → (m % 2 ≡ 0) ⊎ (m % 2 ≡ 1) → hasBit m (lowestOf (suc w) m) ≡ true
     go ih (inl e) = rw (lowest-even w m e, has-suc) (ih (omega arith))
@@ -132,13 +132,13 @@ unfolding lowestOf
 lowest-le w m = trailing_le w m
 
 pub lowest-lt : (w m : ℕ) → 0 < m → m < 2 ^ w → lowestOf w m < w
-lowest-lt w m p h = has-lt w m (lowestOf w m) h (lowest_set w m p h)
+lowest-lt w m p h = has-lt w m (lowestOf w m) h (lowest-set w m p h)
 
 -- the width at which a mask is read makes no difference
 pub lowest-width : (v w m : ℕ) → 0 < m → m < 2 ^ v → m < 2 ^ w → lowestOf v m ≡ lowestOf w m
 lowest-width v w m p h k =
-    ⊎_elim (λ l. absurd (clash (lowest-least w m (lowestOf v m) l) (lowest_set v m p h)))
-    (λ l. ⊎_elim (λ q. absurd (clash (lowest-least v m (lowestOf w m) q) (lowest_set w m p k))) (λ q. omega arith) (either (lowestOf w m) (lowestOf v m)))
+    ⊎_elim (λ l. absurd (clash (lowest-least w m (lowestOf v m) l) (lowest-set v m p h)))
+    (λ l. ⊎_elim (λ q. absurd (clash (lowest-least v m (lowestOf w m) q) (lowest-set w m p k))) (λ q. omega arith) (either (lowestOf w m) (lowestOf v m)))
     (either (lowestOf v m) (lowestOf w m))
   where
     either : (a b : ℕ) → (a < b) ⊎ (b ≤ a)
@@ -149,14 +149,14 @@ lowest-width v w m p h k =
         go (no l) = inr (omega arith)
 
 -- ---- the mask without its lowest state
-rest-even : (m : ℕ) → 0 < m → m % 2 ≡ 0 → rest_of m ≡ rest_of (m / 2) * 2
-unfolding rest_of
+rest-even : (m : ℕ) → 0 < m → m % 2 ≡ 0 → restOf m ≡ restOf (m / 2) * 2
+unfolding restOf
 rest-even m p e =
     let a : (m - 1) / 2 ≡ m / 2 - 1 = omega arith in
     rw (and_step m (m - 1), a, e, zero-min) (omega arith)
 
-rest-odd : (m : ℕ) → m % 2 ≡ 1 → rest_of m ≡ m / 2 * 2
-unfolding rest_of
+rest-odd : (m : ℕ) → m % 2 ≡ 1 → restOf m ≡ m / 2 * 2
+unfolding restOf
 rest-odd m e =
     let a : (m - 1) / 2 ≡ m / 2 = omega arith in
     let b : (m - 1) % 2 ≡ 0 = omega arith in
@@ -172,24 +172,24 @@ has-double-suc : (n i : ℕ) → hasBit (n * 2) (suc i) ≡ hasBit n i
 has-double-suc n i = rw (has-suc, double-half)
 
 -- the rest has exactly the other states
-pub has_rest : (w m i : ℕ) → 0 < m → m < 2 ^ w → hasBit (rest_of m) i ≡ and (hasBit m i) (not (eqb i (lowestOf w m)))
+pub has-rest : (w m i : ℕ) → 0 < m → m < 2 ^ w → hasBit (restOf m) i ≡ and (hasBit m i) (not (eqb i (lowestOf w m)))
 unfolding and not
-has_rest zero m i p h = absurd (omega arith)
-has_rest (suc w) m zero p h = go (parity m)
+has-rest zero m i p h = absurd (omega arith)
+has-rest (suc w) m zero p h = go (parity m)
   where
-    go : (m % 2 ≡ 0) ⊎ (m % 2 ≡ 1) → hasBit (rest_of m) 0 ≡ and (hasBit m 0) (not (eqb 0 (lowestOf (suc w) m)))
+    go : (m % 2 ≡ 0) ⊎ (m % 2 ≡ 1) → hasBit (restOf m) 0 ≡ and (hasBit m 0) (not (eqb 0 (lowestOf (suc w) m)))
     go (inl e) = rw (rest-even m p e, has-double-zero, has-even m e)
     go (inr e) = rw (rest-odd m e, has-double-zero, lowest-odd w m e, has-odd m e)
-has_rest (suc w) m (suc i) p h = go (λ q. has_rest w (m / 2) i q (half-small w m h)) (parity m)
+has-rest (suc w) m (suc i) p h = go (λ q. has-rest w (m / 2) i q (half-small w m h)) (parity m)
   where
-    go : (0 < m / 2 → hasBit (rest_of (m / 2)) i ≡ and (hasBit (m / 2) i) (not (eqb i (lowestOf w (m / 2))))) → (m % 2 ≡ 0) ⊎ (m % 2 ≡ 1)
-        → hasBit (rest_of m) (suc i) ≡ and (hasBit m (suc i)) (not (eqb (suc i) (lowestOf (suc w) m)))
+    go : (0 < m / 2 → hasBit (restOf (m / 2)) i ≡ and (hasBit (m / 2) i) (not (eqb i (lowestOf w (m / 2))))) → (m % 2 ≡ 0) ⊎ (m % 2 ≡ 1)
+        → hasBit (restOf m) (suc i) ≡ and (hasBit m (suc i)) (not (eqb (suc i) (lowestOf (suc w) m)))
     go ih (inl e) = rw (rest-even m p e, has-double-suc, has-suc, lowest-even w m e, eqb-suc-suc) (ih (omega arith))
-    go ih (inr e) = rw (rest-odd m e, has-double-suc, has-suc, lowest-odd w m e, eqb-suc-zero) (sym (and_true_r (hasBit (m / 2) i) (not-i refl)))
+    go ih (inr e) = rw (rest-odd m e, has-double-suc, has-suc, lowest-odd w m e, eqb-suc-zero) (sym (and-true-r (hasBit (m / 2) i) (not-i refl)))
 
-pub rest_lt : (m : ℕ) → 0 < m → rest_of m < m
-unfolding rest_of
-rest_lt m p = omega (arith, and_le_r m (m - 1))
+pub rest-lt : (m : ℕ) → 0 < m → restOf m < m
+unfolding restOf
+rest-lt m p = omega (arith, and_le_r m (m - 1))
 
 -- ---- joined and common states
 max-bits : (a b : ℕ) → eqb (max (a % 2) (b % 2)) 1 ≡ or (eqb (a % 2) 1) (eqb (b % 2) 1)
@@ -230,8 +230,8 @@ has-or (suc i) a b =
 
 -- ---- one state
 -- the mask of one state, as the code's shift makes it
-pub one_shl : (n : ℕ) → n < 64 → 1 * 2 ^ n % 2 ^ 64 ≡ 2 ^ n
-one_shl n h = shl_exact {a = 1} 1 n 64 (omega arith) (omega arith) ∙ one-mul (2 ^ n)
+pub one-shl : (n : ℕ) → n < 64 → 1 * 2 ^ n % 2 ^ 64 ≡ 2 ^ n
+one-shl n h = shl_exact {a = 1} 1 n 64 (omega arith) (omega arith) ∙ one-mul (2 ^ n)
 
 pub has-power : (s i : ℕ) → hasBit (2 ^ s) i ≡ eqb i s
 has-power zero zero = has-odd 1 refl

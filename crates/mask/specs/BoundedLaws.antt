@@ -5,7 +5,7 @@ use Rattle.std.proofs.Common.{inl, inr, ⊎_elim, sym, ap, ap₂, ◌∙◌, not
 use Rattle.std.proofs.Math.Logic.{by_cases}
 use Rattle.std.proofs.Math.Decide.{dec_lt, ℕ_discrete}
 use Rattle.mask.specs.Logic.{not, and, or}
-use Rattle.mask.specs.LogicLaws.{dec, clash, refute, both, cond_cases, below_suc, and_l, and_r, and_i, and-false-l, or_l, or_r, or-e, not-e, not-i, not-false, not-or, not-not}
+use Rattle.mask.specs.LogicLaws.{dec, clash, refute, both, cond-cases, below-suc, and-l, and-r, and-i, and-false-l, or-l, or-r, or-e, not-e, not-i, not-false, not-or, not-not}
 use Rattle.mask.specs.Bits.{hasBit}
 use Rattle.mask.specs.BitsLaws.{has-lt, has-none}
 use Rattle.mask.specs.Bounded.{every, some, first, sum, count, everyIn, someIn}
@@ -14,37 +14,37 @@ use Rattle.mask.specs.Bounded.{every, some, first, sum, count, everyIn, someIn}
 pub every-at : (n : ℕ) (p : ℕ → Bool) → every n p ≡ true → (i : ℕ) → i < n → p i ≡ true
 unfolding every
 every-at zero p t i h = absurd (not-suc-le-zero h)
-every-at (suc n) p t i h = below_suc n (λ k. p k ≡ true) (every-at n p (and_r _ _ t)) (and_l _ _ t) i h
+every-at (suc n) p t i h = below-suc n (λ k. p k ≡ true) (every-at n p (and-r _ _ t)) (and-l _ _ t) i h
 
-pub every_of : (n : ℕ) (p : ℕ → Bool) → ((i : ℕ) → i < n → p i ≡ true) → every n p ≡ true
+pub every-of : (n : ℕ) (p : ℕ → Bool) → ((i : ℕ) → i < n → p i ≡ true) → every n p ≡ true
 unfolding every
-every_of zero p h = refl
-every_of (suc n) p h = and_i (h n (omega arith)) (every_of n p (λ i l. h i (omega arith)))
+every-of zero p h = refl
+every-of (suc n) p h = and-i (h n (omega arith)) (every-of n p (λ i l. h i (omega arith)))
 
 pub every-not : (n : ℕ) (p : ℕ → Bool) (i : ℕ) → i < n → p i ≡ false → every n p ≡ false
 every-not n p i h e = refute (every n p) (λ t. clash e (every-at n p t i h))
 
 -- ---- some
-pub some_of : (n : ℕ) (p : ℕ → Bool) (i : ℕ) → i < n → p i ≡ true → some n p ≡ true
+pub some-of : (n : ℕ) (p : ℕ → Bool) (i : ℕ) → i < n → p i ≡ true → some n p ≡ true
 unfolding some
-some_of zero p i h t = absurd (not-suc-le-zero h)
-some_of (suc n) p i h t =
-    below_suc n (λ k. p k ≡ true → or (p n) (some n p) ≡ true) (λ k l u. or_r _ (some_of n p k l u)) (λ u. or_l _ u) i h t
+some-of zero p i h t = absurd (not-suc-le-zero h)
+some-of (suc n) p i h t =
+    below-suc n (λ k. p k ≡ true → or (p n) (some n p) ≡ true) (λ k l u. or-r _ (some-of n p k l u)) (λ u. or-l _ u) i h t
 
-pub some_at : (n : ℕ) (p : ℕ → Bool) → some n p ≡ true → (i : ℕ) × (i < n) × (p i ≡ true)
+pub some-at : (n : ℕ) (p : ℕ → Bool) → some n p ≡ true → (i : ℕ) × (i < n) × (p i ≡ true)
 unfolding some
-some_at zero p t = absurd (false≢true t)
-some_at (suc n) p t = ⊎_elim (λ u. (n, omega arith, u)) (λ u. let q = some_at n p u in (q.0, omega (arith, q.1), q.2)) (or-e t)
+some-at zero p t = absurd (false≢true t)
+some-at (suc n) p t = ⊎_elim (λ u. (n, omega arith, u)) (λ u. let q = some-at n p u in (q.0, omega (arith, q.1), q.2)) (or-e t)
 
 pub some-none : (n : ℕ) (p : ℕ → Bool) → ((i : ℕ) → i < n → p i ≡ false) → some n p ≡ false
-some-none n p h = refute (some n p) (λ t. let q = some_at n p t in clash (h q.0 q.1) q.2)
+some-none n p h = refute (some n p) (λ t. let q = some-at n p t in clash (h q.0 q.1) q.2)
 
 pub none-at : (n : ℕ) (p : ℕ → Bool) → some n p ≡ false → (i : ℕ) → i < n → p i ≡ false
-none-at n p t i h = refute (p i) (λ u. clash t (some_of n p i h u))
+none-at n p t i h = refute (p i) (λ u. clash t (some-of n p i h u))
 
 -- a search below n
 pub find : (n : ℕ) (p : ℕ → Bool) → ((i : ℕ) × (i < n) × (p i ≡ true)) ⊎ ((i : ℕ) → i < n → p i ≡ false)
-find n p = ⊎_elim (λ t. inl (some_at n p t)) (λ t. inr (none-at n p t)) (dec (some n p))
+find n p = ⊎_elim (λ t. inl (some-at n p t)) (λ t. inr (none-at n p t)) (dec (some n p))
 
 -- ---- tests that agree below the bound
 pub every-cong : (n : ℕ) (p q : ℕ → Bool) → ((i : ℕ) → i < n → p i ≡ q i) → every n p ≡ every n q
@@ -57,10 +57,10 @@ unfolding some
 some-cong zero p q h = refl
 some-cong (suc n) p q h = ap₂ or (h n (omega arith)) (some-cong n p q (λ i k. h i (omega arith)))
 
-pub every_some : (n : ℕ) (p : ℕ → Bool) → every n p ≡ not (some n (λ i. not (p i)))
+pub every-some : (n : ℕ) (p : ℕ → Bool) → every n p ≡ not (some n (λ i. not (p i)))
 unfolding every some not
-every_some zero p = refl
-every_some (suc n) p = rw (every_some n p, not-or (not (p n)) (some n (λ i. not (p i))), not-not (p n))
+every-some zero p = refl
+every-some (suc n) p = rw (every-some n p, not-or (not (p n)) (some n (λ i. not (p i))), not-not (p n))
 
 -- ---- the first
 pub first-is : (n : ℕ) (p : ℕ → Bool) (i : ℕ) → i < n → p i ≡ true → ((k : ℕ) → k < i → p k ≡ false) → first n p ≡ i
@@ -79,14 +79,14 @@ pub first-le : (n : ℕ) (p : ℕ → Bool) → first n p ≤ n
 unfolding first
 first-le zero p = omega arith
 first-le (suc n) p =
-    cond_cases (p 0) (λ x. x ≤ suc n) 0 (suc (first n (λ i. p (suc i)))) (λ t. omega arith) (λ t. omega (arith, first-le n (λ i. p (suc i))))
+    cond-cases (p 0) (λ x. x ≤ suc n) 0 (suc (first n (λ i. p (suc i)))) (λ t. omega arith) (λ t. omega (arith, first-le n (λ i. p (suc i))))
 
 -- where the first lies below the bound, it passes
 pub first-has : (n : ℕ) (p : ℕ → Bool) → first n p < n → p (first n p) ≡ true
 unfolding first
 first-has zero p h = absurd (omega arith)
 first-has (suc n) p h =
-    cond_cases (p 0) (λ x. x < suc n → p x ≡ true) 0 (suc (first n (λ i. p (suc i))))
+    cond-cases (p 0) (λ x. x < suc n → p x ≡ true) 0 (suc (first n (λ i. p (suc i))))
     (λ t l. t) (λ t l. first-has n (λ i. p (suc i)) (omega arith)) h
 
 -- and nothing before it does
@@ -94,28 +94,28 @@ pub first-before : (n : ℕ) (p : ℕ → Bool) (i : ℕ) → i < first n p → 
 unfolding first
 first-before zero p i h = absurd (omega arith)
 first-before (suc n) p i h =
-    cond_cases (p 0) (λ x. i < x → p i ≡ false) 0 (suc (first n (λ k. p (suc k))))
+    cond-cases (p 0) (λ x. i < x → p i ≡ false) 0 (suc (first n (λ k. p (suc k))))
     (λ t l. absurd (omega arith)) (λ t. before (first-before n (λ k. p (suc k))) i t) h
   where
     before : ((k : ℕ) → k < first n (λ k. p (suc k)) → p (suc k) ≡ false) → (i : ℕ) → p 0 ≡ false → i < suc (first n (λ k. p (suc k))) → p i ≡ false
     before ih zero t l = t
     before ih (suc i) t l = ih i (omega arith)
 
-pub first_cong : (n : ℕ) (p q : ℕ → Bool) → ((i : ℕ) → i < n → p i ≡ q i) → first n p ≡ first n q
+pub first-cong : (n : ℕ) (p q : ℕ → Bool) → ((i : ℕ) → i < n → p i ≡ q i) → first n p ≡ first n q
 unfolding first
-first_cong zero p q h = refl
-first_cong (suc n) p q h =
-    ap₂ (λ (b : Bool) (k : ℕ). cond b 0 (suc k)) (h 0 (omega arith)) (first_cong n (λ i. p (suc i)) (λ i. q (suc i)) (λ i l. h (suc i) (omega arith)))
+first-cong zero p q h = refl
+first-cong (suc n) p q h =
+    ap₂ (λ (b : Bool) (k : ℕ). cond b 0 (suc k)) (h 0 (omega arith)) (first-cong n (λ i. p (suc i)) (λ i. q (suc i)) (λ i l. h (suc i) (omega arith)))
 
 -- where not every number passes there is a first that does not
 pub first-failing : (n : ℕ) (p : ℕ → Bool) → every n p ≡ false → (i : ℕ) × (i < n) × (p i ≡ false) × ((k : ℕ) → k < i → p k ≡ true)
-first-failing zero p t = absurd (clash t (every_of 0 p (λ i l. absurd (omega arith))))
+first-failing zero p t = absurd (clash t (every-of 0 p (λ i l. absurd (omega arith))))
 first-failing (suc n) p t = go (first-failing n p) (dec (every n p))
   where
     go : (every n p ≡ false → (i : ℕ) × (i < n) × (p i ≡ false) × ((k : ℕ) → k < i → p k ≡ true)) → (every n p ≡ true) ⊎ (every n p ≡ false)
         → (i : ℕ) × (i < suc n) × (p i ≡ false) × ((k : ℕ) → k < i → p k ≡ true)
     go ih (inl u) =
-        (n, omega arith, refute _ (λ v. clash t (every_of (suc n) p (below_suc n (λ i. p i ≡ true) (every-at n p u) v))), every-at n p u)
+        (n, omega arith, refute _ (λ v. clash t (every-of (suc n) p (below-suc n (λ i. p i ≡ true) (every-at n p u) v))), every-at n p u)
     go ih (inr u) = let q = ih u in (q.0, omega (arith, q.1), q.2, q.3)
 
 -- so nothing that passes comes sooner
@@ -123,11 +123,11 @@ pub first-most : (n : ℕ) (p : ℕ → Bool) (i : ℕ) → p i ≡ true → fir
 first-most n p i t = by_cases (dec_lt i (first n p)) (λ l. absurd (clash (first-before n p i l) t)) (λ l. omega arith)
 
 -- the first that fails lies below the bound exactly if one does
-pub first_some : (n : ℕ) (p : ℕ → Bool) → first n (λ i. not (p i)) < n → every n p ≡ false
-first_some n p h = every-not n p _ h (not-e _ (first-has n (λ i. not (p i)) h))
+pub first-some : (n : ℕ) (p : ℕ → Bool) → first n (λ i. not (p i)) < n → every n p ≡ false
+first-some n p h = every-not n p _ h (not-e _ (first-has n (λ i. not (p i)) h))
 
 pub first-all : (n : ℕ) (p : ℕ → Bool) → n ≤ first n (λ i. not (p i)) → every n p ≡ true
-first-all n p h = every_of n p (λ i l. not-false _ (first-before n (λ i. not (p i)) i (omega arith)))
+first-all n p h = every-of n p (λ i l. not-false _ (first-before n (λ i. not (p i)) i (omega arith)))
 
 -- ---- sums and counts
 pub sum-le : (n : ℕ) (f g : ℕ → ℕ) → ((i : ℕ) → i < n → f i ≤ g i) → sum n f ≤ sum n g
@@ -141,7 +141,7 @@ sum-eq zero f g h e i l = absurd (not-suc-le-zero l)
 sum-eq (suc n) f g h e j l =
     let a : sum n f ≤ sum n g = sum-le n f g (λ i l. h i (omega arith)) in
     let b : f n ≤ g n = h n (omega arith) in
-    below_suc n (λ i. g i ≤ f i) (sum-eq n f g (λ i l. h i (omega arith)) (omega arith)) (omega arith) j l
+    below-suc n (λ i. g i ≤ f i) (sum-eq n f g (λ i l. h i (omega arith)) (omega arith)) (omega arith) j l
 
 pub sum-cong : (n : ℕ) (f g : ℕ → ℕ) → ((i : ℕ) → i < n → f i ≡ g i) → sum n f ≡ sum n g
 unfolding sum
@@ -160,7 +160,7 @@ count-cong n p q h = sum-cong n _ _ (λ i l. ap (λ (b : Bool). cond b 1 0) (h i
 pub count-le : (n : ℕ) (p : ℕ → Bool) → count n p ≤ n
 unfolding count sum
 count-le zero p = omega arith
-count-le (suc n) p = cond_cases (p n) (λ x. sum n (λ i. cond (p i) 1 0) + x ≤ suc n) 1 0 (λ t. omega (arith, count-le n p)) (λ t. omega (arith, count-le n p))
+count-le (suc n) p = cond-cases (p n) (λ x. sum n (λ i. cond (p i) 1 0) + x ≤ suc n) 1 0 (λ t. omega (arith, count-le n p)) (λ t. omega (arith, count-le n p))
 
 pub count-zero : (p : ℕ → Bool) → count 0 p ≡ 0
 unfolding count sum
@@ -184,7 +184,7 @@ count-front (suc n) p = ap (λ (x : ℕ). x + cond (p (suc n)) 1 0) (count-front
 pub count-mono : (n : ℕ) (p q : ℕ → Bool) → ((i : ℕ) → i < n → p i ≡ true → q i ≡ true) → count n p ≤ count n q
 unfolding count
 count-mono n p q h =
-    sum-le n _ _ (λ i l. cond_cases (p i) (λ x. x ≤ cond (q i) 1 0) 1 0 (λ t. rw (h i l t) (omega arith)) (λ t. omega arith))
+    sum-le n _ _ (λ i l. cond-cases (p i) (λ x. x ≤ cond (q i) 1 0) 1 0 (λ t. rw (h i l t) (omega arith)) (λ t. omega arith))
 
 -- one number fewer passes
 pub count-remove : (n : ℕ) (p q : ℕ → Bool) (i : ℕ) → i < n → p i ≡ true → q i ≡ false → ((k : ℕ) → k < n → (k ≡ i → ⊥) → p k ≡ q k)
@@ -202,9 +202,9 @@ count-remove (suc n) p q i h t u same = go (ℕ_discrete i n) (count-remove n p 
         ⊎_elim (λ v. count-hit n p v ∙ ap suc (less ∙ sym (count-hit n q (sym top ∙ v))))
         (λ v. count-miss n p v ∙ less ∙ ap suc (sym (count-miss n q (sym top ∙ v)))) (dec (p n))
 
-pub count_none : (n : ℕ) (p : ℕ → Bool) → ((i : ℕ) → i < n → p i ≡ false) → count n p ≡ 0
-count_none zero p h = count-zero p
-count_none (suc n) p h = count-miss n p (h n (omega arith)) ∙ count_none n p (λ i l. h i (omega arith))
+pub count-none : (n : ℕ) (p : ℕ → Bool) → ((i : ℕ) → i < n → p i ≡ false) → count n p ≡ 0
+count-none zero p h = count-zero p
+count-none (suc n) p h = count-miss n p (h n (omega arith)) ∙ count-none n p (λ i l. h i (omega arith))
 
 -- ---- over the states of a mask
 pub everyIn-at : (w m : ℕ) (p : ℕ → Bool) → everyIn w m p ≡ true → (i : ℕ) → i < w → hasBit m i ≡ true → p i ≡ true
@@ -213,15 +213,15 @@ everyIn-at w m p t i h e = ⊎_elim (λ u. absurd (clash (not-e _ u) e)) (λ u. 
 
 pub everyIn-of : (w m : ℕ) (p : ℕ → Bool) → ((i : ℕ) → i < w → hasBit m i ≡ true → p i ≡ true) → everyIn w m p ≡ true
 unfolding everyIn
-everyIn-of w m p h = every_of w _ (λ i l. ⊎_elim (λ u. or_r _ (h i l u)) (λ u. or_l _ (not-i u)) (dec (hasBit m i)))
+everyIn-of w m p h = every-of w _ (λ i l. ⊎_elim (λ u. or-r _ (h i l u)) (λ u. or-l _ (not-i u)) (dec (hasBit m i)))
 
 pub someIn-at : (w m : ℕ) (p : ℕ → Bool) → someIn w m p ≡ true → (i : ℕ) × (i < w) × (hasBit m i ≡ true) × (p i ≡ true)
 unfolding someIn
-someIn-at w m p t = let q = some_at w _ t in (q.0, q.1, and_l _ _ q.2, and_r _ _ q.2)
+someIn-at w m p t = let q = some-at w _ t in (q.0, q.1, and-l _ _ q.2, and-r _ _ q.2)
 
 pub someIn-of : (w m : ℕ) (p : ℕ → Bool) (i : ℕ) → i < w → hasBit m i ≡ true → p i ≡ true → someIn w m p ≡ true
 unfolding someIn
-someIn-of w m p i h e t = some_of w _ i h (and_i e t)
+someIn-of w m p i h e t = some-of w _ i h (and-i e t)
 
 pub someIn-none : (w m : ℕ) (p : ℕ → Bool) → ((i : ℕ) → i < w → hasBit m i ≡ true → p i ≡ false) → someIn w m p ≡ false
 someIn-none w m p h = refute _ (λ t. let r = someIn-at w m p t in clash (h r.0 r.1 r.2) r.3)
@@ -239,7 +239,7 @@ someIn-cong w m p q h = both _ _
 pub everyIn-some : (w m : ℕ) (p : ℕ → Bool) → everyIn w m p ≡ not (someIn w m (λ i. not (p i)))
 unfolding everyIn someIn
 everyIn-some w m p =
-    every_some w (λ i. or (not (hasBit m i)) (p i))
+    every-some w (λ i. or (not (hasBit m i)) (p i))
     ∙ ap not (some-cong w (λ i. not (or (not (hasBit m i)) (p i))) (λ i. and (hasBit m i) (not (p i)))
     (λ i h. not-or (not (hasBit m i)) (p i) ∙ ap (λ (b : Bool). and b (not (p i))) (not-not (hasBit m i))))
 

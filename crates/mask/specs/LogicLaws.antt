@@ -23,50 +23,50 @@ both true b f g = sym (f refl)
 both false true f g = g refl
 both false false f g = refl
 
-pub cond_cases : {X : Type 0} (b : Bool) (P : X → Type 0) (x y : X) → (b ≡ true → P x) → (b ≡ false → P y) → P (cond b x y)
-cond_cases true P x y p q = p refl
-cond_cases false P x y p q = q refl
+pub cond-cases : {X : Type 0} (b : Bool) (P : X → Type 0) (x y : X) → (b ≡ true → P x) → (b ≡ false → P y) → P (cond b x y)
+cond-cases true P x y p q = p refl
+cond-cases false P x y p q = q refl
 
-pub and_l : (a b : Bool) → and a b ≡ true → a ≡ true
+pub and-l : (a b : Bool) → and a b ≡ true → a ≡ true
 unfolding and
-and_l true b h = refl
-and_l false b h = h
+and-l true b h = refl
+and-l false b h = h
 
-pub and_r : (a b : Bool) → and a b ≡ true → b ≡ true
+pub and-r : (a b : Bool) → and a b ≡ true → b ≡ true
 unfolding and
-and_r true b h = h
-and_r false b h = absurd (false≢true h)
+and-r true b h = h
+and-r false b h = absurd (false≢true h)
 
-pub and_i : {a b : Bool} → a ≡ true → b ≡ true → and a b ≡ true
+pub and-i : {a b : Bool} → a ≡ true → b ≡ true → and a b ≡ true
 unfolding and
-and_i p q = rw (p, q)
+and-i p q = rw (p, q)
 
 pub and-false-l : {a : Bool} (b : Bool) → a ≡ false → and a b ≡ false
 unfolding and
 and-false-l b p = rw p
 
-pub and_false_r : (a : Bool) {b : Bool} → b ≡ false → and a b ≡ false
+pub and-false-r : (a : Bool) {b : Bool} → b ≡ false → and a b ≡ false
 unfolding and
-and_false_r true p = p
-and_false_r false p = refl
+and-false-r true p = p
+and-false-r false p = refl
 
 pub and-true-l : {a : Bool} (b : Bool) → a ≡ true → and a b ≡ b
 unfolding and
 and-true-l b p = rw p
 
-pub and_true_r : (a : Bool) {b : Bool} → b ≡ true → and a b ≡ a
+pub and-true-r : (a : Bool) {b : Bool} → b ≡ true → and a b ≡ a
 unfolding and
-and_true_r true p = p
-and_true_r false p = refl
+and-true-r true p = p
+and-true-r false p = refl
 
-pub or_l : {a : Bool} (b : Bool) → a ≡ true → or a b ≡ true
+pub or-l : {a : Bool} (b : Bool) → a ≡ true → or a b ≡ true
 unfolding or
-or_l b p = rw p
+or-l b p = rw p
 
-pub or_r : (a : Bool) {b : Bool} → b ≡ true → or a b ≡ true
+pub or-r : (a : Bool) {b : Bool} → b ≡ true → or a b ≡ true
 unfolding or
-or_r true p = refl
-or_r false p = p
+or-r true p = refl
+or-r false p = p
 
 pub or-e : {a b : Bool} → or a b ≡ true → (a ≡ true) ⊎ (b ≡ true)
 unfolding or
@@ -101,9 +101,9 @@ pub not-i : {a : Bool} → a ≡ false → not a ≡ true
 unfolding not
 not-i p = rw p
 
-pub not_f : {a : Bool} → a ≡ true → not a ≡ false
+pub not-f : {a : Bool} → a ≡ true → not a ≡ false
 unfolding not
-not_f p = rw p
+not-f p = rw p
 
 pub not-false : (a : Bool) → not a ≡ false → a ≡ true
 unfolding not
@@ -125,22 +125,22 @@ unfolding not or and
 not-and true b = refl
 not-and false b = refl
 
-pub and_comm : (a b : Bool) → and a b ≡ and b a
+pub and-comm : (a b : Bool) → and a b ≡ and b a
 unfolding and
-and_comm true true = refl
-and_comm true false = refl
-and_comm false true = refl
-and_comm false false = refl
+and-comm true true = refl
+and-comm true false = refl
+and-comm false true = refl
+and-comm false false = refl
 
 -- the library's test, as the code's `!` gives it
-pub not_is : (a : Bool) → not a ≡ B.not a
+pub not-is : (a : Bool) → not a ≡ B.not a
 unfolding not
-not_is true = refl
-not_is false = refl
+not-is true = refl
+not-is false = refl
 
 -- what holds below n and at n holds below n + 1
-pub below_suc : (n : ℕ) (P : ℕ → Type 0) → ((i : ℕ) → i < n → P i) → P n → (i : ℕ) → i < suc n → P i
-below_suc n P h p i l = go (dec_lt i n)
+pub below-suc : (n : ℕ) (P : ℕ → Type 0) → ((i : ℕ) → i < n → P i) → P n → (i : ℕ) → i < suc n → P i
+below-suc n P h p i l = go (dec_lt i n)
   where
     go : Dec (i < n) → P i
     go (yes m) = h i m

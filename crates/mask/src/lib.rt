@@ -1,7 +1,8 @@
 // Masks of 64 bits: bit s of a mask means state s. Every call is total: a bit number of 64 or more is in no mask.
 #![tactic(auto)]
+
 ghost use Rattle.std.specs.Prelude.{◌≡◌, min};
-ghost use Rattle.mask.specs.Bits.{hasBit, lowestOf, rest_of, withBit, fullMask};
+ghost use Rattle.mask.specs.Bits.{hasBit, lowestOf, restOf, withBit, fullMask};
 ghost use Rattle.mask.specs.Bounded.{count};
 
 // Whether state i is in the mask.
@@ -31,7 +32,7 @@ pub fn lowest(m: u64) -> usize
 
 // The mask without its lowest state; the empty mask stays empty.
 pub fn rest(m: u64) -> u64
-    ensures { result ≡ rest_of m }
+    ensures { result ≡ restOf m }
 {
     if m == 0 { 0 } else { m & (m - 1) }
 }

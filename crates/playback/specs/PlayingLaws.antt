@@ -8,10 +8,10 @@ use Rattle.machine.specs.declared.Refusal.{Refusal}
 use Rattle.machine.specs.Refusals.{Result, answer, refused, refusal, passOn, bufferValidity, bufferAfter, short-buffer}
 use Rattle.machine.specs.RefusalsLaws.{then-of, then-refused, then-answer, given-at, buffer-valid, buffer-short, buffer-room, buffer-made, buffer-kept}
 use Rattle.machine.specs.Table.{tableRoom}
-use Rattle.machine.specs.Verdict.{no_table}
+use Rattle.machine.specs.Verdict.{no-table}
 use Rattle.machine.specs.Lassos.{Lasso}
 use Rattle.machine.specs.Player.{Played, played, runRoom, run, allValidity, playerAnswer, playerBuffer}
-use Rattle.codec.specs.Reader.{taken, pair_of, readAnswer}
+use Rattle.codec.specs.Reader.{taken, pairOf, readAnswer}
 use Rattle.codec.specs.Outcomes.{Outcome, says, noTable, tableIn, outcomeBy}
 use Rattle.codec.specs.OutcomesLaws.{outcome-refused, outcome-bare, outcome-taken, outcome-says, outcome-none}
 use Rattle.codec.specs.FileLaws.{was-taken}
@@ -41,9 +41,9 @@ module _ (f : List ℕ) (l : Lasso) (buffer : List ℕ) where
   unfolding fileRunBuffer
   stopped e = (e, buffer-kept _ _ buffer e)
 
-  pub run_short : length buffer < runRoom → (fileRun f l buffer ≡ refused (refusal short-buffer 0 0 0)) × (fileRunBuffer f l buffer ≡ buffer)
+  pub run-short : length buffer < runRoom → (fileRun f l buffer ≡ refused (refusal short-buffer 0 0 0)) × (fileRunBuffer f l buffer ≡ buffer)
   unfolding fileRun
-  run_short h = stopped (then-refused _ _ _ (buffer-short runRoom (length buffer) h))
+  run-short h = stopped (then-refused _ _ _ (buffer-short runRoom (length buffer) h))
 
   module _ (room : runRoom ≤ length buffer) where
     after-room : fileRun f l buffer ≡ outcomeBy call f
@@ -87,26 +87,26 @@ module _ (f : List ℕ) (l : Lasso) (buffer : List ℕ) where
 
   -- a run is the player's, and stands in the buffer as the player leaves it
   pub run-given : {s q : ℕ} → fileRun f l buffer ≡ answer (says (played s q))
-      → RunGiven (pair_of f) (tableIn f) l buffer s q × (fileRunBuffer f l buffer ≡ playerBuffer (pair_of f) (tableIn f) l buffer)
+      → RunGiven (pairOf f) (tableIn f) l buffer s q × (fileRunBuffer f l buffer ≡ playerBuffer (pairOf f) (tableIn f) l buffer)
   run-given {s} {q} e =
       let a = answered e in
       let said = outcome-says call f a.1 in
-      let is-pair : pair_of f ≡ said.0 = (was-taken f (replicate tableRoom 0) said.0 true said.1).pair_is in
+      let is-pair : pairOf f ≡ said.0 = (was-taken f (replicate tableRoom 0) said.0 true said.1).pair_is in
       rw is-pair (given-run-is-right said.0 (tableIn f) l buffer s q said.2, buffer-played a.0 said.1)
 
   -- it fits its buffer
-  pub run_small : {s q : ℕ} → fileRun f l buffer ≡ answer (says (played s q)) → s + q ≤ runRoom
-  run_small e = (run-given e).0.fits
+  pub run-small : {s q : ℕ} → fileRun f l buffer ≡ answer (says (played s q)) → s + q ≤ runRoom
+  run-small e = (run-given e).0.fits
 
   -- its loop is not empty, so that its number is not 0
   pub run-loop : {s q : ℕ} → fileRun f l buffer ≡ answer (says (played s q)) → 0 < q
   run-loop {s} {q} e =
       let fair = (run-given e).0.fair in
-      omega (arith, (play-at _ _ fair).some-loop, length-take q (drop s (playerBuffer (pair_of f) (tableIn f) l buffer)))
+      omega (arith, (play-at _ _ fair).some-loop, length-take q (drop s (playerBuffer (pairOf f) (tableIn f) l buffer)))
 
   -- ---- the buffer's length stays
-  pub run_length : length (fileRunBuffer f l buffer) ≡ length buffer
-  run_length = go (fileRun f l buffer) refl
+  pub run-length : length (fileRunBuffer f l buffer) ≡ length buffer
+  run-length = go (fileRun f l buffer) refl
     where
       go : (v : Result (Outcome Played)) → fileRun f l buffer ≡ v → length (fileRunBuffer f l buffer) ≡ length buffer
       go (answer (says (played s q))) e = let g = run-given e in ap length g.1 ∙ g.0.long
@@ -120,7 +120,7 @@ module _ (f : List ℕ) (l : Lasso) (buffer : List ℕ) where
     unfolding runOutcomeOf toldToC
     told-run is = ap toldToC (sym e ∙ ap runOutcomeOf is)
 
-    pub told-bare : v ≡ NoTable → toldToC (fileRun f l buffer) ≡ refused (refusal no_table 0 0 0)
+    pub told-bare : v ≡ NoTable → toldToC (fileRun f l buffer) ≡ refused (refusal no-table 0 0 0)
     unfolding runOutcomeOf toldToC
     told-bare is = ap toldToC (sym e ∙ ap runOutcomeOf is)
 
@@ -131,4 +131,4 @@ module _ (f : List ℕ) (l : Lasso) (buffer : List ℕ) where
     -- the lengths of a run fit
     pub told-small : {s q : ℕ} → v ≡ Run s q → s + q ≤ runRoom
     unfolding runOutcomeOf
-    told-small is = run_small (sym e ∙ ap runOutcomeOf is)
+    told-small is = run-small (sym e ∙ ap runOutcomeOf is)

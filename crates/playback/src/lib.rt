@@ -20,8 +20,8 @@ pub enum FileRun {
 
 // Plays a lasso of the concrete machine by the table of a file: the abstract run goes to the lent buffer `run`.
 pub fn play_bytes(bytes: &[u8], stem: &[u8], cycle: &[u8], run: &mut [u8]) -> FileRun
-    ensures result_value { runOutcomeOf result ≡ fileRun bytes.now (given stem.now cycle.now) run.old }
-    ensures run_after { run.new ≡ fileRunBuffer bytes.now (given stem.now cycle.now) run.old }
+    ensures answer { runOutcomeOf result ≡ fileRun bytes.now (given stem.now cycle.now) run.old }
+    ensures content { run.new ≡ fileRunBuffer bytes.now (given stem.now cycle.now) run.old }
 {
     if run.len() < player::RUN_ROOM {
         return FileRun::Refused(machine::refuse(machine::SHORT_BUFFER, 0, 0, 0));
@@ -52,8 +52,8 @@ pub fn play_file(
     spot: &mut [u64; 4],
 ) -> u64
     ensures value { result ≡ runNumber (toldToC (fileRun bytes.now (given stem.now cycle.now) run.old)) }
-    ensures run_after { run.new ≡ fileRunBuffer bytes.now (given stem.now cycle.now) run.old }
-    ensures spot_after { spot.new ≡ spotAfter (toldToC (fileRun bytes.now (given stem.now cycle.now) run.old)) spot.old }
+    ensures content { run.new ≡ fileRunBuffer bytes.now (given stem.now cycle.now) run.old }
+    ensures numbers { spot.new ≡ spotAfter (toldToC (fileRun bytes.now (given stem.now cycle.now) run.old)) spot.old }
 {
     match play_bytes(bytes, stem, cycle, run) {
         FileRun::Run(s, q) => s as u64 * 65536 + q as u64,

@@ -18,7 +18,7 @@ use Rattle.machine.specs.VerdictLaws.{lines-said}
 use Rattle.machine.specs.Player.{lassoValidity, startPartner, playValidity, runRoom, allValidity, playerAnswer, playerBuffer}
 use Rattle.machine.specs.PlayerLaws.{play-ill, play-fails, play-unfit, play-alone, play-valid}
 use Rattle.player.specs.declared.Played.TheVariants.{Refused as NotPlayed}
-use Rattle.player.specs.Answers.{playedOf, run_of}
+use Rattle.player.specs.Answers.{playedOf, runOf}
 use Rattle.player.specs.Places.{written}
 
 module _ (p : Pair) (T : List ℕ) where
@@ -38,10 +38,10 @@ module _ (p : Pair) (T : List ℕ) where
 
   module _ (l : Lasso) (buffer : List ℕ) where
     -- ---- where the call is stopped
-    pub stopped_by : (r : Refusal) → allValidity p T l buffer ≡ refused r
+    pub stopped-by : (r : Refusal) → allValidity p T l buffer ≡ refused r
         → (playedOf (NotPlayed r) ≡ playerAnswer p T l buffer) × (buffer ≡ playerBuffer p T l buffer)
     unfolding playedOf playerAnswer playerBuffer
-    stopped_by r e = (sym (then-refused _ _ r e), sym (buffer-kept _ _ _ e))
+    stopped-by r e = (sym (then-refused _ _ r e), sym (buffer-kept _ _ _ e))
 
     pub short-run : length buffer < runRoom → allValidity p T l buffer ≡ refused (refusal short-buffer 0 0 0)
     unfolding allValidity
@@ -74,14 +74,14 @@ module _ (p : Pair) (T : List ℕ) where
           start-stops e = left h.long ∙ play-alone p T l h.pair h.lines tested e
 
           module _ (a : ℕ) (e : startPartner p T (moment l 0) ≡ State a) where
-            all_valid : allValidity p T l buffer ≡ valid
-            all_valid = left h.long ∙ play-valid p T l h.pair h.lines tested a e
+            all-valid : allValidity p T l buffer ≡ valid
+            all-valid = left h.long ∙ play-valid p T l h.pair h.lines tested a e
 
             -- ---- the run
-            pub run-answer : playedOf (run_of p T l) ≡ playerAnswer p T l buffer
-            unfolding playedOf run_of playerAnswer
-            run-answer = sym (then-of _ _ all_valid)
+            pub run-answer : playedOf (runOf p T l) ≡ playerAnswer p T l buffer
+            unfolding playedOf runOf playerAnswer
+            run-answer = sym (then-of _ _ all-valid)
 
             pub run-buffer : written p T l buffer ≡ playerBuffer p T l buffer
             unfolding written playerBuffer
-            run-buffer = sym (buffer-made _ _ _ all_valid)
+            run-buffer = sym (buffer-made _ _ _ all-valid)

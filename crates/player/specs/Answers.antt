@@ -13,5 +13,5 @@ playedOf (Run stem loop) = answer (P.played stem loop)
 playedOf (Refused r) = refused r
 
 -- the run's lengths, as the player says them
-unfoldable pub run_of : Pair → List ℕ → Lasso → Played
-run_of p T l = Run (stemLength p T l) (loopLength p T l)
+unfoldable pub runOf : Pair → List ℕ → Lasso → Played
+runOf p T l = Run (stemLength p T l) (loopLength p T l)

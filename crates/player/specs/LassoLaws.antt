@@ -2,11 +2,11 @@
 use Rattle.std.specs.Prelude.{true, false, List, ◌≡◌, refl, ℕ, suc, ◌-◌, ◌≤◌, ◌<◌, length, get_or}
 use Rattle.std.proofs.Common.{sym, ap, ◌∙◌, arith}
 use Rattle.std.proofs.Math.ListN.{get_or-eq_default}
-use Rattle.mask.specs.LogicLaws.{not-i, not_f}
+use Rattle.mask.specs.LogicLaws.{not-i, not-f}
 use Rattle.mask.specs.Bits.{hasBit}
 use Rattle.mask.specs.BitsLaws.{has-none}
 use Rattle.mask.specs.Bounded.{first}
-use Rattle.mask.specs.BoundedLaws.{some_of, some-none, first_cong}
+use Rattle.mask.specs.BoundedLaws.{some-of, some-none, first-cong}
 use Rattle.machine.specs.declared.Machine.{Machine}
 use Rattle.machine.specs.Machines.{successors, moves, fairSet, inFairSet}
 use Rattle.machine.specs.Lassos.{Lasso, lassoLength, moment}
@@ -36,12 +36,12 @@ missed-is m l k = refl
 
 -- the first set that the loop misses
 pub first-missed : (m : Machine) (l : Lasso) → first m.sets (λ k. noneIn (get_or m.fairness k 0) l.loop) ≡ first m.sets (missedSet m l)
-first-missed m l = first_cong m.sets _ _ (λ k h. missed-is m l k)
+first-missed m l = first-cong m.sets _ _ (λ k h. missed-is m l k)
 
-pub none_of : (members : ℕ) (cycle : List ℕ) → ((i : ℕ) → i < length cycle → hasBit members (get_or cycle i 0) ≡ false) → noneIn members cycle ≡ true
+pub none-of : (members : ℕ) (cycle : List ℕ) → ((i : ℕ) → i < length cycle → hasBit members (get_or cycle i 0) ≡ false) → noneIn members cycle ≡ true
 unfolding noneIn
-none_of members cycle h = not-i (some-none (length cycle) _ h)
+none-of members cycle h = not-i (some-none (length cycle) _ h)
 
 pub none-not : (members : ℕ) (cycle : List ℕ) (i : ℕ) → i < length cycle → hasBit members (get_or cycle i 0) ≡ true → noneIn members cycle ≡ false
 unfolding noneIn
-none-not members cycle i h t = not_f (some_of (length cycle) _ i h t)
+none-not members cycle i h t = not-f (some-of (length cycle) _ i h t)

@@ -9,11 +9,11 @@ use Rattle.std.proofs.Math.Decide.{dec_lt}
 use native.Mathlib.Omega.{arith}
 use Rattle.std.proofs.Math.ListN.{length}
 use borrow.Author.Tests.{eqb-true, eqb-false, eq-eqb, ne_eqb, lt-ltb, le-ltb, ltb-false}
-use Rattle.mask.specs.LogicLaws.{cond_cases}
+use Rattle.mask.specs.LogicLaws.{cond-cases}
 use Rattle.machine.specs.declared.Pair.{Pair}
 use Rattle.machine.specs.Machines.{nC, nA, setsA, successors, next}
 use Rattle.machine.specs.Lassos.{Lasso, lassoLength, moment}
-use Rattle.machine.specs.Step.{singleStep, state_of}
+use Rattle.machine.specs.Step.{singleStep, stateOf}
 use Rattle.machine.specs.Table.{entry}
 use Rattle.machine.specs.Lines.{nonBlank}
 use Rattle.machine.specs.Player.{startPartner, sectionAfter, follow, stepTo, placeAt}
@@ -43,7 +43,7 @@ module _ {l : Lasso} {at : Place} (h : Placed l at) where
 
   pub onward-placed : 0 < length l.loop → Placed l to
   unfolding onward
-  onward-placed some-loop = cond_cases (eqb (suc at.position) (lassoLength l)) (Placed l) _ _
+  onward-placed some-loop = cond-cases (eqb (suc at.position) (lassoLength l)) (Placed l) _ _
       (λ t. record { within = omega arith; stemmed = λ b. absurd (omega arith) })
       (λ t. record {
         within = omega (arith, h.within, eqb-false (suc at.position) (lassoLength l) t);
@@ -52,7 +52,7 @@ module _ {l : Lasso} {at : Place} (h : Placed l at) where
 
   pub onward-moment : momentOf (length l.loop) to ≡ suc (momentOf (length l.loop) at)
   unfolding onward
-  onward-moment = cond_cases (eqb (suc at.position) (lassoLength l)) (λ r. momentOf (length l.loop) r ≡ suc (momentOf (length l.loop) at)) _ _
+  onward-moment = cond-cases (eqb (suc at.position) (lassoLength l)) (λ r. momentOf (length l.loop) r ≡ suc (momentOf (length l.loop) at)) _ _
       (λ t. omega (arith, eqb-true (suc at.position) (lassoLength l) t, suc-mul at.round (length l.loop)))
       (λ t. omega arith)
 
@@ -69,12 +69,12 @@ module _ {l : Lasso} {at : Place} (h : Placed l at) where
 
   pub before-le : at.round ≤ startsBefore (length l.stem) at
   unfolding startsBefore
-  before-le = cond_cases (ltb (length l.stem) at.position) (λ n. at.round ≤ n) (suc at.round) at.round (λ t. omega arith) (λ t. omega arith)
+  before-le = cond-cases (ltb (length l.stem) at.position) (λ n. at.round ≤ n) (suc at.round) at.round (λ t. omega arith) (λ t. omega arith)
 
   -- a place that is no loop start is in the round of the last one before it, if any
   pub before-round : (at.position ≡ length l.stem → ⊥) → (n : ℕ) → 0 < n → startsBefore (length l.stem) at ≤ n → at.round < n
   unfolding startsBefore
-  before-round d n pos = cond_cases (ltb (length l.stem) at.position) (λ x. x ≤ n → at.round < n) (suc at.round) at.round
+  before-round d n pos = cond-cases (ltb (length l.stem) at.position) (λ x. x ≤ n → at.round < n) (suc at.round) at.round
       (λ t b. omega arith) (λ t b. omega (arith, h.stemmed (omega (arith, ltb-false (length l.stem) at.position t))))
 
 -- a step on passes a loop start exactly if it is made from one
@@ -88,13 +88,13 @@ module _ {p : Pair} {T : List ℕ} {l : Lasso} {at to : Place} (s : Stepped p T 
 
   pub start-passed : at.position ≡ start → startsBefore start to ≡ suc at.round
   unfolding startsBefore onward
-  start-passed e = before-is ∙ cond_cases (eqb (suc at.position) (lassoLength l)) (λ r. startsBefore start r ≡ suc at.round) _ _
+  start-passed e = before-is ∙ cond-cases (eqb (suc at.position) (lassoLength l)) (λ r. startsBefore start r ≡ suc at.round) _ _
       (λ t. rw (le-ltb start start (omega arith)))
       (λ t. rw (lt-ltb start (suc at.position) (omega arith)))
 
-  pub none_passed : (at.position ≡ start → ⊥) → startsBefore start to ≡ startsBefore start at
+  pub none-passed : (at.position ≡ start → ⊥) → startsBefore start to ≡ startsBefore start at
   unfolding startsBefore onward
-  none_passed d = before-is ∙ cond_cases (eqb (suc at.position) (lassoLength l)) (λ r. startsBefore start r ≡ startsBefore start at) _ _
+  none-passed d = before-is ∙ cond-cases (eqb (suc at.position) (lassoLength l)) (λ r. startsBefore start r ≡ startsBefore start at) _ _
       (λ t. rw (le-ltb start start (omega arith), lt-ltb start at.position (omega (arith, eqb-true (suc at.position) (lassoLength l) t))))
       (λ t. by_cases (dec_lt start at.position)
       (λ b. rw (lt-ltb start (suc at.position) (omega arith), lt-ltb start at.position b))
@@ -108,7 +108,7 @@ module _ (p : Pair) (T : List ℕ) (l : Lasso) (t : ℕ) where
   rule-section c j a e f g = cc
 
   rule-state : (d j a : ℕ) → moment l (suc t) ≡ d → j ≡ (placeAt p T l (suc t)).section → a ≡ (placeAt p T l t).state
-      → state_of (singleStep a (successors p.abstraction a) (nonBlank p T j d) (entry p T j d)) ≡ (placeAt p T l (suc t)).state
+      → stateOf (singleStep a (successors p.abstraction a) (nonBlank p T j d) (entry p T j d)) ≡ (placeAt p T l (suc t)).state
   unfolding placeAt stepTo follow
   rule-state d j a e f g = cc
 
@@ -125,11 +125,11 @@ module _ {p : Pair} {T : List ℕ} {l : Lasso} (k : Playable p T l) where
     place-section-lt = omega (arith, h.section, (playable-covered k (momentOf (length l.loop) at)).section-bound)
 
     -- a place made by the rule from the states at this position and the next
-    pub steps_on : (to : Place) → let o = onward (length l.stem) (lassoLength l) at in to.position ≡ o.position → to.round ≡ o.round
+    pub steps-on : (to : Place) → let o = onward (length l.stem) (lassoLength l) at in to.position ≡ o.position → to.round ≡ o.round
         → to.j ≡ cond (eqb (entry p T at.j (moment l at.position) at.a) 0) (next (setsA p) at.j) at.j
-        → to.a ≡ state_of (singleStep at.a (successors p.abstraction at.a) (nonBlank p T to.j (moment l to.position)) (entry p T to.j (moment l to.position)))
+        → to.a ≡ stateOf (singleStep at.a (successors p.abstraction at.a) (nonBlank p T to.j (moment l to.position)) (entry p T to.j (moment l to.position)))
         → OnPlay p T l to
-    steps_on to position round section state =
+    steps-on to position round section state =
         let q = length l.loop in
         let t = momentOf q at in
         let ahead = onward-placed h.placed k.good.some-loop in
@@ -148,7 +148,7 @@ module _ {p : Pair} {T : List ℕ} {l : Lasso} (k : Playable p T l) where
         }
 
   -- the rule's start
-  pub start-on : (a : ℕ) → a ≡ state_of (startPartner p T (moment l 0)) → OnPlay p T l (record { position = 0; a = a; j = 0; round = 0 })
+  pub start-on : (a : ℕ) → a ≡ stateOf (startPartner p T (moment l 0)) → OnPlay p T l (record { position = 0; a = a; j = 0; round = 0 })
   unfolding placeAt
   start-on a e =
       let z : 0 + 0 * length l.loop ≡ 0 = omega arith in

@@ -31,8 +31,8 @@ unfoldable pub startsBefore : ℕ → Place → ℕ
 startsBefore start at = cond (ltb start at.position) (suc at.round) at.round
 
 -- the number, below 448, of a state a and a section j, for numbers of any size
-unfoldable pub number_of : ℕ → ℕ → ℕ
-number_of a j = a % 64 * 7 + j % 7
+unfoldable pub numberOf : ℕ → ℕ → ℕ
+numberOf a j = a % 64 * 7 + j % 7
 
 -- a place of a lasso
 pub record Placed (l : Lasso) (at : Place) : Type 0 where
@@ -54,7 +54,7 @@ module _ (p : Pair) (T : List ℕ) (l : Lasso) where
 
   -- the number of a and j at the loop start after x rounds: where it is marked
   unfoldable pub placeNumber : ℕ → ℕ
-  placeNumber x = let at = placeAt p T l (loopStart p T l x) in number_of at.state at.section
+  placeNumber x = let at = placeAt p T l (loopStart p T l x) in numberOf at.state at.section
 
   -- the marks of the first n loop starts: x + 1 where a and j of the one after x rounds are marked, and no other mark
   pub record Marks (n : ℕ) (marks : List ℕ) : Type 0 where

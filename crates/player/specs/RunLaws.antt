@@ -11,13 +11,13 @@ use Rattle.machine.specs.Player.{placeAt, loopStart, lastRound, earlierRound, st
 use Rattle.soundness.specs.PlayerLaws.{Playable, player-run}
 use Rattle.player.specs.declared.Place.{Place}
 use Rattle.player.specs.declared.Played.TheVariants.{Run}
-use Rattle.player.specs.Answers.{run_of}
+use Rattle.player.specs.Answers.{runOf}
 use Rattle.player.specs.Places.{momentOf, Placed, writtenTo, written}
 
 module _ (p : Pair) (T : List ℕ) (l : Lasso) where
-  pub written_none : (buffer : List ℕ) → buffer ≡ writtenTo p T l 0 buffer
+  pub written-none : (buffer : List ℕ) → buffer ≡ writtenTo p T l 0 buffer
   unfolding writtenTo
-  written_none buffer = front-none (λ t. (placeAt p T l t).state) buffer
+  written-none buffer = front-none (λ t. (placeAt p T l t).state) buffer
 
   pub written-more : (t : ℕ) (buffer : List ℕ) → t < length buffer → set (writtenTo p T l t buffer) t (placeAt p T l t).state ≡ writtenTo p T l (t + 1) buffer
   unfolding writtenTo
@@ -28,8 +28,8 @@ module _ (p : Pair) (T : List ℕ) (l : Lasso) where
   unfolding writtenTo written run
   written-whole n buffer e = rw (e, table-length)
 
-  pub run-said : (x y : ℕ) → lastRound p T l ≡ y → earlierRound p T l ≡ x → Run (length l.stem + x * length l.loop) ((y - x) * length l.loop) ≡ run_of p T l
-  unfolding run_of stemLength loopLength
+  pub run-said : (x y : ℕ) → lastRound p T l ≡ y → earlierRound p T l ≡ x → Run (length l.stem + x * length l.loop) ((y - x) * length l.loop) ≡ runOf p T l
+  unfolding runOf stemLength loopLength
   run-said x y last earlier = rw (last, earlier)
 
 -- before the last round there is room

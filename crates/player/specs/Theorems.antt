@@ -35,8 +35,8 @@ module _ (p : Pair) (T : List ℕ) (l : Lasso) (buffer : List ℕ) (tested : all
       let b = then-answer _ _ (then-answer _ _ tested).1 in
       (buffer-room runRoom (length buffer) b.0, b.1)
 
-  run_is : IsRun p T l
-  run_is = player-run p T l (playable p T l tests.1)
+  run-is : IsRun p T l
+  run-is = player-run p T l (playable p T l tests.1)
 
   -- the bytes that the answer tells of are the run
   bytes-are : runIn (stemLength p T l) (loopLength p T l) (playerBuffer p T l buffer)
@@ -45,17 +45,17 @@ module _ (p : Pair) (T : List ℕ) (l : Lasso) (buffer : List ℕ) (tested : all
       let s = stemLength p T l in
       let q = loopLength p T l in
       let rest = drop (length (run p T l)) buffer in
-      rw buffer-is (λ i. record { stem = cut-front s q (run p T l) rest run_is.whole i; loop = cut-back s q (run p T l) rest run_is.whole i })
+      rw buffer-is (λ i. record { stem = cut-front s q (run p T l) rest run-is.whole i; loop = cut-back s q (run p T l) rest run-is.whole i })
 
   given : RunGiven p T l buffer (stemLength p T l) (loopLength p T l)
   given = record {
     asked = good-play p.concrete l (playable p T l tests.1).good;
-    fair = rw bytes-are run_is.fair;
-    agrees = rw bytes-are run_is.agrees;
-    fits = omega (arith, run_is.fits, run_is.whole);
-    long = rw buffer-is (simp (length-append, length-drop) (omega (arith, run_is.fits, tests.0)));
-    past = rw buffer-is (drop_at (run p T l) (drop (length (run p T l)) buffer) (stemLength p T l + loopLength p T l) run_is.whole
-        ∙ ap (λ (n : ℕ). drop n buffer) run_is.whole);
+    fair = rw bytes-are run-is.fair;
+    agrees = rw bytes-are run-is.agrees;
+    fits = omega (arith, run-is.fits, run-is.whole);
+    long = rw buffer-is (simp (length-append, length-drop) (omega (arith, run-is.fits, tests.0)));
+    past = rw buffer-is (drop_at (run p T l) (drop (length (run p T l)) buffer) (stemLength p T l + loopLength p T l) run-is.whole
+        ∙ ap (λ (n : ℕ). drop n buffer) run-is.whole);
   }
 
 pub given-run-is-right : GivenRunIsRight

@@ -6,16 +6,16 @@ ghost use Rattle.std.specs.Prelude.{true, cond, ◌≡◌, ℕ, ◌+◌, ◌<◌
 ghost use Rattle.mask.specs.Bits.{hasBit};
 ghost use Rattle.mask.specs.Bounded.{first};
 ghost use Rattle.machine.specs.Machines.{moves, next, nC, nA, setsA};
-ghost use Rattle.machine.specs.Refusals.{tested_of};
+ghost use Rattle.machine.specs.Refusals.{testedOf};
 ghost use Rattle.machine.specs.Lassos.{moment, given};
-ghost use Rattle.machine.specs.Step.{singleStep, state_of};
+ghost use Rattle.machine.specs.Step.{singleStep, stateOf};
 ghost use Rattle.machine.specs.Table.{entry};
 ghost use Rattle.machine.specs.Lines.{nonBlank};
 ghost use Rattle.machine.specs.Player.{badLength, badStep, lassoValidity, startPartner, runRoom, playerAnswer, playerBuffer};
 ghost use Rattle.soundness.specs.PlayerLaws.{Playable};
-ghost use Rattle.player.specs.Answers.{playedOf, run_of};
+ghost use Rattle.player.specs.Answers.{playedOf, runOf};
 ghost use Rattle.player.specs.Given.{noneIn};
-ghost use Rattle.player.specs.Places.{Tabled, OnPlay, Stepped, onward, number_of, written};
+ghost use Rattle.player.specs.Places.{Tabled, OnPlay, Stepped, onward, numberOf, written};
 
 use linecheck::Checked;
 use machine::{Machine, Pair, Partner, Refusal, Validity};
@@ -123,7 +123,7 @@ fn best_partner(
 ) -> Partner
     requires tabled { Tabled p matched.now table.now }
     requires j_bound { (j < setsA p) × (d < nC p) }
-    requires by_index { (i : ℕ) → i < 64 → hasBit moves i ≡ true → i < nA p }
+    requires appended { (i : ℕ) → i < 64 → hasBit moves i ≡ true → i < nA p }
     ensures { result ≡ singleStep present moves (nonBlank p table.now j d) (entry p table.now j d) }
 {
     let concrete = p.concrete;
@@ -142,7 +142,7 @@ fn best_partner(
 
 // The number, below 448, of a state a and a section j. It takes a modulo 64 and j modulo 7, so that any have an answer; states and sections are less.
 fn number_of(a: usize, j: usize) -> usize
-    ensures { result ≡ number_of a j }
+    ensures { result ≡ numberOf a j }
 {
     a % 64 * 7 + j % 7
 }
@@ -256,7 +256,7 @@ fn first_missed_set(m: Machine, cycle: &[u8]) -> usize
 // Refusals 13 to 15.
 fn lasso_validity(m: Machine, stem: &[u8], cycle: &[u8]) -> Validity
     requires { m.sets ≤ 8 }
-    ensures { tested_of result ≡ lassoValidity m (given stem.now cycle.now) }
+    ensures { testedOf result ≡ lassoValidity m (given stem.now cycle.now) }
 {
     if bad_length(stem, cycle) {
         return Validity::Refused(machine::refuse(machine::BAD_LASSO_LENGTH, 0, 0, 0));
@@ -284,9 +284,9 @@ fn write_run(
 ) -> Played
     requires tabled { Tabled p matched.now table.now }
     requires playable { Playable p table.now (given stem.now cycle.now) }
-    requires first_value { first ≡ state_of (startPartner p table.now (moment (given stem.now cycle.now) 0)) }
+    requires first_value { first ≡ stateOf (startPartner p table.now (moment (given stem.now cycle.now) 0)) }
     requires run_room_in_bounds { runRoom ≤ length run.old }
-    ensures answer { result ≡ run_of p table.now (given stem.now cycle.now) }
+    ensures answer { result ≡ runOf p table.now (given stem.now cycle.now) }
     ensures buffer { run.new ≡ written p table.now (given stem.now cycle.now) run.old }
 {
     let start = stem.len();

@@ -23,8 +23,8 @@ unfoldable pub numbersIn : List ℕ → List ℕ
 numbersIn t = take 65 (numbersFrom false 0 t)
 
 -- a byte of stem or loop: a digit or a blank
-unfoldable pub is_plain : ℕ → Bool
-is_plain b = or (isDigit b) (eqb b 32)
+unfoldable pub isPlain : ℕ → Bool
+isPlain b = or (isDigit b) (eqb b 32)
 
 -- where the first stroke stands; the text's length where there is none
 unfoldable pub strokeAt : List ℕ → ℕ
@@ -32,7 +32,7 @@ strokeAt t = first (length t) (λ i. eqb (get_or t i 0) 47)
 
 -- the text is a stem, a stroke and a loop
 unfoldable pub readable : List ℕ → Bool
-readable t = and (ltb (strokeAt t) (length t)) (every (length t) (λ i. or (eqb i (strokeAt t)) (is_plain (get_or t i 0))))
+readable t = and (ltb (strokeAt t) (length t)) (every (length t) (λ i. or (eqb i (strokeAt t)) (isPlain (get_or t i 0))))
 
 -- the lasso of a readable text
 unfoldable pub lassoIn : List ℕ → Lasso

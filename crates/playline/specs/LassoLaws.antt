@@ -15,15 +15,15 @@ use Rattle.text.specs.DecimalLaws.{decimal-one, decimal-more}
 use Rattle.machine.specs.Lassos.{given}
 use Rattle.mask.specs.Logic.{and, or}
 use Rattle.mask.specs.Bounded.{every}
-use Rattle.mask.specs.LogicLaws.{and_l, and_i, and-false-l, and_false_r, and-true-l, or_l, or_r, or-false-l}
-use Rattle.mask.specs.BoundedLaws.{every_of, every-not, first-is, first-none}
+use Rattle.mask.specs.LogicLaws.{and-l, and-i, and-false-l, and-false-r, and-true-l, or-l, or-r, or-false-l}
+use Rattle.mask.specs.BoundedLaws.{every-of, every-not, first-is, first-none}
 use Rattle.playline.specs.declared.Numbers.{Numbers}
-use Rattle.playline.specs.Lasso.{grown, numbersFrom, numbersIn, is_plain, strokeAt, readable, lassoIn}
+use Rattle.playline.specs.Lasso.{grown, numbersFrom, numbersIn, isPlain, strokeAt, readable, lassoIn}
 
 -- ---- bytes
-pub digit_low : (b : ℕ) → b < 48 → false ≡ isDigit b
+pub digit-low : (b : ℕ) → b < 48 → false ≡ isDigit b
 unfolding isDigit
-digit_low b h = sym (and-false-l _ (lt-leb 48 b h))
+digit-low b h = sym (and-false-l _ (lt-leb 48 b h))
 
 pub digit-high : (b : ℕ) → 48 ≤ b → leb b 57 ≡ isDigit b
 unfolding isDigit
@@ -31,15 +31,15 @@ digit-high b h = sym (and-true-l _ (le-leb 48 b h))
 
 pub digit-least : (b : ℕ) → isDigit b ≡ true → 48 ≤ b
 unfolding isDigit
-digit-least b t = leb-true 48 b (and_l _ _ t)
+digit-least b t = leb-true 48 b (and-l _ _ t)
 
-pub plain-digit : (b : ℕ) → isDigit b ≡ true → true ≡ is_plain b
-unfolding is_plain
-plain-digit b t = sym (or_l _ t)
+pub plain-digit : (b : ℕ) → isDigit b ≡ true → true ≡ isPlain b
+unfolding isPlain
+plain-digit b t = sym (or-l _ t)
 
-pub plain_other : (b : ℕ) → isDigit b ≡ false → eqb b 32 ≡ is_plain b
-unfolding is_plain
-plain_other b t = sym (or-false-l _ t)
+pub plain-other : (b : ℕ) → isDigit b ≡ false → eqb b 32 ≡ isPlain b
+unfolding isPlain
+plain-other b t = sym (or-false-l _ t)
 
 -- ---- numbers, byte by byte
 module _ (inside : Bool) (n b : ℕ) (t : List ℕ) where
@@ -62,8 +62,8 @@ read list = take list.count list.states
 
 -- one more where there is room, and none where there is none
 module _ (k n : ℕ) (states : List ℕ) (long : length states ≡ 65) where
-  pub pushed_room : k < 65 → take (k + 1) (set states k n) ≡ take 65 (take k states ++ (n ∷ []))
-  pushed_room h =
+  pub pushed-room : k < 65 → take (k + 1) (set states k n) ≡ take 65 (take k states ++ (n ∷ []))
+  pushed-room h =
       ap (λ (m : ℕ). take m (set states k n)) (add-one k)
       ∙ take-suc-set states k n (omega arith)
       ∙ sym (take_all 65 (take k states ++ (n ∷ [])) (omega (arith, length-append (take k states) (n ∷ []), length-take k states)))
@@ -87,12 +87,12 @@ pub record Read (text : List ℕ) (list : Numbers) (inside : Bool) (n i : ℕ) :
   pub count : list.count ≤ 65
   pub all : take 65 (read list ++ numbersFrom inside n (drop i text)) ≡ numbersIn text
 
-pub read_as : {text : List ℕ} {list l : Numbers} {inside o : Bool} {n m i : ℕ} → l ≡ list → o ≡ inside → m ≡ n → Read text list inside n i → Read text l o m i
-read_as {text} {i = i} p q e r = subst₃ (λ (l : Numbers) (o : Bool) (m : ℕ). Read text l o m i) (sym p) (sym q) (sym e) r
+pub read-as : {text : List ℕ} {list l : Numbers} {inside o : Bool} {n m i : ℕ} → l ≡ list → o ≡ inside → m ≡ n → Read text list inside n i → Read text l o m i
+read-as {text} {i = i} p q e r = subst₃ (λ (l : Numbers) (o : Bool) (m : ℕ). Read text l o m i) (sym p) (sym q) (sym e) r
 
-pub read_none : (text : List ℕ) (list : Numbers) → list.count ≡ 0 → Read text list false 0 0
+pub read-none : (text : List ℕ) (list : Numbers) → list.count ≡ 0 → Read text list false 0 0
 unfolding numbersIn
-read_none text list e = record { count = omega arith; all = ap (λ (k : ℕ). take 65 (take k list.states ++ numbersFrom false 0 text)) e }
+read-none text list e = record { count = omega arith; all = ap (λ (k : ℕ). take 65 (take k list.states ++ numbersFrom false 0 text)) e }
 
 module _ {text : List ℕ} {list : Numbers} {inside : Bool} {n i : ℕ} (r : Read text list inside n i) where
   -- what is left, by the byte at the place
@@ -127,8 +127,8 @@ module _ {text : List ℕ} {list : Numbers} {inside : Bool} {n i : ℕ} (r : Rea
   pub read-last : (more : List ℕ) → more ≡ take 65 (read list ++ (n ∷ [])) → inside ≡ true → length text ≤ i → more ≡ numbersIn text
   read-last more m e h = m ∙ rw e at (done h)
 
-  pub read_all : inside ≡ false → length text ≤ i → read list ≡ numbersIn text
-  read_all e h =
+  pub read-all : inside ≡ false → length text ≤ i → read list ≡ numbersIn text
+  read-all e h =
       sym (take_all 65 (read list) (omega (arith, r.count, length-take list.count list.states)))
       ∙ ap (take 65) (sym (append-nil (read list)))
       ∙ rw e at (done h)
@@ -146,11 +146,11 @@ module _ (t : List ℕ) where
 -- ---- a readable text
 -- at place i stands the stroke or a plain byte
 abbrev pub fits : List ℕ → ℕ → ℕ → Bool
-fits t stroke i = or (eqb i stroke) (is_plain (get_or t i 0))
+fits t stroke i = or (eqb i stroke) (isPlain (get_or t i 0))
 
 pub readable-stroke : (t : List ℕ) → readable t ≡ true → strokeAt t < length t
 unfolding readable
-readable-stroke t e = ltb-true _ _ (and_l _ _ e)
+readable-stroke t e = ltb-true _ _ (and-l _ _ e)
 
 module _ (t : List ℕ) (stroke : ℕ) (at : stroke ≡ strokeAt t) where
   readable-is : readable t ≡ and (ltb stroke (length t)) (every (length t) (fits t stroke))
@@ -161,10 +161,10 @@ module _ (t : List ℕ) (stroke : ℕ) (at : stroke ≡ strokeAt t) where
   readable-without h = sym (readable-is ∙ and-false-l _ (le-ltb _ _ h))
 
   pub readable-not : (i : ℕ) → i < length t → fits t stroke i ≡ false → false ≡ readable t
-  readable-not i h e = sym (readable-is ∙ and_false_r _ (every-not (length t) (fits t stroke) i h e))
+  readable-not i h e = sym (readable-is ∙ and-false-r _ (every-not (length t) (fits t stroke) i h e))
 
   pub readable-whole : stroke < length t → ((k : ℕ) → k < length t → fits t stroke k ≡ true) → true ≡ readable t
-  readable-whole h f = sym (readable-is ∙ and_i (lt-ltb _ _ h) (every_of (length t) (fits t stroke) f))
+  readable-whole h f = sym (readable-is ∙ and-i (lt-ltb _ _ h) (every-of (length t) (fits t stroke) f))
 
 -- ---- the digits of a state
 -- how the digits of n, at most k of them, come about
@@ -185,19 +185,19 @@ byte-decimal s h = decimal-is 2 s (omega arith) (omega arith)
 -- ---- plain bytes around a stroke
 pub data Plain : List ℕ → Type 0 where
   none : Plain []
-  more : {b : ℕ} {t : List ℕ} → is_plain b ≡ true → Plain t → Plain (b ∷ t)
+  more : {b : ℕ} {t : List ℕ} → isPlain b ≡ true → Plain t → Plain (b ∷ t)
 
 pub plain-append : {a b : List ℕ} → Plain a → Plain b → Plain (a ++ b)
 plain-append none q = q
 plain-append (more p ps) q = more p (plain-append ps q)
 
-plain_at : {l : List ℕ} → Plain l → (i : ℕ) → i < length l → is_plain (get_or l i 0) ≡ true
-plain_at none i h = absurd (omega arith)
-plain_at (more p ps) zero h = p
-plain_at (more p ps) (suc i) h = plain_at ps i (omega arith)
+plain-at : {l : List ℕ} → Plain l → (i : ℕ) → i < length l → isPlain (get_or l i 0) ≡ true
+plain-at none i h = absurd (omega arith)
+plain-at (more p ps) zero h = p
+plain-at (more p ps) (suc i) h = plain-at ps i (omega arith)
 
-stroke-not-plain : (b : ℕ) → is_plain b ≡ true → b ≡ 47 → ⊥
-unfolding is_plain isDigit and or
+stroke-not-plain : (b : ℕ) → isPlain b ≡ true → b ≡ 47 → ⊥
+unfolding isPlain isDigit and or
 stroke-not-plain b p e = false≢true (rw e at p)
 
 module _ (front back : List ℕ) where
@@ -220,15 +220,15 @@ module _ (front back : List ℕ) where
     stroke-between : length front ≡ strokeAt between
     stroke-between =
         stroke-is between (length front) (omega (arith, between-length)) (get_or-append_seam front 47 back 0)
-        (λ k h. stroke-not-plain _ (ap is_plain (between-front k h) ∙ plain_at p k h))
+        (λ k h. stroke-not-plain _ (ap isPlain (between-front k h) ∙ plain-at p k h))
 
     fits-between : (k : ℕ) → k < length between → fits between (length front) k ≡ true
     fits-between k h =
         by_cases (dec_lt k (length front))
-        (λ l. or_r _ (ap is_plain (between-front k l) ∙ plain_at p k l))
+        (λ l. or-r _ (ap isPlain (between-front k l) ∙ plain-at p k l))
         (λ l. by_cases (ℕ_discrete k (length front))
-        (λ e. or_l _ (eq-eqb _ _ e))
-        (λ n. or_r _ (ap is_plain (between-back k (omega arith)) ∙ plain_at q _ (omega (arith, between-length)))))
+        (λ e. or-l _ (eq-eqb _ _ e))
+        (λ n. or-r _ (ap isPlain (between-back k (omega arith)) ∙ plain-at q _ (omega (arith, between-length)))))
 
     pub readable-between : readable (front ++ (47 ∷ back)) ≡ true
     readable-between = sym (readable-whole between (length front) stroke-between (omega (arith, between-length)) fits-between)

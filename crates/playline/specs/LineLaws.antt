@@ -8,7 +8,7 @@ use Prim.Native.Nat.{ℕ, suc, ◌+◌, ◌*◌, ◌-◌, ◌≤◌, ◌<◌}
 use Rattle.std.proofs.Math.ListN.{length, take, drop, length-drop, replicate}
 use Rattle.std.proofs.Math.Seq.{sets, length-sets, take_all}
 use Rattle.text.specs.Decimal.{decimal}
-use Rattle.codec.specs.ListLaws.{sets_then}
+use Rattle.codec.specs.ListLaws.{sets-then}
 use Rattle.machine.specs.declared.Refusal.{Refusal}
 use Rattle.machine.specs.Lassos.{Lasso, given}
 use Rattle.machine.specs.Player.{runRoom}
@@ -28,8 +28,8 @@ pub record Written (out₀ : List ℕ) (at : ℕ) (states out : List ℕ) (place
   pub room : place ≤ at + 4 * i
   pub same : length out ≡ length out₀
 
-pub written_none : (out : List ℕ) (at : ℕ) (states : List ℕ) → Written out at states out at 0
-written_none out at states = record { answer = refl; end = refl; room = omega arith; same = refl }
+pub written-none : (out : List ℕ) (at : ℕ) (states : List ℕ) → Written out at states out at 0
+written-none out at states = record { answer = refl; end = refl; room = omega arith; same = refl }
 
 module _ {out₀ : List ℕ} {at : ℕ} {states out : List ℕ} {place i : ℕ} (w : Written out₀ at states out place i) where
   next : i < length states → statesText (drop i states) ≡ (32 ∷ decimal (get_or states i 0)) ++ statesText (drop (i + 1) states)
@@ -43,16 +43,16 @@ module _ {out₀ : List ℕ} {at : ℕ} {states out : List ℕ} {place i : ℕ} 
       let rest : List ℕ = statesText (drop (i + 1) states) in
       record {
         answer =
-            sets_then out more (sets more behind rest) word rest place (length word) behind e refl refl b
+            sets-then out more (sets more behind rest) word rest place (length word) behind e refl refl b
             ∙ ap (sets out place) (sym (next h)) ∙ w.answer;
         end = omega (arith, w.end, ap length (next h), length-append word rest);
         room = omega (arith, w.room);
         same = ap length e ∙ length-sets out place word ∙ w.same;
       }
 
-  pub written_all : length states ≤ i → out ≡ sets out₀ at (statesText states)
+  pub written-all : length states ≤ i → out ≡ sets out₀ at (statesText states)
   unfolding statesText
-  written_all h = ap (λ (l : List ℕ). sets out place (statesText l)) (sym (drop_of_length-le states h)) ∙ w.answer
+  written-all h = ap (λ (l : List ℕ). sets out place (statesText l)) (sym (drop_of_length-le states h)) ∙ w.answer
 
   pub written-end : length states ≤ i → place ≡ at + length (statesText states)
   unfolding statesText
@@ -75,10 +75,10 @@ module _ (out₀ out₁ out₂ out₃ out₄ stem loop : List ℕ) (a e : ℕ)
       let end : List ℕ = 10 ∷ [] in
       let rest : List ℕ = statesText loop ++ end in
       let more : List ℕ = statesText stem ++ (32 ∷ 47 ∷ rest) in
-      sets_then out₃ out₄ (set out₄ e 10) (statesText loop) end (a + 2) (length (statesText loop)) e back refl refl e-is
-      ∙ sets_then out₂ out₃ (sets out₃ (a + 2) rest) (32 ∷ 47 ∷ []) rest a 2 (a + 2) stroke refl refl refl
-      ∙ sets_then out₁ out₂ (sets out₂ a (32 ∷ 47 ∷ rest)) (statesText stem) (32 ∷ 47 ∷ rest) 3 (length (statesText stem)) a front refl refl a-is
-      ∙ sets_then out₀ out₁ (sets out₁ 3 more) (114 ∷ 117 ∷ 110 ∷ []) more 0 3 3 word refl refl refl
+      sets-then out₃ out₄ (set out₄ e 10) (statesText loop) end (a + 2) (length (statesText loop)) e back refl refl e-is
+      ∙ sets-then out₂ out₃ (sets out₃ (a + 2) rest) (32 ∷ 47 ∷ []) rest a 2 (a + 2) stroke refl refl refl
+      ∙ sets-then out₁ out₂ (sets out₂ a (32 ∷ 47 ∷ rest)) (statesText stem) (32 ∷ 47 ∷ rest) 3 (length (statesText stem)) a front refl refl a-is
+      ∙ sets-then out₀ out₁ (sets out₁ 3 more) (114 ∷ 117 ∷ 110 ∷ []) more 0 3 3 word refl refl refl
       ∙ ap (sets out₀ 0) (sym line-is)
 
   pub run-written : (e + 1 ≡ length (runLine stem loop)) × (set out₄ e 10 ≡ sets out₀ 0 (runLine stem loop))
@@ -90,9 +90,9 @@ module _ (out₀ out₁ out₂ out₃ out₄ stem loop : List ℕ) (a e : ℕ)
 
 -- ---- the whole line
 -- two texts that are equal are one line
-pub same_line : {r most : ℕ} (out₀ : List ℕ) {out l l' : List ℕ} → l ≡ l' → r ≡ length l → r ≤ most → out ≡ sets out₀ 0 l
+pub same-line : {r most : ℕ} (out₀ : List ℕ) {out l l' : List ℕ} → l ≡ l' → r ≡ length l → r ≤ most → out ≡ sets out₀ 0 l
     → (r ≡ length l') × ((r ≤ most) × (out ≡ sets out₀ 0 l'))
-same_line out₀ e a b c = (a ∙ ap length e, (b, c ∙ ap (sets out₀ 0) e))
+same-line out₀ e a b c = (a ∙ ap length e, (b, c ∙ ap (sets out₀ 0) e))
 
 -- the line of what was said
 module _ (said : FileRun) (run : List ℕ) where
@@ -104,9 +104,9 @@ module _ (said : FileRun) (run : List ℕ) where
   unfolding runOutcomeOf runOutcomeLine
   line-none e = rw e
 
-  pub line_refused : (r : Refusal) → said ≡ Refused r → refusalLine r ≡ runOutcomeLine (runOutcomeOf said) run
+  pub line-refused : (r : Refusal) → said ≡ Refused r → refusalLine r ≡ runOutcomeLine (runOutcomeOf said) run
   unfolding runOutcomeOf runOutcomeLine
-  line_refused r e = rw e
+  line-refused r e = rw e
 
 module _ (f text : List ℕ) where
   pub play-usage : readable text ≡ false → usageLine ≡ playLine f text

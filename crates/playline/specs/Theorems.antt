@@ -6,7 +6,7 @@ use Rattle.text.specs.Decimal.{decimal, isDigit}
 use Rattle.text.specs.EndsLaws.{digit-is}
 use Rattle.codec.specs.Statements.{AreBytes}
 use Rattle.machine.specs.Lassos.{given}
-use Rattle.playline.specs.Lasso.{grown, is_plain, numbersFrom, numbersIn, readable, lassoIn, statesText, lassoText}
+use Rattle.playline.specs.Lasso.{grown, isPlain, numbersFrom, numbersIn, readable, lassoIn, statesText, lassoText}
 use Rattle.playline.specs.LassoLaws.{Decimal, one-digit, digit-more, byte-decimal, Plain, none, more, plain-append, plain-digit, numbers-digit, numbers-end, numbers-blank, readable-between, lasso-between}
 use Rattle.playline.specs.Statements.{LassoReadsBack}
 
@@ -30,8 +30,8 @@ number-plain (one-digit {n = s} l) = more (sym (plain-digit _ (digit-is s l))) n
 number-plain (digit-more {n = s} d) = plain-append (number-plain d) (more (sym (plain-digit _ (digit-is (s % 10) (omega arith)))) none)
 
 -- ---- states
-blank-plain : is_plain 32 ≡ true
-unfolding is_plain isDigit and or
+blank-plain : isPlain 32 ≡ true
+unfolding isPlain isDigit and or
 blank-plain = refl
 
 blank-digit : isDigit 32 ≡ false

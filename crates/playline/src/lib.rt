@@ -9,7 +9,7 @@ ghost use Rattle.machine.specs.Player.{runRoom};
 ghost use Rattle.report.specs.Text.{refusalLine};
 ghost use Rattle.playback.specs.declared.FileRun.TheVariants.{Run};
 ghost use Rattle.playback.specs.Playing.{runOutcomeOf};
-ghost use Rattle.playline.specs.Lasso.{grown, is_plain, numbersIn, strokeAt, readable, statesText};
+ghost use Rattle.playline.specs.Lasso.{grown, isPlain, numbersIn, strokeAt, readable, statesText};
 ghost use Rattle.playline.specs.Line.{lineRoom, runLine, runOutcomeLine, playLine};
 
 use machine::Refusal;
@@ -99,14 +99,14 @@ fn stroke_at(text: &[u8]) -> usize
 
 // Whether a byte is a digit or a blank.
 fn is_plain(b: u8) -> bool
-    ensures { result ≡ is_plain b }
+    ensures { result ≡ isPlain b }
 {
     if is_digit(b) { true } else { b == b' ' }
 }
 
 // Whether a byte may stand at place i of a readable text whose stroke stands at a place.
 fn may_stand(b: u8, i: usize, stroke: usize) -> bool
-    ensures { result ≡ or (eqb i stroke) (is_plain b) }
+    ensures { result ≡ or (eqb i stroke) (isPlain b) }
 {
     if i == stroke { true } else { is_plain(b) }
 }

@@ -11,11 +11,11 @@ use Rattle.std.proofs.Math.Decide.{dec_le}
 use native.Mathlib.Omega.{arith}
 use Rattle.std.proofs.Math.ListN.{length, get_or, drop}
 use borrow.Author.Tests.{le-leb, lt-leb, leb-false, eqb-true}
-use Rattle.mask.specs.LogicLaws.{dec, clash, refute, both, and_true_r, and-false-l, cond_cases}
+use Rattle.mask.specs.LogicLaws.{dec, clash, refute, both, and-true-r, and-false-l, cond-cases}
 use Rattle.mask.specs.Bits.{hasBit}
 use Rattle.mask.specs.Bounded.{first}
 use Rattle.mask.specs.BoundedLaws.{every-at, first-has, first-before, first-most}
-use Rattle.mask.specs.TablesLaws.{table_at, table-cong}
+use Rattle.mask.specs.TablesLaws.{table-at, table-cong}
 use Rattle.machine.specs.declared.Pair.{Pair}
 use Rattle.machine.specs.declared.Refusal.{Refusal}
 use Rattle.machine.specs.Machines.{matched, nC, nA, setsA}
@@ -28,11 +28,11 @@ use Rattle.machine.specs.EmptySetsLaws.{nonempty-valid, nonempty-at}
 use Rattle.machine.specs.Game.{mem, allMatched, goals, levels, turn, firstFamily, familyAfter, family}
 use Rattle.machine.specs.Ranks.{rankTable, solverTable}
 use Rattle.machine.specs.Table.{tableRoom, entries}
-use Rattle.machine.specs.LinesLaws.{covers_at}
+use Rattle.machine.specs.LinesLaws.{covers-at}
 use Rattle.theory.specs.Statements.{Within}
 use Rattle.theory.specs.Fixpoint.{iterate-stays}
 use Rattle.theory.specs.GameLaws.{mem-pairSet, pairSet-cong}
-use Rattle.theory.specs.FamilyLaws.{Tabled, turn-tabled, first-tabled, family-tabled, turn_at, first-at, family-later, family-is, family-ext, family-within, family-stays, family-reached}
+use Rattle.theory.specs.FamilyLaws.{Tabled, turn-tabled, first-tabled, family-tabled, turn-at, first-at, family-later, family-is, family-ext, family-within, family-stays, family-reached}
 use Rattle.theory.specs.RankLaws.{table-rank, rank-blank, rank-covered}
 use Rattle.theory.specs.PassLaws.{family-covered}
 use Rattle.solver.specs.Families.{flatOf, sectionOf, familyIn, turnRows}
@@ -40,7 +40,7 @@ use Rattle.solver.specs.Solver.{solveValidity, solvedTable}
 use Rattle.solver.specs.SolverLaws.{solve-short, solve-long, solved-refused}
 use Rattle.solver.specs.SolvedLaws.{solved-is}
 use Rattle.progress.specs.Turns.{firstRows, firstGiven, finishes, turnAnswer, turnFamily, turnTable, saysFinished, stillIn, rangeValidity, lookUpAnswer}
-use Rattle.progress.specs.TurnsLaws.{first-given, rows_same, turn-refused, turn-taken, table_kept, table-written, in-range, range_at, looked-up, still-in-is}
+use Rattle.progress.specs.TurnsLaws.{first-given, rows-same, turn-refused, turn-taken, table-kept, table-written, in-range, range-at, looked-up, still-in-is}
 use Rattle.progress.specs.Statements.{familyOfTurns, turnsIn, turnsUntil, TurnsFinish, OnlyFinishedWrites, FinishedSettles, StruckOutIsFinal, FinishedTells, FirstIsMatched, SolverIsTurns}
 
 -- ---- lists of turns and turns until one is finished, one at a time
@@ -52,9 +52,9 @@ turns-family : (p : Pair) (T : List ℕ) (Ts : List (List ℕ)) → turnFamily p
 unfolding familyOfTurns
 turns-family p T Ts = refl
 
-until_none : (p : Pair) (F T : List ℕ) → turnsUntil p zero F T ≡ T
+until-none : (p : Pair) (F T : List ℕ) → turnsUntil p zero F T ≡ T
 unfolding turnsUntil
-until_none p F T = refl
+until-none p F T = refl
 
 module _ (p : Pair) (n : ℕ) (F T : List ℕ) where
   until-now : turnAnswer p F (length T) ≡ answer true → turnsUntil p (suc n) F T ≡ turnTable p F T
@@ -76,7 +76,7 @@ says-refused e = rw e
 
 -- a list of refused calls changes nothing
 until-kept : (p : Pair) (n : ℕ) (F T : List ℕ) {r : Refusal} → solveValidity p (length T) ≡ refused r → turnsUntil p n F T ≡ T
-until-kept p zero F T e = until_none p F T
+until-kept p zero F T e = until-none p F T
 until-kept p (suc n) F T e =
     let k = turn-refused p F T e in
     until-later p n F T (says-refused k.0) ∙ ap₂ (turnsUntil p n) k.1 k.2 ∙ until-kept p n F T e
@@ -91,20 +91,20 @@ unfolding lookUpAnswer
 looked p F j c a e = given-at _ _ (then-answer _ _ e).1
 
 -- later lists have at least as many turns
-turns_more : (Us Ts : List (List ℕ)) → turnsIn Ts ≤ turnsIn (Us ++ Ts)
+turns-more : (Us Ts : List (List ℕ)) → turnsIn Ts ≤ turnsIn (Us ++ Ts)
 unfolding turnsIn
-turns_more [] Ts = omega arith
-turns_more (U ∷ Us) Ts = cond_cases (leb tableRoom (length U)) (λ (n : ℕ). turnsIn Ts ≤ n) (suc (turnsIn (Us ++ Ts))) (turnsIn (Us ++ Ts))
-    (λ t. omega (arith, turns_more Us Ts)) (λ t. turns_more Us Ts)
+turns-more [] Ts = omega arith
+turns-more (U ∷ Us) Ts = cond-cases (leb tableRoom (length U)) (λ (n : ℕ). turnsIn Ts ≤ n) (suc (turnsIn (Us ++ Ts))) (turnsIn (Us ++ Ts))
+    (λ t. omega (arith, turns-more Us Ts)) (λ t. turns-more Us Ts)
 
 module _ (p : Pair) (w : WellPair p) where
   -- ---- rows and families
-  row_at : (Z : List (List ℕ)) (j c : ℕ) → j < 7 → c < 64 → get_or (flatOf Z) (j * 64 + c) 0 ≡ get_or (get_or Z j []) c 0
+  row-at : (Z : List (List ℕ)) (j c : ℕ) → j < 7 → c < 64 → get_or (flatOf Z) (j * 64 + c) 0 ≡ get_or (get_or Z j []) c 0
   unfolding flatOf
-  row_at Z j c hj hc =
+  row-at Z j c hj hc =
       let d : (j * 64 + c) / 64 ≡ j = omega arith in
       let m : (j * 64 + c) % 64 ≡ c = omega arith in
-      table_at 448 (λ e. get_or (get_or Z (e / 64) []) (e % 64) 0) (j * 64 + c) 0 (omega arith) ∙ rw (d, m)
+      table-at 448 (λ e. get_or (get_or Z (e / 64) []) (e % 64) 0) (j * 64 + c) 0 (omega arith) ∙ rw (d, m)
 
   few : (j : ℕ) → j < setsA p → j < 7
   few j h = omega (arith, w.abstraction.sets-high)
@@ -114,7 +114,7 @@ module _ (p : Pair) (w : WellPair p) where
   unfolding familyIn sectionOf mem
   family-back Z t =
       table-cong (setsA p) _ _ (λ j hj. pairSet-cong p _ _ (λ c a hc ha m. ap (λ (r : ℕ). hasBit r a)
-      (table_at 64 (λ i. get_or (flatOf Z) (j * 64 + i) 0) c 0 (wide c hc) ∙ row_at Z j c (few j hj) (wide c hc))) ∙ sym (t.canonical j hj))
+      (table-at 64 (λ i. get_or (flatOf Z) (j * 64 + i) 0) c 0 (wide c hc) ∙ row-at Z j c (few j hj) (wide c hc))) ∙ sym (t.canonical j hj))
       ∙ sym t.listed
     where
       wide : (c : ℕ) → c < nC p → c < 64
@@ -129,13 +129,13 @@ module _ (p : Pair) (w : WellPair p) where
   unfolding finishes flatOf
   finished-at Z t f =
       let same : flatOf Z ≡ flatOf (turn p Z) =
-      table-cong 448 _ _ (λ e l. sym (table_at 448 (λ i. get_or (get_or Z (i / 64) []) (i % 64) 0) e 0 l) ∙ eqb-true _ _ (every-at 448 _ f e l)
-      ∙ ap (λ (F : List ℕ). get_or F e 0) (rows-turn Z t) ∙ table_at 448 (λ i. get_or (get_or (turn p Z) (i / 64) []) (i % 64) 0) e 0 l) in
+      table-cong 448 _ _ (λ e l. sym (table-at 448 (λ i. get_or (get_or Z (i / 64) []) (i % 64) 0) e 0 l) ∙ eqb-true _ _ (every-at 448 _ f e l)
+      ∙ ap (λ (F : List ℕ). get_or F e 0) (rows-turn Z t) ∙ table-at 448 (λ i. get_or (get_or (turn p Z) (i / 64) []) (i % 64) 0) e 0 l) in
       sym (family-back (turn p Z) (turn-tabled p Z)) ∙ ap (familyIn p) (sym same) ∙ family-back Z t
 
   finished-of : (Z : List (List ℕ)) → Tabled p Z → turn p Z ≡ Z → finishes p (flatOf Z) ≡ true
   unfolding finishes
-  finished-of Z t e = rows_same (flatOf Z) (turnRows p (flatOf Z)) (λ i l. ap (λ (F : List ℕ). get_or F i 0) (sym (rows-turn Z t ∙ ap flatOf e)))
+  finished-of Z t e = rows-same (flatOf Z) (turnRows p (flatOf Z)) (λ i l. ap (λ (F : List ℕ). get_or F i 0) (sym (rows-turn Z t ∙ ap flatOf e)))
 
   -- ---- the families after so many turns
   after-tabled : (t : ℕ) → Tabled p (familyAfter p t)
@@ -157,7 +157,7 @@ module _ (p : Pair) (w : WellPair p) where
 
       kept : (j : ℕ) → j < setsA p → Within p (get_or W j []) (levels p (goals p W j))
       kept j hj c a hc ha u =
-          ap (λ (S : List ℕ). mem p S c a) (sym (turn_at p W j hj)) ∙ ap (λ (Z : List (List ℕ)). mem p (get_or Z j []) c a) (finished-at W (after-tabled t) f) ∙ u
+          ap (λ (S : List ℕ). mem p S c a) (sym (turn-at p W j hj)) ∙ ap (λ (Z : List (List ℕ)). mem p (get_or Z j []) c a) (finished-at W (after-tabled t) f) ∙ u
 
   done-later : (t u : ℕ) → t ≤ u → done t ≡ true → done u ≡ true
   unfolding done familyAfter
@@ -168,9 +168,9 @@ module _ (p : Pair) (w : WellPair p) where
   before : ℕ
   before = first (suc (entries p)) done
 
-  before_small : before ≤ entries p
+  before-small : before ≤ entries p
   unfolding before done
-  before_small =
+  before-small =
       let r = family-reached p in
       let f : finishes p (flatOf (familyAfter p r.0)) ≡ true = finished-of _ (after-tabled r.0) (ap (turn p) r.2 ∙ family-stays p ∙ sym r.2) in
       omega (arith, first-most (suc (entries p)) done r.0 f, r.1)
@@ -178,7 +178,7 @@ module _ (p : Pair) (w : WellPair p) where
   done-is : (t : ℕ) → done t ≡ leb before t
   unfolding before
   done-is t = by_cases (dec_le before t)
-      (λ l. done-later before t l (first-has (suc (entries p)) done (omega (arith, before_small))) ∙ sym (le-leb before t l))
+      (λ l. done-later before t l (first-has (suc (entries p)) done (omega (arith, before-small))) ∙ sym (le-leb before t l))
       (λ l. first-before (suc (entries p)) done t (omega arith) ∙ sym (lt-leb before t (omega arith)))
 
   module _ (well : wellFormed p ≡ true) (nonempty : nonemptySets p ≡ true) where
@@ -230,7 +230,7 @@ module _ (p : Pair) (w : WellPair p) where
     until-done zero Ts T room lo hi = absurd (omega arith)
     until-done (suc n) Ts T room lo hi = ⊎_elim
         (λ f. until-now p n (familyOfTurns p Ts) T (says true f) ∙ writes Ts T room f)
-        (λ f. until-later p n (familyOfTurns p Ts) T (says-unfinished (says false f)) ∙ ap₂ (turnsUntil p n) (turns-family p T Ts) (table_kept p (familyOfTurns p Ts) T (solves (length T) room) f)
+        (λ f. until-later p n (familyOfTurns p Ts) T (says-unfinished (says false f)) ∙ ap₂ (turnsUntil p n) (turns-family p T Ts) (table-kept p (familyOfTurns p Ts) T (solves (length T) room) f)
         ∙ until-done n (T ∷ Ts) T room (omega (arith, less f, turns-one T Ts room)) (omega (arith, turns-one T Ts room)))
         (dec (finishes p (familyOfTurns p Ts)))
       where
@@ -242,7 +242,7 @@ module _ (p : Pair) (w : WellPair p) where
 
 -- what follows a turn that was made
 later : (Ts : List (List ℕ)) (T : List ℕ) (Us : List (List ℕ)) → tableRoom ≤ length T → turnsIn Ts ≤ turnsIn (Us ++ (T ∷ Ts))
-later Ts T Us room = omega (arith, turns_more Us (T ∷ Ts), turns-one T Ts room)
+later Ts T Us room = omega (arith, turns-more Us (T ∷ Ts), turns-one T Ts room)
 
 leb-up : (n t : ℕ) → leb n t ≡ leb (suc n) (t + 1)
 leb-up n t = by_cases (dec_le n t)
@@ -256,7 +256,7 @@ module _ (p : Pair) where
   first-still : WellPair p → wellFormed p ≡ true → nonemptySets p ≡ true → (j c a : ℕ) → j < setsA p → c < nC p → a < nA p → stillIn p (firstGiven p) j c a ≡ matched p c a
   unfolding familyOfTurns turnsIn familyAfter iterate allMatched
   first-still w well nonempty j c a hj hc ha =
-      still-is p w well nonempty [] j c a ∙ ap (λ (S : List ℕ). mem p S c a) (first-at p j hj) ∙ mem-pairSet p (λ c a. true) c a hc ha ∙ and_true_r _ refl
+      still-is p w well nonempty [] j c a ∙ ap (λ (S : List ℕ). mem p S c a) (first-at p j hj) ∙ mem-pairSet p (λ c a. true) c a hc ha ∙ and-true-r _ refl
 
   -- turns until one is finished, by what the solver says
   until-solved : (T : List ℕ) (v : Tested) → solveValidity p (length T) ≡ v → turnsUntil p (entries p + 1) (firstGiven p) T ≡ solvedTable p T
@@ -267,13 +267,13 @@ module _ (p : Pair) where
       let n = nonempty-at p q.1 in
       let well = valid-is-well p n.0 in
       let w = well-pair p well in
-      until-done p w well n.1 (entries p + 1) [] T (buffer-room tableRoom (length T) q.0) (omega arith) (omega (arith, before_small p w))
+      until-done p w well n.1 (entries p + 1) [] T (buffer-room tableRoom (length T) q.0) (omega arith) (omega (arith, before-small p w))
 
   pub turns-finish : TurnsFinish p
   turns-finish well nonempty =
       let w = well-pair p well in (
         suc (before p w),
-        (omega arith, omega (arith, before_small p w)),
+        (omega arith, omega (arith, before-small p w)),
         λ Ts T room.
             (turn-taken p (familyOfTurns p Ts) T (solves p w well nonempty (length T) room)).0
             ∙ ap answer (finishes-is p w well nonempty Ts ∙ done-is p w (turnsIn Ts) ∙ leb-up (before p w) (turnsIn Ts)),
@@ -301,11 +301,11 @@ module _ (p : Pair) where
   struck-out-is-final well nonempty Ts j c a e =
       let w = well-pair p well in
       let q = looked p (familyOfTurns p Ts) j c a e in
-      let r = range_at p j c a q.0 in
+      let r = range-at p j c a q.0 in
       let hj : j - 1 < setsA p = omega (arith, r.0) in
       let out : mem p (get_or (familyAfter p (turnsIn Ts)) (j - 1) []) c a ≡ false = sym (still-is p w well nonempty Ts (j - 1) c a) ∙ q.1 in (
         λ Us. looked-is well nonempty (familyOfTurns p (Us ++ Ts)) j c a q.0 ∙ ap answer (still-is p w well nonempty (Us ++ Ts) (j - 1) c a
-            ∙ refute _ (λ t. clash out (family-later p (turnsIn Ts) (turnsIn (Us ++ Ts)) (turns_more Us Ts) (j - 1) hj c a r.1.0 r.1.1 t))),
+            ∙ refute _ (λ t. clash out (family-later p (turnsIn Ts) (turnsIn (Us ++ Ts)) (turns-more Us Ts) (j - 1) hj c a r.1.0 r.1.1 t))),
         table-rank p (j - 1) c a hj r.1.0 r.1.1
             ∙ (rank-blank p w (j - 1) c a hj r.1.0 r.1.1).1 (refute _ (λ t. clash out (family-within p (turnsIn Ts) (j - 1) hj c a r.1.0 r.1.1 t))),
       )
@@ -319,7 +319,7 @@ module _ (p : Pair) where
       let hj : j - 1 < setsA p = omega arith in
       looked-is well nonempty (familyOfTurns p Vs) j c a (in-range p j c a lo hi hc ha)
       ∙ ap answer (still-is p w well nonempty Vs (j - 1) c a ∙ ap (λ (Z : List (List ℕ)). mem p (get_or Z (j - 1) []) c a) (finished-family p w well nonempty Vs g)
-      ∙ both _ _ (family-covered p w (j - 1) c a hj hc ha) (λ t. (rank-covered p w (j - 1) c a hj hc ha).0 (λ z. covers_at p (solverTable p) (j - 1) c a t (table-rank p (j - 1) c a hj hc ha ∙ z))))
+      ∙ both _ _ (family-covered p w (j - 1) c a hj hc ha) (λ t. (rank-covered p w (j - 1) c a hj hc ha).0 (λ z. covers-at p (solverTable p) (j - 1) c a t (table-rank p (j - 1) c a hj hc ha ∙ z))))
 
   pub first-is-matched : FirstIsMatched p
   first-is-matched well nonempty j c a lo hi hc ha =

@@ -4,7 +4,7 @@ use Rattle.mask.specs.Logic.{and}
 use Rattle.mask.specs.Bounded.{every}
 use Rattle.machine.specs.declared.Pair.{Pair}
 use Rattle.machine.specs.Machines.{nC, nA, setsA}
-use Rattle.machine.specs.Refusals.{Result, answer, refused, Tested, valid, refusal, and_then, stateAfter, out_of_range}
+use Rattle.machine.specs.Refusals.{Result, answer, refused, Tested, valid, refusal, andThen, stateAfter, out-of-range}
 use Rattle.machine.specs.WellFormed.{nonemptyValidity}
 use Rattle.machine.specs.Game.{mem, firstFamily}
 use Rattle.machine.specs.Ranks.{rankTable}
@@ -25,7 +25,7 @@ finishes p F = let G = turnRows p F in every 448 (λ e. eqb (get_or F e 0) (get_
 
 -- what a turn says, lent a table of so many entries: a refusal of the solver, or whether it is finished
 unfoldable pub turnAnswer : Pair → List ℕ → ℕ → Result Bool
-turnAnswer p F room = and_then (solveValidity p room) (answer (finishes p F))
+turnAnswer p F room = andThen (solveValidity p room) (answer (finishes p F))
 
 -- the family that it gives: beside a refusal the one handed in
 unfoldable pub turnFamily : Pair → List ℕ → ℕ → List ℕ
@@ -50,8 +50,8 @@ stillIn p F j c a = mem p (get_or (familyIn p F) j []) c a
 -- 20: "a look-up whose section or state is out of range", the section counted from 1, as document 01 does
 unfoldable pub rangeValidity : Pair → ℕ → ℕ → ℕ → Tested
 rangeValidity p j c a =
-    cond (and (and (leb 1 j) (leb j (setsA p))) (and (ltb c (nC p)) (ltb a (nA p)))) valid (refused (refusal out_of_range 0 0 0))
+    cond (and (and (leb 1 j) (leb j (setsA p))) (and (ltb c (nC p)) (ltb a (nA p)))) valid (refused (refusal out-of-range 0 0 0))
 
 -- what a look-up says, "after all else" 20: a refusal, or whether the pair is still in
 unfoldable pub lookUpAnswer : Pair → List ℕ → ℕ → ℕ → ℕ → Result Bool
-lookUpAnswer p F j c a = and_then (nonemptyValidity p) (and_then (rangeValidity p j c a) (answer (stillIn p F (j - 1) c a)))
+lookUpAnswer p F j c a = andThen (nonemptyValidity p) (andThen (rangeValidity p j c a) (answer (stillIn p F (j - 1) c a)))

@@ -10,19 +10,19 @@ use Rattle.std.proofs.Math.ListN.{get_or, get_or-append}
 use Rattle.std.proofs.lemmas.List.{length-replicate}
 use borrow.Author.Tests.{lt-ltb, le-ltb, ltb-true, le-leb, lt-leb, leb-true, eq-eqb, ne_eqb}
 use Rattle.mask.specs.Logic.{and}
-use Rattle.mask.specs.LogicLaws.{and_l, and_r, and_i, and-true-l, and-false-l, and_false_r}
+use Rattle.mask.specs.LogicLaws.{and-l, and-r, and-i, and-true-l, and-false-l, and-false-r}
 use Rattle.mask.specs.Bits.{hasBit}
 use Rattle.mask.specs.Bounded.{every}
-use Rattle.mask.specs.BoundedLaws.{every_of, every-not}
+use Rattle.mask.specs.BoundedLaws.{every-of, every-not}
 use Rattle.mask.specs.Tables.{table, front}
-use Rattle.mask.specs.TablesLaws.{table_at, table-past, table-cong, fill_done}
+use Rattle.mask.specs.TablesLaws.{table-at, table-past, table-cong, fill-done}
 use Rattle.mask.specs.FrontLaws.{front-none, front-zeros}
 use Rattle.machine.specs.declared.Pair.{Pair}
 use Rattle.machine.specs.declared.Refusal.{Refusal}
 use Rattle.machine.specs.declared.Validity.{Validity}
 use Rattle.machine.specs.declared.Validity.TheVariants.{Valid, Refused}
 use Rattle.machine.specs.Machines.{observation, sameObservation, matched, nC, nA, setsA}
-use Rattle.machine.specs.Refusals.{answer, refused, valid, refusal, tested_of, and_then, out_of_range}
+use Rattle.machine.specs.Refusals.{answer, refused, valid, refusal, testedOf, andThen, out-of-range}
 use Rattle.machine.specs.RefusalsLaws.{then-of, then-refused, then-then, tested-valid, tested-refused, valid-if, state-made, state-kept}
 use Rattle.machine.specs.WellFormed.{wellFormed, nonemptyValidity}
 use Rattle.machine.specs.WellFormedLaws.{WellPair, well-pair, valid-is-well, entries-small}
@@ -34,7 +34,7 @@ use Rattle.machine.specs.Table.{tableRoom, entries}
 use Rattle.theory.specs.GameLaws.{mem-pairSet}
 use Rattle.theory.specs.FamilyLaws.{first-at}
 use Rattle.theory.specs.RankLaws.{ranks-entries}
-use Rattle.rows.specs.SetRowsLaws.{rows_at, matched-rows}
+use Rattle.rows.specs.SetRowsLaws.{rows-at, matched-rows}
 use Rattle.solver.specs.Families.{flatOf, sectionOf, familyIn, turnRows}
 use Rattle.solver.specs.FamilyRowsLaws.{family-at}
 use Rattle.solver.specs.Solver.{solveValidity, turnedFamily, turnedTable}
@@ -43,17 +43,17 @@ use Rattle.progress.specs.Turns.{firstRows, firstGiven, finishes, turnAnswer, tu
 
 -- ---- the first family
 module _ (p : Pair) where
-  pub first_made : WellPair p → {matched out : List ℕ} {n : ℕ} → matched ≡ matchedMasks p → n ≡ setsA p * 64
+  pub first-made : WellPair p → {matched out : List ℕ} {n : ℕ} → matched ≡ matchedMasks p → n ≡ setsA p * 64
       → out ≡ front n (λ k. get_or matched (k % 64) 0) (replicate 448 0) → out ≡ firstRows p
   unfolding firstRows flatOf firstFamily
-  first_made w {matched} {out} {n} em en eo =
+  first-made w {matched} {out} {n} em en eo =
       front-zeros _ eo en (omega (arith, w.abstraction.sets-high)) ∙ table-cong 448 _ _ (λ e l. by_cases (dec_lt e (setsA p * 64))
       (λ q. rw (lt-ltb e (setsA p * 64) q) (inside e q))
       (λ q. rw (le-ltb e (setsA p * 64) (omega arith), table-past (setsA p) (λ j. allMatched p) (e / 64) [] (omega arith))))
     where
       inside : (e : ℕ) → e < setsA p * 64 → get_or matched (e % 64) 0 ≡ get_or (get_or (firstFamily p) (e / 64) []) (e % 64) 0
       inside e q =
-          ap (λ (l : List ℕ). get_or l (e % 64) 0) (em ∙ matched-rows p w) ∙ rows_at (allMatched p) (e % 64) (omega arith)
+          ap (λ (l : List ℕ). get_or l (e % 64) 0) (em ∙ matched-rows p w) ∙ rows-at (allMatched p) (e % 64) (omega arith)
           ∙ ap (λ (l : List ℕ). get_or l (e % 64) 0) (sym (first-at p (e / 64) (omega arith)))
 
   pub first-given : nonemptyValidity p ≡ valid → firstRows p ≡ firstGiven p
@@ -65,8 +65,8 @@ module _ (p : Pair) where
   first-refused e = sym (state-kept _ _ _ e)
 
 -- ---- two families, row by row
-pub rows_same : (x y : List ℕ) → ((e : ℕ) → e < 448 → get_or x e 0 ≡ get_or y e 0) → every 448 (λ e. eqb (get_or x e 0) (get_or y e 0)) ≡ true
-rows_same x y h = every_of 448 _ (λ e l. eq-eqb _ _ (h e l))
+pub rows-same : (x y : List ℕ) → ((e : ℕ) → e < 448 → get_or x e 0 ≡ get_or y e 0) → every 448 (λ e. eqb (get_or x e 0) (get_or y e 0)) ≡ true
+rows-same x y h = every-of 448 _ (λ e l. eq-eqb _ _ (h e l))
 
 pub rows-differ : (x y : List ℕ) (e : ℕ) → e < 448 → (get_or x e 0 ≡ get_or y e 0 → ⊥) → every 448 (λ e. eqb (get_or x e 0) (get_or y e 0)) ≡ false
 rows-differ x y e l n = every-not 448 _ e l (ne_eqb _ _ n)
@@ -86,9 +86,9 @@ module _ (p : Pair) (F T : List ℕ) where
   unfolding turnAnswer turnFamily
   turn-taken e = let a = then-of _ (answer (finishes p F)) e in (a, state-made _ _ F a)
 
-  pub table_kept : solveValidity p (length T) ≡ valid → finishes p F ≡ false → turnTable p F T ≡ T
+  pub table-kept : solveValidity p (length T) ≡ valid → finishes p F ≡ false → turnTable p F T ≡ T
   unfolding turnTable saysFinished
-  table_kept e f = rw ((turn-taken e).0, f)
+  table-kept e f = rw ((turn-taken e).0, f)
 
   pub table-written : solveValidity p (length T) ≡ valid → finishes p F ≡ true
       → turnTable p F T ≡ rankTable p (familyIn p F) ++ drop (length (rankTable p (familyIn p F))) T
@@ -102,15 +102,15 @@ module _ (p : Pair) (F T : List ℕ) where
       let R : List ℕ = rankTable p (familyIn p F) in
       let made : U ≡ R ++ drop (length R) (replicate tableRoom 0) = eu ∙ sym (turned-valid p F (replicate tableRoom 0) (sym (solve-same p T room) ∙ e)).1 in
       let whole : table n (λ i. get_or U i 0) ≡ R =
-      sym (fill_done 0 n R (λ i. get_or U i 0) (ranks-entries p (familyIn p F) ∙ sym en) (λ i l. sym (ap (λ (l : List ℕ). get_or l i 0) made
+      sym (fill-done 0 n R (λ i. get_or U i 0) (ranks-entries p (familyIn p F) ∙ sym en) (λ i l. sym (ap (λ (l : List ℕ). get_or l i 0) made
       ∙ get_or-append R (drop (length R) (replicate tableRoom 0)) 0 i (omega (arith, ranks-entries p (familyIn p F)))))) in
       ap₂ (λ (l : List ℕ) (k : ℕ). l ++ drop k T) whole (en ∙ sym (ranks-entries p (familyIn p F))) ∙ sym (table-written e f)
 
 -- ---- a turn, by what `solver::turn_family` says of the family and leaves in a table of exactly the room that it asks for
 module _ (p : Pair) (F T : List ℕ) (room : tableRoom ≤ length T) {v : Validity} {G : List ℕ}
-    (told : tested_of v ≡ solveValidity p (length (replicate {A = ℕ} tableRoom 0))) (made : G ≡ turnedFamily p F (length (replicate {A = ℕ} tableRoom 0))) where
-  pub turn_stopped : {r : Refusal} → v ≡ Refused r → (refused r ≡ turnAnswer p F (length T)) × ((G ≡ turnFamily p F (length T)) × (T ≡ turnTable p F T))
-  turn_stopped q =
+    (told : testedOf v ≡ solveValidity p (length (replicate {A = ℕ} tableRoom 0))) (made : G ≡ turnedFamily p F (length (replicate {A = ℕ} tableRoom 0))) where
+  pub turn-stopped : {r : Refusal} → v ≡ Refused r → (refused r ≡ turnAnswer p F (length T)) × ((G ≡ turnFamily p F (length T)) × (T ≡ turnTable p F T))
+  turn-stopped q =
       let e = tested-refused told q in
       let k = turn-refused p F T (solve-same p T room ∙ e) in
       (sym k.0, (made ∙ sym (turned-refused p F (replicate tableRoom 0) _ e).0 ∙ sym k.1, sym k.2))
@@ -138,7 +138,7 @@ module _ (p : Pair) (F T : List ℕ) (room : tableRoom ≤ length T) {v : Validi
             next-is ∙ sym k.1,
             et ∙ ⊎_elim
                 (λ w. copied p F T solves room eu (sym f ∙ w.0) w.1)
-                (λ w. ap (λ (i : ℕ). front i (λ e. get_or U e 0) T) w.1 ∙ sym (front-none _ T) ∙ sym (table_kept p F T solves (sym f ∙ w.0))) en,
+                (λ w. ap (λ (i : ℕ). front i (λ e. get_or U e 0) T) w.1 ∙ sym (front-none _ T) ∙ sym (table-kept p F T solves (sym f ∙ w.0))) en,
           ),
         )
 
@@ -147,41 +147,41 @@ module _ (p : Pair) (F T : List ℕ) (room : tableRoom ≤ length T) {v : Validi
 
 -- ---- the look-up
 module _ (p : Pair) (j c a : ℕ) where
-  range-out : and (and (leb 1 j) (leb j (setsA p))) (and (ltb c (nC p)) (ltb a (nA p))) ≡ false → rangeValidity p j c a ≡ refused (refusal out_of_range 0 0 0)
+  range-out : and (and (leb 1 j) (leb j (setsA p))) (and (ltb c (nC p)) (ltb a (nA p))) ≡ false → rangeValidity p j c a ≡ refused (refusal out-of-range 0 0 0)
   unfolding rangeValidity
   range-out e = rw e
 
-  pub below-sections : j < 1 → rangeValidity p j c a ≡ refused (refusal out_of_range 0 0 0)
+  pub below-sections : j < 1 → rangeValidity p j c a ≡ refused (refusal out-of-range 0 0 0)
   below-sections h = range-out (and-false-l _ (and-false-l _ (lt-leb 1 j h)))
 
-  pub above-sections : setsA p < j → rangeValidity p j c a ≡ refused (refusal out_of_range 0 0 0)
-  above-sections h = range-out (and-false-l _ (and_false_r _ (lt-leb j (setsA p) h)))
+  pub above-sections : setsA p < j → rangeValidity p j c a ≡ refused (refusal out-of-range 0 0 0)
+  above-sections h = range-out (and-false-l _ (and-false-r _ (lt-leb j (setsA p) h)))
 
-  pub above-concrete : nC p ≤ c → rangeValidity p j c a ≡ refused (refusal out_of_range 0 0 0)
-  above-concrete h = range-out (and_false_r _ (and-false-l _ (le-ltb c (nC p) h)))
+  pub above-concrete : nC p ≤ c → rangeValidity p j c a ≡ refused (refusal out-of-range 0 0 0)
+  above-concrete h = range-out (and-false-r _ (and-false-l _ (le-ltb c (nC p) h)))
 
-  pub above-abstract : nA p ≤ a → rangeValidity p j c a ≡ refused (refusal out_of_range 0 0 0)
-  above-abstract h = range-out (and_false_r _ (and_false_r _ (le-ltb a (nA p) h)))
+  pub above-abstract : nA p ≤ a → rangeValidity p j c a ≡ refused (refusal out-of-range 0 0 0)
+  above-abstract h = range-out (and-false-r _ (and-false-r _ (le-ltb a (nA p) h)))
 
   pub in-range : 1 ≤ j → j ≤ setsA p → c < nC p → a < nA p → rangeValidity p j c a ≡ valid
   unfolding rangeValidity
-  in-range lo hi hc ha = rw (and_i (and_i (le-leb 1 j lo) (le-leb j (setsA p) hi)) (and_i (lt-ltb c (nC p) hc) (lt-ltb a (nA p) ha)))
+  in-range lo hi hc ha = rw (and-i (and-i (le-leb 1 j lo) (le-leb j (setsA p) hi)) (and-i (lt-ltb c (nC p) hc) (lt-ltb a (nA p) ha)))
 
-  pub range_at : rangeValidity p j c a ≡ valid → ((1 ≤ j) × (j ≤ setsA p)) × ((c < nC p) × (a < nA p))
+  pub range-at : rangeValidity p j c a ≡ valid → ((1 ≤ j) × (j ≤ setsA p)) × ((c < nC p) × (a < nA p))
   unfolding rangeValidity
-  range_at e =
+  range-at e =
       let t = (valid-if _ _ _ e).0 in
-      let s = and_l _ _ t in
-      let q = and_r _ _ t in
-      ((leb-true 1 j (and_l _ _ s), leb-true j (setsA p) (and_r _ _ s)), (ltb-true c (nC p) (and_l _ _ q), ltb-true a (nA p) (and_r _ _ q)))
+      let s = and-l _ _ t in
+      let q = and-r _ _ t in
+      ((leb-true 1 j (and-l _ _ s), leb-true j (setsA p) (and-r _ _ s)), (ltb-true c (nC p) (and-l _ _ q), ltb-true a (nA p) (and-r _ _ q)))
 
   -- the tests in their order decide the answer
   module _ (F : List ℕ) where
-    pub looked-refused : {r : Refusal} → and_then (nonemptyValidity p) (rangeValidity p j c a) ≡ refused r → lookUpAnswer p F j c a ≡ refused r
+    pub looked-refused : {r : Refusal} → andThen (nonemptyValidity p) (rangeValidity p j c a) ≡ refused r → lookUpAnswer p F j c a ≡ refused r
     unfolding lookUpAnswer
     looked-refused e = sym (then-then (nonemptyValidity p) (rangeValidity p j c a) _) ∙ then-refused _ _ _ e
 
-    pub looked-up : and_then (nonemptyValidity p) (rangeValidity p j c a) ≡ valid → lookUpAnswer p F j c a ≡ answer (stillIn p F (j - 1) c a)
+    pub looked-up : andThen (nonemptyValidity p) (rangeValidity p j c a) ≡ valid → lookUpAnswer p F j c a ≡ answer (stillIn p F (j - 1) c a)
     unfolding lookUpAnswer
     looked-up e = sym (then-then (nonemptyValidity p) (rangeValidity p j c a) _) ∙ then-of _ _ e
 
@@ -191,7 +191,7 @@ pub still-in-is : (p : Pair) → WellPair p → (F : List ℕ) (j c a : ℕ) →
 unfolding stillIn mem sectionOf
 still-in-is p w F j c a hj hc ha =
     ap (λ (S : List ℕ). hasBit (get_or S c 0) a) (family-at p w F j hj) ∙ mem-pairSet p (mem p (sectionOf F j)) c a hc ha
-    ∙ ap (λ (m : ℕ). and (matched p c a) (hasBit m a)) (table_at 64 (λ i. get_or F (j * 64 + i) 0) c 0 (omega (arith, w.concrete.states-high)))
+    ∙ ap (λ (m : ℕ). and (matched p c a) (hasBit m a)) (table-at 64 (λ i. get_or F (j * 64 + i) 0) c 0 (omega (arith, w.concrete.states-high)))
 
 module _ (p : Pair) (w : WellPair p) (F : List ℕ) (j c a : ℕ) (hj : j < setsA p) (hc : c < nC p) (ha : a < nA p) {same : Bool}
     (compared : same ≡ sameObservation p.hidden (get_or p.concrete.observations c 0) (get_or p.abstraction.observations a 0)) where

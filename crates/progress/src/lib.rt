@@ -7,7 +7,7 @@ ghost use Rattle.std.specs.Prelude.{true, ◌≡◌, ◌<◌, ◌≤◌, eqb, le
 ghost use Rattle.mask.specs.Bounded.{every};
 ghost use Rattle.mask.specs.Tables.{front};
 ghost use Rattle.machine.specs.Machines.{nC, nA, setsA};
-ghost use Rattle.machine.specs.Refusals.{tested_of, and_then};
+ghost use Rattle.machine.specs.Refusals.{testedOf, andThen};
 ghost use Rattle.machine.specs.Table.{entries};
 ghost use Rattle.machine.specs.WellFormed.{nonemptyValidity, wellFormed};
 ghost use Rattle.progress.specs.Answers.{turnedOf, lookedUpOf};
@@ -64,8 +64,8 @@ fn first_rows(p: Pair) -> [u64; 448]
 
 // The family before the first turn: all matched pairs in every section.
 pub fn first_family(p: Pair) -> FirstFamily
-    ensures validity_value { tested_of result.validity ≡ nonemptyValidity p }
-    ensures family_value { result.family ≡ firstGiven p }
+    ensures validity { testedOf result.validity ≡ nonemptyValidity p }
+    ensures family { result.family ≡ firstGiven p }
 {
     let valid = validity::pair_validity(p, validity::NONEMPTY_SETS);
     match valid {
@@ -117,9 +117,9 @@ fn entries_of(p: Pair) -> usize
 // A turn: every section's set afresh from the family. It is finished if each row is as it was; only then it writes the table, the ranks over
 // the family, into a lent table of 28,672 entries or more: exactly n x P entries.
 pub fn turn(p: Pair, family: [u64; 448], table: &mut [u16]) -> TurnMade
-    ensures said_value { turnedOf result.said ≡ turnAnswer p family (length table.old) }
-    ensures family_value { result.family ≡ turnFamily p family (length table.old) }
-    ensures table_after { table.new ≡ turnTable p family table.old }
+    ensures answer { turnedOf result.said ≡ turnAnswer p family (length table.old) }
+    ensures family { result.family ≡ turnFamily p family (length table.old) }
+    ensures content { table.new ≡ turnTable p family table.old }
 {
     if table.len() < machine::TABLE_ROOM {
         return TurnMade {
@@ -167,7 +167,7 @@ fn still_in(p: Pair, family: [u64; 448], j: usize, c: usize, a: usize) -> bool
 
 // 20 for a section, counted from 1, or a state that is out of range.
 fn range_validity(p: Pair, section: usize, c: usize, a: usize) -> Validity
-    ensures { tested_of result ≡ rangeValidity p section c a }
+    ensures { testedOf result ≡ rangeValidity p section c a }
 {
     let concrete = p.concrete;
     let abstraction = p.abstraction;
@@ -189,7 +189,7 @@ fn range_validity(p: Pair, section: usize, c: usize, a: usize) -> Validity
 
 // The first refusal of two tests.
 fn first_refusal(first: Validity, second: Validity) -> Validity
-    ensures { tested_of result ≡ and_then (tested_of first) (tested_of second) }
+    ensures { testedOf result ≡ andThen (testedOf first) (testedOf second) }
 {
     match first {
         Validity::Refused(r) => Validity::Refused(r),

@@ -5,7 +5,7 @@ ghost use Rattle.std.specs.Prelude.{List, [], ◌∷◌, ◌++◌, ◌≡◌, �
 ghost use Rattle.text.specs.Decimal.{decimal};
 ghost use Rattle.verdict.specs.Outcomes.{outcomeOf};
 ghost use Rattle.report.specs.Text.{refusalLine, outcomeLine, shelfLine};
-ghost use Rattle.report.specs.Answers.{line_of};
+ghost use Rattle.report.specs.Answers.{lineOf};
 
 use machine::Refusal;
 use verdict::FileVerdict;
@@ -20,8 +20,8 @@ pub struct Line {
 // The line that holds a word.
 fn started(word: &[u8]) -> Line
     requires { length word.now ≤ 128 }
-    ensures value { result ≡ line_of word.now }
-    ensures length_value { result.length ≡ length word.now }
+    ensures value { result ≡ lineOf word.now }
+    ensures length { result.length ≡ length word.now }
 {
     let mut text = [0u8; 128];
     text::put(&mut text, 0, word);
@@ -34,8 +34,8 @@ fn started(word: &[u8]) -> Line
 // The line with a number's digits and one byte more.
 fn numbered(line: Line, n: usize, after: u8) -> Line
     requires { line.length + 21 ≤ 128 }
-    ensures by_index { (s : List ℕ) → line ≡ line_of s → result ≡ line_of (s ++ (decimal n ++ (after ∷ []))) }
-    ensures length_bound { result.length ≤ line.length + 21 }
+    ensures appended { (s : List ℕ) → line ≡ lineOf s → result ≡ lineOf (s ++ (decimal n ++ (after ∷ []))) }
+    ensures room { result.length ≤ line.length + 21 }
 {
     let mut text = line.text;
     let at = line.length;
@@ -49,8 +49,8 @@ fn numbered(line: Line, n: usize, after: u8) -> Line
 
 // The line of a refusal.
 pub fn refusal_line(r: Refusal) -> Line
-    ensures value { result ≡ line_of (refusalLine r) }
-    ensures length_bound { result.length ≤ 128 }
+    ensures value { result ≡ lineOf (refusalLine r) }
+    ensures room { result.length ≤ 128 }
 {
     let word = started(b"refused ");
     let number = numbered(word, r.number as usize, b' ');
@@ -61,8 +61,8 @@ pub fn refusal_line(r: Refusal) -> Line
 
 // The line of what is said of a file.
 pub fn verdict_line(v: FileVerdict) -> Line
-    ensures value { result ≡ line_of (outcomeLine (outcomeOf v)) }
-    ensures length_bound { result.length ≤ 128 }
+    ensures value { result ≡ lineOf (outcomeLine (outcomeOf v)) }
+    ensures room { result.length ≤ 128 }
 {
     match v {
         FileVerdict::Carried(n) => numbered(started(b"carried "), n, b'\n'),
@@ -78,8 +78,8 @@ pub fn verdict_line(v: FileVerdict) -> Line
 
 // The line of the file whose bytes are the input, or the first 59,904 bytes of longer input.
 pub fn shelf_line(bytes: &[u8]) -> Line
-    ensures value { result ≡ line_of (shelfLine bytes.now) }
-    ensures length_bound { result.length ≤ 128 }
+    ensures value { result ≡ lineOf (shelfLine bytes.now) }
+    ensures room { result.length ≤ 128 }
 {
     if codec::INPUT_ROOM < bytes.len() {
         verdict_line(verdict::file_verdict(&bytes[..codec::INPUT_ROOM]))

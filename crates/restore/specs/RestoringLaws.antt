@@ -8,7 +8,7 @@ use Rattle.std.proofs.Math.ListN.{length, get_or, drop}
 use Rattle.std.proofs.lemmas.List.{length-replicate}
 use Rattle.machine.specs.declared.Pair.{Pair}
 use Rattle.machine.specs.declared.Refusal.{Refusal}
-use Rattle.machine.specs.Refusals.{answer, refused, valid, refusal, and_then, bufferValidity, short-buffer}
+use Rattle.machine.specs.Refusals.{answer, refused, valid, refusal, andThen, bufferValidity, short-buffer}
 use Rattle.machine.specs.RefusalsLaws.{then-of, then-refused, then-answer, given-at, given-refused, buffer-valid, buffer-short, buffer-room, buffer-made, buffer-kept}
 use Rattle.machine.specs.WellFormed.{nonemptyValidity, nonemptySets}
 use Rattle.machine.specs.EmptySetsLaws.{nonempty-valid, nonempty-at}
@@ -18,11 +18,11 @@ use Rattle.codec.specs.declared.Reading.TheVariants as reading
 use Rattle.codec.specs.declared.Show.{Show}
 use Rattle.codec.specs.Format.{fileOf}
 use Rattle.codec.specs.FormatLaws.{file-length, file-cong}
-use Rattle.codec.specs.Reader.{note_of, pair_of, readValidity, readAnswer, readTable}
+use Rattle.codec.specs.Reader.{noteOf, pairOf, readValidity, readAnswer, readTable}
 use Rattle.codec.specs.Writer.{fileRoom, writeAnswer, writeBuffer}
 use Rattle.codec.specs.WriterLaws.{with-room, answer-small}
-use Rattle.codec.specs.Answers.{read_of}
-use Rattle.codec.specs.AnswersLaws.{read_taken, read-refused}
+use Rattle.codec.specs.Answers.{readOf}
+use Rattle.codec.specs.AnswersLaws.{read-taken, read-refused}
 use Rattle.codec.specs.FileLaws.{Was, was-taken, was-long, was-well, write-answers}
 use Rattle.solver.specs.Solver.{solveValidity, solvedTable}
 use Rattle.solver.specs.SolverLaws.{solve-long}
@@ -46,18 +46,18 @@ module _ (f buffer : List ℕ) where
 
   module _ (room : fileRoom ≤ length buffer) where
     -- the reader is lent a table of exactly the room that it asks for
-    read-tests : restoreValidity f (length buffer) ≡ and_then (readValidity f (length (replicate {A = ℕ} tableRoom 0))) (solveValidity (pair_of f) tableRoom)
+    read-tests : restoreValidity f (length buffer) ≡ andThen (readValidity f (length (replicate {A = ℕ} tableRoom 0))) (solveValidity (pairOf f) tableRoom)
     unfolding restoreValidity
     read-tests =
         then-of _ _ (buffer-valid fileRoom (length buffer) room)
-        ∙ ap (λ (n : ℕ). and_then (readValidity f n) (solveValidity (pair_of f) tableRoom)) (sym (length-replicate {A = ℕ} tableRoom 0))
+        ∙ ap (λ (n : ℕ). andThen (readValidity f n) (solveValidity (pairOf f) tableRoom)) (sym (length-replicate {A = ℕ} tableRoom 0))
 
     -- whatever was lent to a reader that took the file, the machines' sets are left to be tested
     solve-tests : {lent : List ℕ} {p : Pair} {note : Bool} → Was f lent p note → restoreValidity f (length buffer) ≡ nonemptyValidity p
     unfolding restoreValidity readValidity
     solve-tests w =
         let read = then-of _ _ (buffer-valid tableRoom tableRoom (omega arith)) ∙ then-of _ _ w.start ∙ then-of _ _ w.blocks ∙ w.machines in
-        then-of _ _ (buffer-valid fileRoom (length buffer) room) ∙ then-of _ _ read ∙ solve-long (pair_of f) tableRoom (omega arith)
+        then-of _ _ (buffer-valid fileRoom (length buffer) room) ∙ then-of _ _ read ∙ solve-long (pairOf f) tableRoom (omega arith)
         ∙ ap nonemptyValidity w.pair_is
 
     -- where they all have a state nothing is refused
@@ -70,7 +70,7 @@ module _ (f buffer : List ℕ) where
     restore-empty w e = stopped _ (solve-tests w ∙ e)
 
     -- ---- by what was read
-    module _ (s : Show) (T : List ℕ) (read : read_of s ≡ readAnswer f (replicate tableRoom 0)) (left : T ≡ readTable f (replicate tableRoom 0)) where
+    module _ (s : Show) (T : List ℕ) (read : readOf s ≡ readAnswer f (replicate tableRoom 0)) (left : T ≡ readTable f (replicate tableRoom 0)) where
       pub restore-refused : (r : Refusal) → s.reading ≡ reading.Refused r → (restoreAnswer f buffer ≡ refused r) × (restoreBuffer f buffer ≡ buffer)
       unfolding readAnswer
       restore-refused r e = stopped r (read-tests ∙ then-refused _ _ r (given-refused _ _ (read-refused s read e)))
@@ -78,7 +78,7 @@ module _ (f buffer : List ℕ) where
       -- of a file that was taken, by what the solver said
       module _ (note : Bool) (e : s.reading ≡ reading.Taken note) where
         was : Was f (replicate tableRoom 0) s.pair note
-        was = was-taken f (replicate tableRoom 0) s.pair note (read_taken s read e)
+        was = was-taken f (replicate tableRoom 0) s.pair note (read-taken s read e)
 
         long : tableRoom ≤ length T
         long = rw left (was-long was)
@@ -110,10 +110,10 @@ unfolding restoreAnswer restoreValidity readAnswer restored
 restore-small f buffer e =
     let t = given-at (restoreValidity f (length buffer)) (length (restored f)) e in
     let a = then-answer (bufferValidity fileRoom (length buffer)) _ t.0 in
-    let b = then-answer (readValidity f tableRoom) (solveValidity (pair_of f) tableRoom) a.1 in
-    let p = pair_of f in
+    let b = then-answer (readValidity f tableRoom) (solveValidity (pairOf f) tableRoom) a.1 in
+    let p = pairOf f in
     let lent : List ℕ = replicate tableRoom 0 in
-    let was = was-taken f lent p (note_of f) (then-of _ _ (ap (readValidity f) (length-replicate {A = ℕ} tableRoom 0) ∙ b.0)) in
+    let was = was-taken f lent p (noteOf f) (then-of _ _ (ap (readValidity f) (length-replicate {A = ℕ} tableRoom 0) ∙ b.0)) in
     let nonempty = (nonempty-at p (sym (solve-long p tableRoom (omega arith)) ∙ b.1)).1 in
     let written = write-answers p true (readTable f lent) buffer (was-well was) nonempty (was-long was) (buffer-room fileRoom (length buffer) a.0) in
     omega (arith, t.1, file-length p true (solverTable p), answer-small p true (readTable f lent) buffer written)

@@ -2,7 +2,7 @@
 use Rattle.std.specs.Prelude.{Bool, true, false, cond, List, [], ◌∷◌, ℕ, ◌+◌, ◌-◌, min, get_or, eqb, ltb}
 use Rattle.std.specs.Int.Bits.{bit_xor}
 use Rattle.mask.specs.Bits.{withBit, fullMask}
-use Rattle.mask.specs.Tables.{table, mask_of}
+use Rattle.mask.specs.Tables.{table, maskOf}
 use Rattle.machine.specs.declared.Machine.{Machine}
 use Rattle.machine.specs.declared.Pair.{Pair}
 use Rattle.machine.specs.Machines.{pairUnder}
@@ -74,7 +74,7 @@ ringMachine abstraction back entry rings = record {
   start = bit_xor (fullMask (min (rings.first + rings.second) 64)) (fullMask (min (cond abstraction rings.first 0) 64));
   observations = table 64 (λ s. (ringState abstraction back entry rings s).observation);
   successors = table 64 (λ s. (ringState abstraction back entry rings s).successors);
-  fairness = table 8 (λ k. cond (ltb k rings.sets) (mask_of 64 (λ s. (ringState abstraction back entry rings s).fair)) 0);
+  fairness = table 8 (λ k. cond (ltb k rings.sets) (maskOf 64 (λ s. (ringState abstraction back entry rings s).fair)) 0);
 }
 
 -- a pair of such machines, of the second family where `back` says so, with no bit hidden

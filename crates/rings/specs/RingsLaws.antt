@@ -7,7 +7,7 @@ use Rattle.std.proofs.Math.ListN.{length, get_or-eq_default}
 use Rattle.std.proofs.lemmas.List.{length-replicate}
 use Rattle.mask.specs.Bits.{fullMask, withBit}
 use Rattle.mask.specs.FrontLaws.{front-all, front-none, front-turn}
-use Rattle.mask.specs.Tables.{front, mask_of, table}
+use Rattle.mask.specs.Tables.{front, maskOf, table}
 use Rattle.mask.specs.TablesLaws.{maskOf-hit, maskOf-miss}
 use Rattle.rings.specs.declared.Rings.{Rings}
 use Rattle.rings.specs.declared.State.{State}
@@ -26,15 +26,15 @@ module _ (abstraction back : Bool) (entry : ℕ) (rings : Rings) where
     pub few : s ≤ 64
     pub observations-are : observations ≡ front s (λ k. (at k).observation) (replicate 64 0)
     pub successors-are : successors ≡ front s (λ k. (at k).successors) (replicate 64 0)
-    pub fair-is : fair ≡ mask_of s (λ k. (at k).fair)
+    pub fair-is : fair ≡ maskOf s (λ k. (at k).fair)
 
-  pub made_none : Made 0 (replicate 64 0) (replicate 64 0) 0
-  unfolding mask_of
-  made_none = record { few = omega arith; observations-are = front-none _ _; successors-are = front-none _ _; fair-is = refl }
+  pub made-none : Made 0 (replicate 64 0) (replicate 64 0) 0
+  unfolding maskOf
+  made-none = record { few = omega arith; observations-are = front-none _ _; successors-are = front-none _ _; fair-is = refl }
 
   module _ {s : ℕ} {observations successors : List ℕ} {fair : ℕ} (m : Made s observations successors fair) (state : State) (e : state ≡ at s) (h : s < 64) where
-    one_more : (more : ℕ) → more ≡ mask_of (s + 1) (λ k. (at k).fair) → Made (s + 1) (set observations s state.observation) (set successors s state.successors) more
-    one_more more q = record {
+    one-more : (more : ℕ) → more ≡ maskOf (s + 1) (λ k. (at k).fair) → Made (s + 1) (set observations s state.observation) (set successors s state.successors) more
+    one-more more q = record {
       few = omega arith;
       observations-are = front-turn _ _ m.observations-are (rw (length-replicate {A = ℕ} 64 0) h) (rw e);
       successors-are = front-turn _ _ m.successors-are (rw (length-replicate {A = ℕ} 64 0) h) (rw e);
@@ -42,10 +42,10 @@ module _ (abstraction back : Bool) (entry : ℕ) (rings : Rings) where
     }
 
     pub made-fair : {more : ℕ} → state.fair ≡ true → more ≡ withBit fair s → Made (s + 1) (set observations s state.observation) (set successors s state.successors) more
-    made-fair t q = one_more _ (q ∙ rw (m.fair-is, add-one) (maskOf-hit s (λ k. (at k).fair) h (rw e at t)))
+    made-fair t q = one-more _ (q ∙ rw (m.fair-is, add-one) (maskOf-hit s (λ k. (at k).fair) h (rw e at t)))
 
-    pub made_other : {more : ℕ} → state.fair ≡ false → more ≡ fair → Made (s + 1) (set observations s state.observation) (set successors s state.successors) more
-    made_other t q = one_more _ (q ∙ rw (m.fair-is, add-one) (maskOf-miss s (λ k. (at k).fair) (rw e at t)))
+    pub made-other : {more : ℕ} → state.fair ≡ false → more ≡ fair → Made (s + 1) (set observations s state.observation) (set successors s state.successors) more
+    made-other t q = one-more _ (q ∙ rw (m.fair-is, add-one) (maskOf-miss s (λ k. (at k).fair) (rw e at t)))
 
   -- a machine from its parts
   pub machine-is : {s fair states whole low lower : ℕ} {observations successors fairness : List ℕ} → Made s observations successors fair → s ≡ 64
@@ -65,5 +65,5 @@ module _ (abstraction back : Bool) (entry : ℕ) (rings : Rings) where
       let n : s ≡ length (replicate {A = ℕ} 64 0) = z in
       let eo : observations ≡ table 64 (λ k. (at k).observation) = front-all _ _ m.observations-are n in
       let em : successors ≡ table 64 (λ k. (at k).successors) = front-all _ _ m.successors-are n in
-      let er : fair ≡ mask_of 64 (λ k. (at k).fair) = m.fair-is ∙ ap (λ (i : ℕ). mask_of i (λ k. (at k).fair)) z in
+      let er : fair ≡ maskOf 64 (λ k. (at k).fair) = m.fair-is ∙ ap (λ (i : ℕ). maskOf i (λ k. (at k).fair)) z in
       rw (en, ew, es, el, eo, em, ef, er)

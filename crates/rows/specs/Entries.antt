@@ -2,15 +2,15 @@
 use Rattle.std.specs.Prelude.{cond, List, ℕ, ◌+◌, ◌*◌, ◌/◌, ◌%◌, eqb, ltb, leb, length, get_or}
 use Rattle.std.specs.Int.Bits.{bit_and, bit_xor}
 use Rattle.mask.specs.Bits.{hasBit}
-use Rattle.mask.specs.Tables.{mask_of, table}
+use Rattle.mask.specs.Tables.{maskOf, table}
 
 -- the states whose entry in a row is at most the bound
 unfoldable pub rowUpto : List ℕ → ℕ → ℕ
-rowUpto row bound = mask_of (length row) (λ a. leb (get_or row a 0) bound)
+rowUpto row bound = maskOf (length row) (λ a. leb (get_or row a 0) bound)
 
 -- the pairs of a section whose entry is at most the bound
 unfoldable pub uptoRows : ℕ → ℕ → List ℕ → ℕ → List ℕ
-uptoRows nC nA part bound = table 64 (λ c. let row = mask_of nA (λ a. leb (get_or part (c * nA + a) 0) bound) in cond (ltb c nC) row 0)
+uptoRows nC nA part bound = table 64 (λ c. let row = maskOf nA (λ a. leb (get_or part (c * nA + a) 0) bound) in cond (ltb c nC) row 0)
 
 -- how many rows entries have: nC where they are a section of nC by nA pairs, of at most 64 by 64, and else none
 unfoldable pub rowCount : ℕ → ℕ → ℕ → ℕ

@@ -2,7 +2,7 @@
 use Rattle.std.specs.Prelude.{true, cond, List, ◌≡◌, ℕ, ◌≤◌, ◌<◌, length, get_or}
 use Rattle.std.specs.Int.Bits.{bit_or}
 use Rattle.mask.specs.Bits.{hasBit}
-use Rattle.rows.specs.Rows.{predecessorsOf, meet_of, partnerRows}
+use Rattle.rows.specs.Rows.{predecessorsOf, meetOf, partnerRows}
 
 -- every pair of x is one of y
 abbrev pub Inside : ℕ → List ℕ → List ℕ → Type 0
@@ -11,7 +11,7 @@ Inside nC x y = (c a : ℕ) → c < nC → hasBit (get_or x c 0) a ≡ true → 
 module _ (nC : ℕ) (moves predecessors base : List ℕ) (members : ℕ) where
   -- what may be in row c of x: the base, and outside the members what steps into x
   unfoldable pub ruleRow : List ℕ → ℕ → ℕ
-  ruleRow x c = bit_or (get_or base c 0) (cond (hasBit members c) 0 (meet_of (get_or moves c 0) (partnerRows nC predecessors x)))
+  ruleRow x c = bit_or (get_or base c 0) (cond (hasBit members c) 0 (meetOf (get_or moves c 0) (partnerRows nC predecessors x)))
 
   -- each row of x meets the rule
   abbrev pub Meets : List ℕ → Type 0

@@ -10,25 +10,25 @@ use Rattle.std.proofs.Math.ListN.{get_or}
 use Rattle.std.specs.Int.Bits.{bit_and}
 use Rattle.std.proofs.lemmas.Nat.{and_le_l}
 use Rattle.mask.specs.Logic.{and, or}
-use Rattle.mask.specs.LogicLaws.{both, clash, and-true-l, and_true_r, and_false_r, or_l, or-e}
+use Rattle.mask.specs.LogicLaws.{both, clash, and-true-l, and-true-r, and-false-r, or-l, or-e}
 use Rattle.mask.specs.Bits.{hasBit}
 use Rattle.mask.specs.BitsLaws.{has-and, has-or, has-none}
 use Rattle.mask.specs.Bounded.{everyIn, someIn}
 use Rattle.mask.specs.BoundedLaws.{everyIn-at, everyIn-of, someIn-at, someIn-of}
-use Rattle.mask.specs.Tables.{mask_of, table}
-use Rattle.mask.specs.TablesLaws.{table_at, table-past, table-cong, fill_done, maskOf-lt, maskOf-is, has-maskOf-at}
+use Rattle.mask.specs.Tables.{maskOf, table}
+use Rattle.mask.specs.TablesLaws.{table-at, table-past, table-cong, fill-done, maskOf-lt, maskOf-is, has-maskOf-at}
 use Rattle.mask.specs.FrontLaws.{zeros-at}
 use Rattle.machine.specs.declared.Pair.{Pair}
 use Rattle.machine.specs.Machines.{successors, moves, fairSet, inFairSet, matched, next, nC, nA, setsA}
 use Rattle.machine.specs.Step.{singleStep, found, alike, steps}
 use Rattle.machine.specs.SingleStepLaws.{single-found}
 use Rattle.machine.specs.Observed.{matchedMasks}
-use Rattle.machine.specs.ObservedLaws.{matched-length, matched-at, row_out, has-matched-at, matched-small}
+use Rattle.machine.specs.ObservedLaws.{matched-length, matched-at, row-out, has-matched-at, matched-small}
 use Rattle.machine.specs.WellFormedLaws.{WellPair}
 use Rattle.machine.specs.Game.{pairSet, mem, sameSet, allMatched, goals}
 use Rattle.theory.specs.GameLaws.{Canonical, pairSet-cong, set-ext, same_of, same-within, same-holds}
-use Rattle.rows.specs.Rows.{rows_of, pairsIn, predecessorsOf, partnersOf, partnerRows, meet_of, stepRows, goalRows, joinRows, same_rows, abstractPredecessors, steps_of}
-use Rattle.rows.specs.RowsLaws.{has-predecessor, no-predecessor, same-yes, same_at}
+use Rattle.rows.specs.Rows.{rowsOf, pairsIn, predecessorsOf, partnersOf, partnerRows, meetOf, stepRows, goalRows, joinRows, sameRows, abstractPredecessors, steps-of}
+use Rattle.rows.specs.RowsLaws.{has-predecessor, no-predecessor, same-yes, same-at}
 
 -- ---- a mask whose states lie below w, read at a larger width
 module _ (v w m : ℕ) (f g : ℕ → Bool) (wide : w ≤ v) (fits : (i : ℕ) → i < v → hasBit m i ≡ true → i < w) (alike : (i : ℕ) → i < w → f i ≡ g i) where
@@ -66,14 +66,14 @@ partners-found n moves row present a ha wide inside =
     listed b h t = has-predecessor n moves a b wide ha (inside b h t) ∙ t
 
 -- ---- sets and their rows
-pub rows_at : (S : List ℕ) (c : ℕ) → c < 64 → get_or (rows_of S) c 0 ≡ get_or S c 0
-unfolding rows_of
-rows_at S c h = table_at 64 (λ i. get_or S i 0) c 0 h
+pub rows-at : (S : List ℕ) (c : ℕ) → c < 64 → get_or (rowsOf S) c 0 ≡ get_or S c 0
+unfolding rowsOf
+rows-at S c h = table-at 64 (λ i. get_or S i 0) c 0 h
 
 module _ (p : Pair) where
   pub in-at : (rows : List ℕ) (c : ℕ) → c < nC p → get_or (pairsIn p rows) c 0 ≡ get_or rows c 0
   unfolding pairsIn
-  in-at rows c h = table_at (nC p) (λ i. get_or rows i 0) c 0 h
+  in-at rows c h = table-at (nC p) (λ i. get_or rows i 0) c 0 h
 
   pub in-past : (rows : List ℕ) (c : ℕ) → nC p ≤ c → get_or (pairsIn p rows) c 0 ≡ 0
   unfolding pairsIn
@@ -83,65 +83,65 @@ module _ (p : Pair) where
   unfolding mem
   mem-in rows c a h = ap (λ (m : ℕ). hasBit m a) (in-at rows c h)
 
-  pub set-row : (f : ℕ → ℕ → Bool) (c : ℕ) → c < nC p → get_or (pairSet p f) c 0 ≡ mask_of (nA p) (λ a. and (matched p c a) (f c a))
+  pub set-row : (f : ℕ → ℕ → Bool) (c : ℕ) → c < nC p → get_or (pairSet p f) c 0 ≡ maskOf (nA p) (λ a. and (matched p c a) (f c a))
   unfolding pairSet
-  set-row f c h = table_at (nC p) _ c 0 h
+  set-row f c h = table-at (nC p) _ c 0 h
 
-  pub set_past : (f : ℕ → ℕ → Bool) (c : ℕ) → nC p ≤ c → get_or (pairSet p f) c 0 ≡ 0
+  pub set-past : (f : ℕ → ℕ → Bool) (c : ℕ) → nC p ≤ c → get_or (pairSet p f) c 0 ≡ 0
   unfolding pairSet
-  set_past f c h = table-past (nC p) _ c 0 h
+  set-past f c h = table-past (nC p) _ c 0 h
 
   module _ (w : WellPair p) where
     wide : (c : ℕ) → c < nC p → c < 64
     wide c h = omega (arith, w.concrete.states-high)
 
     -- a set comes back from its rows
-    pub set_back : (S : List ℕ) → Canonical p S → pairsIn p (rows_of S) ≡ S
+    pub set-back : (S : List ℕ) → Canonical p S → pairsIn p (rowsOf S) ≡ S
     unfolding pairsIn pairSet
-    set_back S q =
-        table-cong (nC p) _ _ (λ c h. rows_at S c (wide c h) ∙ ap (λ (l : List ℕ). get_or l c 0) q ∙ table_at (nC p) _ c 0 h) ∙ sym q
+    set-back S q =
+        table-cong (nC p) _ _ (λ c h. rows-at S c (wide c h) ∙ ap (λ (l : List ℕ). get_or l c 0) q ∙ table-at (nC p) _ c 0 h) ∙ sym q
 
     -- rows that have exactly the pairs of f are those of its set
-    pub rows_is : (g : ℕ → ℕ) (f : ℕ → ℕ → Bool) → ((c : ℕ) → c < nC p → g c < 2 ^ nA p)
+    pub rows-is : (g : ℕ → ℕ) (f : ℕ → ℕ → Bool) → ((c : ℕ) → c < nC p → g c < 2 ^ nA p)
         → ((c a : ℕ) → c < nC p → a < nA p → hasBit (g c) a ≡ and (matched p c a) (f c a))
-        → ((c : ℕ) → nC p ≤ c → c < 64 → g c ≡ 0) → table 64 g ≡ rows_of (pairSet p f)
-    unfolding rows_of
-    rows_is g f low bits past = table-cong 64 _ _ (λ c h. by_cases (dec_lt c (nC p))
+        → ((c : ℕ) → nC p ≤ c → c < 64 → g c ≡ 0) → table 64 g ≡ rowsOf (pairSet p f)
+    unfolding rowsOf
+    rows-is g f low bits past = table-cong 64 _ _ (λ c h. by_cases (dec_lt c (nC p))
         (λ l. maskOf-is (nA p) (g c) _ (low c l) (λ a q. bits c a l q) ∙ sym (set-row f c l))
-        (λ l. past c (omega arith) h ∙ sym (set_past f c (omega arith))))
+        (λ l. past c (omega arith) h ∙ sym (set-past f c (omega arith))))
 
     -- the rows of a set: their states, their size, and what lies beyond
-    row-bit : (f : ℕ → ℕ → Bool) (c a : ℕ) → c < nC p → a < nA p → hasBit (get_or (rows_of (pairSet p f)) c 0) a ≡ and (matched p c a) (f c a)
-    row-bit f c a hc ha = ap (λ (m : ℕ). hasBit m a) (rows_at (pairSet p f) c (wide c hc) ∙ set-row f c hc) ∙ has-maskOf-at (nA p) _ a ha
+    row-bit : (f : ℕ → ℕ → Bool) (c a : ℕ) → c < nC p → a < nA p → hasBit (get_or (rowsOf (pairSet p f)) c 0) a ≡ and (matched p c a) (f c a)
+    row-bit f c a hc ha = ap (λ (m : ℕ). hasBit m a) (rows-at (pairSet p f) c (wide c hc) ∙ set-row f c hc) ∙ has-maskOf-at (nA p) _ a ha
 
-    row_small : (f : ℕ → ℕ → Bool) (c : ℕ) → c < nC p → get_or (rows_of (pairSet p f)) c 0 < 2 ^ nA p
-    row_small f c h = rw (rows_at (pairSet p f) c (wide c h), set-row f c h) (maskOf-lt (nA p) _)
+    row-small : (f : ℕ → ℕ → Bool) (c : ℕ) → c < nC p → get_or (rowsOf (pairSet p f)) c 0 < 2 ^ nA p
+    row-small f c h = rw (rows-at (pairSet p f) c (wide c h), set-row f c h) (maskOf-lt (nA p) _)
 
-    pub rows-small : (S : List ℕ) → Canonical p S → (c : ℕ) → c < nC p → get_or (rows_of S) c 0 < 2 ^ nA p
-    rows-small S q c h = rw q (row_small (mem p S) c h)
+    pub rows-small : (S : List ℕ) → Canonical p S → (c : ℕ) → c < nC p → get_or (rowsOf S) c 0 < 2 ^ nA p
+    rows-small S q c h = rw q (row-small (mem p S) c h)
 
     -- two sets have the same rows exactly if they are the same
-    pub rows_same : (n : ℕ) → nC p ≤ n → n ≤ 64 → (S R : List ℕ) → Canonical p S → Canonical p R → same_rows n (rows_of S) (rows_of R) ≡ sameSet p S R
+    pub rows-same : (n : ℕ) → nC p ≤ n → n ≤ 64 → (S R : List ℕ) → Canonical p S → Canonical p R → sameRows n (rowsOf S) (rowsOf R) ≡ sameSet p S R
     unfolding mem
-    rows_same n k k64 S R qs qr = both _ _
+    rows-same n k k64 S R qs qr = both _ _
         (λ t. same_of p S R (λ c a hc ha u. ap (λ (m : ℕ). hasBit m a) (sym (equal t c hc)) ∙ u) (λ c a hc ha u. ap (λ (m : ℕ). hasBit m a) (equal t c hc) ∙ u))
-        (λ t. rw (set-ext p S R qs qr (same-within p S R t) (same-holds p S R t)) (same-yes n (rows_of R) (rows_of R) (λ c h. refl)))
+        (λ t. rw (set-ext p S R qs qr (same-within p S R t) (same-holds p S R t)) (same-yes n (rowsOf R) (rowsOf R) (λ c h. refl)))
       where
-        equal : same_rows n (rows_of S) (rows_of R) ≡ true → (c : ℕ) → c < nC p → get_or S c 0 ≡ get_or R c 0
-        equal t c h = sym (rows_at S c (wide c h)) ∙ same_at n (rows_of S) (rows_of R) t c (omega arith) ∙ rows_at R c (wide c h)
+        equal : sameRows n (rowsOf S) (rowsOf R) ≡ true → (c : ℕ) → c < nC p → get_or S c 0 ≡ get_or R c 0
+        equal t c h = sym (rows-at S c (wide c h)) ∙ same-at n (rowsOf S) (rowsOf R) t c (omega arith) ∙ rows-at R c (wide c h)
 
     -- ---- all matched pairs
     abbrev M : List ℕ
     M = matchedMasks p
 
     M-past : (c : ℕ) → nC p ≤ c → c < 64 → get_or M c 0 ≡ 0
-    M-past c h k = matched-at p c k ∙ row_out _ _ _ (nC p) (nA p) c h
+    M-past c h k = matched-at p c k ∙ row-out _ _ _ (nC p) (nA p) c h
 
-    pub matched-rows : matchedMasks p ≡ rows_of (allMatched p)
+    pub matched-rows : matchedMasks p ≡ rowsOf (allMatched p)
     unfolding allMatched
     matched-rows =
-        fill_done 0 64 M (λ c. get_or M c 0) (matched-length p) (λ c h. refl)
-        ∙ rows_is (λ c. get_or M c 0) _ (λ c h. matched-small p w c h) (λ c a hc ha. has-matched-at p w c hc a ha ∙ sym (and_true_r _ refl)) M-past
+        fill-done 0 64 M (λ c. get_or M c 0) (matched-length p) (λ c h. refl)
+        ∙ rows-is (λ c. get_or M c 0) _ (λ c h. matched-small p w c h) (λ c a hc ha. has-matched-at p w c hc a ha ∙ sym (and-true-r _ refl)) M-past
 
     -- ---- the pairs that step into the set that rows hold
     abbrev Preds : List ℕ
@@ -150,12 +150,12 @@ module _ (p : Pair) where
     partner-row : (rows : List ℕ) (d : ℕ) → d < nC p → get_or (partnerRows (nC p) Preds rows) d 0 ≡ partnersOf Preds (get_or rows d 0)
     unfolding partnerRows
     partner-row rows d h =
-        table_at 64 (λ i. cond (ltb i (nC p)) (partnersOf Preds (get_or rows i 0)) 0) d 0 (wide d h) ∙ rw (lt-ltb d (nC p) h)
+        table-at 64 (λ i. cond (ltb i (nC p)) (partnersOf Preds (get_or rows i 0)) 0) d 0 (wide d h) ∙ rw (lt-ltb d (nC p) h)
 
-    step_row : (rows : List ℕ) (c : ℕ) → c < nC p → get_or (steps_of p rows) c 0 ≡ meet_of (get_or p.concrete.successors c 0) (partnerRows (nC p) Preds rows)
+    step-row : (rows : List ℕ) (c : ℕ) → c < nC p → get_or (steps-of p rows) c 0 ≡ meetOf (get_or p.concrete.successors c 0) (partnerRows (nC p) Preds rows)
     unfolding stepRows
-    step_row rows c h =
-        table_at 64 (λ i. cond (ltb i (nC p)) (meet_of (get_or p.concrete.successors i 0) (partnerRows (nC p) Preds rows)) 0) c 0 (wide c h) ∙ rw (lt-ltb c (nC p) h)
+    step-row rows c h =
+        table-at 64 (λ i. cond (ltb i (nC p)) (meetOf (get_or p.concrete.successors i 0) (partnerRows (nC p) Preds rows)) 0) c 0 (wide c h) ∙ rw (lt-ltb c (nC p) h)
 
     pub has-partner : (rows : List ℕ) (d a : ℕ) → d < nC p → a < nA p
         → hasBit (get_or (partnerRows (nC p) Preds rows) d 0) a ≡ someIn (nA p) (successors p.abstraction a) (mem p (pairsIn p rows) d)
@@ -168,53 +168,53 @@ module _ (p : Pair) where
         w.abstraction.states-high (λ i l e. w.abstraction.move-bits a i ha l e) (λ b l. sym (mem-in rows d b hd))
 
     -- the meet of partner rows over the moves of c
-    pub has_meet : (rows : List ℕ) (c a : ℕ) → c < nC p → a < nA p
-        → hasBit (meet_of (get_or p.concrete.successors c 0) (partnerRows (nC p) Preds rows)) a ≡ steps p (mem p (pairsIn p rows)) c a
-    unfolding meet_of steps moves successors
-    has_meet rows c a hc ha =
+    pub has-meet : (rows : List ℕ) (c a : ℕ) → c < nC p → a < nA p
+        → hasBit (meetOf (get_or p.concrete.successors c 0) (partnerRows (nC p) Preds rows)) a ≡ steps p (mem p (pairsIn p rows)) c a
+    unfolding meetOf steps moves successors
+    has-meet rows c a hc ha =
         has-maskOf-at 64 _ a (omega (arith, w.abstraction.states-high))
         ∙ everyIn-fit 64 (nC p) (get_or p.concrete.successors c 0) _ _
         w.concrete.states-high (λ i l e. w.concrete.move-bits c i hc l e) (λ d l. has-partner rows d a l ha)
 
-    pub has-step : (rows : List ℕ) (c a : ℕ) → c < nC p → a < nA p → hasBit (get_or (steps_of p rows) c 0) a ≡ steps p (mem p (pairsIn p rows)) c a
-    has-step rows c a hc ha = ap (λ (m : ℕ). hasBit m a) (step_row rows c hc) ∙ has_meet rows c a hc ha
+    pub has-step : (rows : List ℕ) (c a : ℕ) → c < nC p → a < nA p → hasBit (get_or (steps-of p rows) c 0) a ≡ steps p (mem p (pairsIn p rows)) c a
+    has-step rows c a hc ha = ap (λ (m : ℕ). hasBit m a) (step-row rows c hc) ∙ has-meet rows c a hc ha
 
     -- ---- rows that are met with the matched pairs
     met-is : (h : ℕ → ℕ) (f : ℕ → ℕ → Bool) → ((c a : ℕ) → c < nC p → a < nA p → hasBit (h c) a ≡ f c a)
-        → table 64 (λ c. bit_and (get_or M c 0) (h c)) ≡ rows_of (pairSet p f)
-    met-is h f bits = rows_is (λ c. bit_and (get_or M c 0) (h c)) f
+        → table 64 (λ c. bit_and (get_or M c 0) (h c)) ≡ rowsOf (pairSet p f)
+    met-is h f bits = rows-is (λ c. bit_and (get_or M c 0) (h c)) f
         (λ c l. omega (arith, and_le_l (get_or M c 0) (h c), matched-small p w c l))
         (λ c a hc ha. has-and a (get_or M c 0) (h c) ∙ ap₂ and (has-matched-at p w c hc a ha) (bits c a hc ha))
         (λ c l k. omega (arith, and_le_l (get_or M c 0) (h c), M-past c l k))
 
     -- the matched pairs of any rows
-    pub held-is : (rows : List ℕ) → joinRows M rows rows ≡ rows_of (pairSet p (mem p rows))
+    pub held-is : (rows : List ℕ) → joinRows M rows rows ≡ rowsOf (pairSet p (mem p rows))
     unfolding joinRows mem
-    held-is rows = met-is _ _ (λ c a hc ha. has-or a (get_or rows c 0) (get_or rows c 0) ∙ both _ _ (λ t. ⊎_elim (λ u. u) (λ u. u) (or-e t)) (λ t. or_l _ t))
+    held-is rows = met-is _ _ (λ c a hc ha. has-or a (get_or rows c 0) (get_or rows c 0) ∙ both _ _ (λ t. ⊎_elim (λ u. u) (λ u. u) (or-e t)) (λ t. or-l _ t))
 
     pub goals-is : (Z : List (List ℕ)) (j : ℕ) (rows : List ℕ) → pairsIn p rows ≡ get_or Z (next (setsA p) j) []
-        → goalRows M (fairSet p.abstraction j) (steps_of p rows) ≡ rows_of (goals p Z j)
+        → goalRows M (fairSet p.abstraction j) (steps-of p rows) ≡ rowsOf (goals p Z j)
     unfolding goalRows goals inFairSet
     goals-is Z j rows e = met-is _ _ (λ c a hc ha.
-        has-and a (fairSet p.abstraction j) (get_or (steps_of p rows) c 0)
+        has-and a (fairSet p.abstraction j) (get_or (steps-of p rows) c 0)
         ∙ ap (and (hasBit (fairSet p.abstraction j) a)) (has-step rows c a hc ha ∙ ap (λ (S : List ℕ). steps p (mem p S) c a) e))
 
     -- ---- what is in X whatever X is: goals, and pairs that step into the level below, each held by rows
-    pub base-is : (goals below : List ℕ) → joinRows M goals (steps_of p below)
-        ≡ rows_of (pairSet p (λ c a. or (mem p (pairsIn p goals) c a) (steps p (mem p (pairsIn p below)) c a)))
+    pub base-is : (goals below : List ℕ) → joinRows M goals (steps-of p below)
+        ≡ rowsOf (pairSet p (λ c a. or (mem p (pairsIn p goals) c a) (steps p (mem p (pairsIn p below)) c a)))
     unfolding joinRows
     base-is goals below = met-is _ _ (λ c a hc ha.
-        has-or a (get_or goals c 0) (get_or (steps_of p below) c 0) ∙ ap₂ or (sym (mem-in goals c a hc)) (has-step below c a hc ha))
+        has-or a (get_or goals c 0) (get_or (steps-of p below) c 0) ∙ ap₂ or (sym (mem-in goals c a hc)) (has-step below c a hc ha))
 
     -- ---- unions
-    pub join_is : (f g : ℕ → ℕ → Bool) → joinRows M (rows_of (pairSet p f)) (rows_of (pairSet p g)) ≡ rows_of (pairSet p (λ c a. or (f c a) (g c a)))
+    pub join-is : (f g : ℕ → ℕ → Bool) → joinRows M (rowsOf (pairSet p f)) (rowsOf (pairSet p g)) ≡ rowsOf (pairSet p (λ c a. or (f c a) (g c a)))
     unfolding joinRows
-    join_is f g =
+    join-is f g =
         met-is _ (λ c a. or (and (matched p c a) (f c a)) (and (matched p c a) (g c a))) (λ c a hc ha.
-        has-or a (get_or (rows_of (pairSet p f)) c 0) (get_or (rows_of (pairSet p g)) c 0) ∙ ap₂ or (row-bit f c a hc ha) (row-bit g c a hc ha))
-        ∙ ap rows_of (pairSet-cong p _ _ (λ c a hc ha m. ap₂ or (and-true-l (f c a) m) (and-true-l (g c a) m)))
+        has-or a (get_or (rowsOf (pairSet p f)) c 0) (get_or (rowsOf (pairSet p g)) c 0) ∙ ap₂ or (row-bit f c a hc ha) (row-bit g c a hc ha))
+        ∙ ap rowsOf (pairSet-cong p _ _ (λ c a hc ha m. ap₂ or (and-true-l (f c a) m) (and-true-l (g c a) m)))
 
-    pub no_rows : (f : ℕ → ℕ → Bool) → ((c a : ℕ) → c < nC p → a < nA p → f c a ≡ false) → replicate 64 0 ≡ rows_of (pairSet p f)
-    no_rows f e =
-        fill_done 0 64 (replicate 64 0) (λ c. 0) refl (λ c h. zeros-at 64 c)
-        ∙ rows_is (λ c. 0) f (λ c h. pow_pos (nA p)) (λ c a hc ha. has-none a ∙ sym (and_false_r _ (e c a hc ha))) (λ c h l. refl)
+    pub no-rows : (f : ℕ → ℕ → Bool) → ((c a : ℕ) → c < nC p → a < nA p → f c a ≡ false) → replicate 64 0 ≡ rowsOf (pairSet p f)
+    no-rows f e =
+        fill-done 0 64 (replicate 64 0) (λ c. 0) refl (λ c h. zeros-at 64 c)
+        ∙ rows-is (λ c. 0) f (λ c h. pow_pos (nA p)) (λ c a hc ha. has-none a ∙ sym (and-false-r _ (e c a hc ha))) (λ c h l. refl)

@@ -12,12 +12,12 @@ use Rattle.std.proofs.Math.ListN.{length, get_or, get_or-append}
 use Rattle.std.proofs.Math.Seq.{get_or-drop}
 use borrow.Author.Tests.{eq-eqb, ne_eqb, le-leb, lt-leb}
 use Rattle.mask.specs.Logic.{not, and, or}
-use Rattle.mask.specs.LogicLaws.{and_i, and_true_r, not-i}
-use Rattle.mask.specs.Bits.{hasBit, lowestOf, rest_of}
-use Rattle.mask.specs.BitsLaws.{parity, has-zero, has-suc, has-none, has-and, has_rest, lowest_set}
-use Rattle.mask.specs.WalkLaws.{rest-drops, rest_has, rest-small}
-use Rattle.mask.specs.Tables.{mask_of}
-use Rattle.mask.specs.TablesLaws.{table-length, table_at, fill_done, maskOf-cong}
+use Rattle.mask.specs.LogicLaws.{and-i, and-true-r, not-i}
+use Rattle.mask.specs.Bits.{hasBit, lowestOf, restOf}
+use Rattle.mask.specs.BitsLaws.{parity, has-zero, has-suc, has-none, has-and, has-rest, lowest-set}
+use Rattle.mask.specs.WalkLaws.{rest-drops, rest-has, rest-small}
+use Rattle.mask.specs.Tables.{maskOf}
+use Rattle.mask.specs.TablesLaws.{table-length, table-at, fill-done, maskOf-cong}
 use Rattle.rows.specs.RowsLaws.{area}
 use Rattle.rows.specs.Entries.{rowUpto, uptoRows, uptoOf, without, writeRow, writeRows, writeOf, rowCount}
 
@@ -70,55 +70,55 @@ pub record Writing (row v : ℕ) (part : List ℕ) (left : ℕ) (l : List ℕ) :
   pub entry : (a : ℕ) → a < length part → get_or l a 0 ≡ cond (and (hasBit row a) (not (hasBit left a))) v (get_or part a 0)
 
 module _ {row v : ℕ} {part : List ℕ} where
-  pub writing_start : row < 2 ^ 64 → Writing row v part row part
+  pub writing-start : row < 2 ^ 64 → Writing row v part row part
   unfolding and not
-  writing_start h = record { small = h; inside = λ a t. t; long = refl; entry = λ a l. none a (hasBit row a) }
+  writing-start h = record { small = h; inside = λ a t. t; long = refl; entry = λ a l. none a (hasBit row a) }
     where
       none : (a : ℕ) (b : Bool) → get_or part a 0 ≡ cond (and b (not b)) v (get_or part a 0)
       none a true = refl
       none a false = refl
 
   module _ {left a : ℕ} {l : List ℕ} (e : a ≡ lowestOf 64 left) (z : left ≡ 0 → ⊥) (d : Writing row v part left l) where
-    some_left : 0 < left
-    some_left = omega arith
+    some-left : 0 < left
+    some-left = omega arith
 
     -- the state that is taken is in the row
     taken : hasBit row a ≡ true
-    taken = d.inside a (ap (hasBit left) e ∙ lowest_set 64 left some_left d.small)
+    taken = d.inside a (ap (hasBit left) e ∙ lowest-set 64 left some-left d.small)
 
-    kept : (i : ℕ) → (i ≡ a → ⊥) → hasBit (rest_of left) i ≡ hasBit left i
-    kept i s = has_rest 64 left i some_left d.small ∙ and_true_r _ (not-i (ne_eqb i (lowestOf 64 left) (λ u. s (u ∙ sym e))))
+    kept : (i : ℕ) → (i ≡ a → ⊥) → hasBit (restOf left) i ≡ hasBit left i
+    kept i s = has-rest 64 left i some-left d.small ∙ and-true-r _ (not-i (ne_eqb i (lowestOf 64 left) (λ u. s (u ∙ sym e))))
 
     -- a state past the entries has none
-    pub writing-skip : length part ≤ a → Writing row v part (rest_of left) l
+    pub writing-skip : length part ≤ a → Writing row v part (restOf left) l
     writing-skip h = record {
-      small = rest-small 64 left some_left d.small;
-      inside = λ i t. d.inside i (rest_has 64 left some_left d.small i t);
+      small = rest-small 64 left some-left d.small;
+      inside = λ i t. d.inside i (rest-has 64 left some-left d.small i t);
       long = d.long;
       entry = λ i q. d.entry i q ∙ rw (kept i (omega arith));
     }
 
-    pub writing-turn : a < length l → Writing row v part (rest_of left) (set l a v)
+    pub writing-turn : a < length l → Writing row v part (restOf left) (set l a v)
     writing-turn h = record {
-      small = rest-small 64 left some_left d.small;
-      inside = λ i t. d.inside i (rest_has 64 left some_left d.small i t);
+      small = rest-small 64 left some-left d.small;
+      inside = λ i t. d.inside i (rest-has 64 left some-left d.small i t);
       long = length-set l a v ∙ d.long;
       entry = λ i q. by_cases (ℕ_discrete i a) (λ s. rw s here) (λ s. there i q s);
     }
       where
-        here : get_or (set l a v) a 0 ≡ cond (and (hasBit row a) (not (hasBit (rest_of left) a))) v (get_or part a 0)
+        here : get_or (set l a v) a 0 ≡ cond (and (hasBit row a) (not (hasBit (restOf left) a))) v (get_or part a 0)
         here =
-            let t : and (hasBit row a) (not (hasBit (rest_of left) a)) ≡ true =
-            and_i taken (not-i (ap (hasBit (rest_of left)) e ∙ rest-drops 64 left some_left d.small)) in
+            let t : and (hasBit row a) (not (hasBit (restOf left) a)) ≡ true =
+            and-i taken (not-i (ap (hasBit (restOf left)) e ∙ rest-drops 64 left some-left d.small)) in
             rw t (get_or-set_same l a v 0 h)
 
-        there : (i : ℕ) → i < length part → (i ≡ a → ⊥) → get_or (set l a v) i 0 ≡ cond (and (hasBit row i) (not (hasBit (rest_of left) i))) v (get_or part i 0)
+        there : (i : ℕ) → i < length part → (i ≡ a → ⊥) → get_or (set l a v) i 0 ≡ cond (and (hasBit row i) (not (hasBit (restOf left) i))) v (get_or part i 0)
         there i q s = get_or-set_other l a i v 0 s ∙ d.entry i q ∙ rw (kept i s)
 
   pub writing-done : {left : ℕ} {l : List ℕ} → left ≡ 0 → Writing row v part left l → l ≡ writeRow row v part
   unfolding writeRow
-  writing-done {left} {l} z d = fill_done 0 (length part) l _ d.long
-      (λ a h. d.entry a h ∙ ap (λ (b : Bool). cond b v (get_or part a 0)) (and_true_r _ (not-i (ap (λ (m : ℕ). hasBit m a) z ∙ has-none a))))
+  writing-done {left} {l} z d = fill-done 0 (length part) l _ d.long
+      (λ a h. d.entry a h ∙ ap (λ (b : Bool). cond b v (get_or part a 0)) (and-true-r _ (not-i (ap (λ (m : ℕ). hasBit m a) z ∙ has-none a))))
 
 -- ---- a part of a list that has come back as ys
 abbrev pub patch : List ℕ → ℕ → List ℕ → ℕ → List ℕ
@@ -151,8 +151,8 @@ module _ (xs ys : List ℕ) (a k : ℕ) (h : a + k ≤ length xs) (s : length ys
 
 -- ---- the rows of a section
 -- row c lies within the section, and the section is small
-pub row_fits : {nC nA c : ℕ} → nC ≤ 64 → nA ≤ 64 → c < nC → (c * nA + nA ≤ nC * nA) × (nC * nA ≤ 4096)
-row_fits {nC} {nA} {c} h k l =
+pub row-fits : {nC nA c : ℕ} → nC ≤ 64 → nA ≤ 64 → c < nC → (c * nA + nA ≤ nC * nA) × (nC * nA ≤ 4096)
+row-fits {nC} {nA} {c} h k l =
     let q : suc c * nA ≤ nC * nA = mul-le-mul_right nA l in
     (omega arith, area h k)
 
@@ -169,8 +169,8 @@ module _ (nA : ℕ) (x y : List ℕ) (v : ℕ) (part : List ℕ) where
     pub done : (e : ℕ) → e < c * nA → get_or l e 0 ≡ Entry e
     pub rest : (e : ℕ) → c * nA ≤ e → get_or l e 0 ≡ get_or part e 0
 
-  pub written_start : Written 0 part
-  written_start = record { long = refl; done = λ e h. absurd (omega arith); rest = λ e h. refl }
+  pub written-start : Written 0 part
+  written-start = record { long = refl; done = λ e h. absurd (omega arith); rest = λ e h. refl }
 
   module _ {c : ℕ} {l ys : List ℕ} {a k : ℕ} (ea : a ≡ c * nA) (ek : k ≡ nA) (fits : c * nA + nA ≤ length part)
       (ey : ys ≡ writeRow (without (get_or x c 0) (get_or y c 0)) v (take k (drop a l))) (d : Written c l) where
@@ -185,7 +185,7 @@ module _ (nA : ℕ) (x y : List ℕ) (v : ℕ) (part : List ℕ) where
     unfolding writeRow
     at i h =
         ap (λ (q : List ℕ). get_or q i 0) ey
-        ∙ table_at (length (take k (drop a l))) _ i 0 (omega (arith, part-long))
+        ∙ table-at (length (take k (drop a l))) _ i 0 (omega (arith, part-long))
         ∙ ap (λ (e : ℕ). cond (hasBit (without (get_or x c 0) (get_or y c 0)) i) v e)
         (get_or-take k (drop a l) i 0 (omega arith) ∙ get_or-drop a l i 0 ∙ ap (λ (n : ℕ). get_or l (n + i) 0) ea ∙ d.rest (c * nA + i) (omega arith))
 
@@ -206,11 +206,11 @@ module _ (nA : ℕ) (x y : List ℕ) (v : ℕ) (part : List ℕ) where
 
   pub written-done : {c : ℕ} {l : List ℕ} → length part ≡ c * nA → Written c l → l ≡ writeRows nA x y v part
   unfolding writeRows
-  written-done e d = fill_done 0 (length part) _ _ d.long (λ i h. d.done i (omega arith))
+  written-done e d = fill-done 0 (length part) _ _ d.long (λ i h. d.done i (omega arith))
 
 -- ---- a row of a section, by its states
 pub row-part : (nA c k : ℕ) (part : List ℕ) (bound : ℕ) → k ≡ nA → c * nA + nA ≤ length part
-    → rowUpto (take k (drop (c * nA) part)) bound ≡ mask_of nA (λ a. leb (get_or part (c * nA + a) 0) bound)
+    → rowUpto (take k (drop (c * nA) part)) bound ≡ maskOf nA (λ a. leb (get_or part (c * nA + a) 0) bound)
 unfolding rowUpto
 row-part nA c k part bound e h = rw (cut-long k (c * nA) part (omega arith), e) (maskOf-cong nA _ _ (λ a l.
     ap (λ (x : ℕ). leb x bound) (get_or-take nA (drop (c * nA) part) a 0 l ∙ get_or-drop (c * nA) part a 0)))
@@ -242,9 +242,9 @@ module _ (nC nA len : ℕ) where
   unfolding rowCount
   section-is h k e = rw (le-leb nC 64 h, le-leb nA 64 k, eq-eqb len (nC * nA) e)
 
-pub upto_is : (nC nA : ℕ) (part : List ℕ) (bound : ℕ) → nC ≤ 64 → nA ≤ 64 → length part ≡ nC * nA → uptoOf nC nA part bound ≡ uptoRows nC nA part bound
+pub upto-is : (nC nA : ℕ) (part : List ℕ) (bound : ℕ) → nC ≤ 64 → nA ≤ 64 → length part ≡ nC * nA → uptoOf nC nA part bound ≡ uptoRows nC nA part bound
 unfolding uptoOf
-upto_is nC nA part bound h k e = rw (section-is nC nA (length part) h k e)
+upto-is nC nA part bound h k e = rw (section-is nC nA (length part) h k e)
 
 pub write-entry-is : (nC nA : ℕ) (x y : List ℕ) (v : ℕ) (part : List ℕ) → nC ≤ 64 → nA ≤ 64 → length part ≡ nC * nA → writeOf nC nA x y v part ≡ writeRows nA x y v part
 unfolding writeOf writeRows

@@ -10,7 +10,7 @@ ghost use Rattle.mask.specs.Tables.{table};
 ghost use Rattle.machine.specs.Table.{blank};
 ghost use Rattle.rows.specs.Largest.{Known, Largest};
 ghost use Rattle.rows.specs.Entries.{rowUpto, uptoOf, without, writeRow, writeOf, rowCount};
-ghost use Rattle.rows.specs.Rows.{moversOf, predecessorsOf, partnersOf, partnerRows, meet_of, stepRows, goalRows, joinRows, same_rows};
+ghost use Rattle.rows.specs.Rows.{moversOf, predecessorsOf, partnersOf, partnerRows, meetOf, stepRows, goalRows, joinRows, sameRows};
 
 // The count, 64 for one over 64.
 fn width(n: usize) -> usize
@@ -80,7 +80,7 @@ pub fn partner_rows(nc: usize, predecessors: &[u64; 64], set: &[u64; 64]) -> [u6
 
 // The states that are in the row of each of the moves.
 pub fn meet(moves: u64, rows: &[u64; 64]) -> u64
-    ensures { result ≡ meet_of moves rows.now }
+    ensures { result ≡ meetOf moves rows.now }
 {
     let mut m = mask::full(64);
     let mut left = moves;
@@ -134,7 +134,7 @@ pub fn join_rows(matched: &[u64; 64], x: &[u64; 64], y: &[u64; 64]) -> [u64; 64]
 
 // Whether two sets have the same rows below nc.
 pub fn same_rows(nc: usize, x: &[u64; 64], y: &[u64; 64]) -> bool
-    ensures { result ≡ same_rows nc x.now y.now }
+    ensures { result ≡ sameRows nc x.now y.now }
 {
     let end = width(nc);
     for c in 0..end {
@@ -149,7 +149,7 @@ pub fn same_rows(nc: usize, x: &[u64; 64], y: &[u64; 64]) -> bool
 
 // What may be in a row of X: its base, and outside the set the states that step into X, by the partner rows of X.
 fn rule_row(moves: u64, reached: &[u64; 64], base: u64, inside: bool) -> u64
-    ensures { result ≡ bit_or base (cond inside 0 (meet_of moves reached.now)) }
+    ensures { result ≡ bit_or base (cond inside 0 (meetOf moves reached.now)) }
 {
     let steps = if inside { 0 } else { meet(moves, reached) };
     base | steps

@@ -1,6 +1,7 @@
 // Reads a show from standard input and writes it with the solver's table to standard output. A refusal is one line on standard error, and
 // nothing on standard output. A read that fails ends the input.
 #![tactic(auto)]
+
 use codec::Size;
 use std::io;
 

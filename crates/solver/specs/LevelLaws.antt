@@ -8,7 +8,7 @@ use Rattle.std.proofs.Math.Decide.{dec_lt}
 use Rattle.std.proofs.Math.Arith.{digits_lt}
 use Rattle.std.proofs.Math.ListN.{length, get_or}
 use Rattle.mask.specs.Bits.{hasBit}
-use Rattle.mask.specs.TablesLaws.{fill_done}
+use Rattle.mask.specs.TablesLaws.{fill-done}
 use Rattle.machine.specs.declared.Pair.{Pair}
 use Rattle.machine.specs.Machines.{fairSet, nC, nA, setsC, pairs}
 use Rattle.machine.specs.Observed.{matchedMasks}
@@ -19,13 +19,13 @@ use Rattle.machine.specs.Table.{blank}
 use Rattle.theory.specs.Statements.{Within}
 use Rattle.theory.specs.GameLaws.{xOver-is, xOver-canonical, same-holds, level-zero, level-canonical, levels-eq, levels-canonical, levels-is, level-levels, level-suc, set-ext}
 use Rattle.theory.specs.TowerLaws.{tower-at}
-use Rattle.rows.specs.Rows.{rows_of, pairsIn, joinRows, same_rows, stepRows, abstractPredecessors, steps_of}
-use Rattle.rows.specs.SetRowsLaws.{mem-in, in-at, in-past, rows_same, set_back, no_rows}
+use Rattle.rows.specs.Rows.{rowsOf, pairsIn, joinRows, sameRows, stepRows, abstractPredecessors, steps-of}
+use Rattle.rows.specs.SetRowsLaws.{mem-in, in-at, in-past, rows-same, set-back, no-rows}
 use Rattle.rows.specs.Entries.{uptoRows, writeRows}
 use Rattle.rows.specs.Largest.{Largest}
 use Rattle.solver.specs.Ranking.{Prepared, Holds, seenUpto, Bounded, RankedTo, AreRanks, LevelMade}
 use Rattle.solver.specs.XLaws.{HoldsMatched, largest-is}
-use Rattle.solver.specs.RankRowsLaws.{places-small, upto-bit, upto-holds, ranked-done, seen_start, seen_more, seen-level, ranked-more, ranked-all, start-holds}
+use Rattle.solver.specs.RankRowsLaws.{places-small, upto-bit, upto-holds, ranked-done, seen-start, seen-more, seen-level, ranked-more, ranked-all, start-holds}
 
 -- no blank comes or goes over two parts either
 pub ranked-trans : {p : Pair} {G first mid part : List ℕ} {i n : ℕ} → RankedTo p G first i mid → RankedTo p G mid n part → RankedTo p G first n part
@@ -51,7 +51,7 @@ module _ {p : Pair} {matched dependents predecessors goals : List ℕ} (m : Prep
   G = pairsIn p goals
 
   -- ---- one level: its sets in turn
-  module _ {l : ℕ} {below first : List ℕ} (hl : l < pairs p) (eb : below ≡ rows_of (level p G l)) (d : RankedTo p G first (l * setsC p) first) where
+  module _ {l : ℕ} {below first : List ℕ} (hl : l < pairs p) (eb : below ≡ rowsOf (level p G l)) (d : RankedTo p G first (l * setsC p) first) where
     abbrev X : ℕ → List ℕ
     X = xOver p G (level p G l)
 
@@ -62,7 +62,7 @@ module _ {p : Pair} {matched dependents predecessors goals : List ℕ} (m : Prep
     pub made-start : {seen : List ℕ} → seen ≡ joinRows matched goals below → LevelMade p G first l 0 seen first
     made-start {seen} e = record {
       seen_are = e ∙ ap (λ (M : List ℕ). joinRows M goals below) m.matched-are ∙ ap₂ (joinRows (matchedMasks p)) h.only-rows eb
-          ∙ seen_start p W G h.only-matched l (omega arith) ∙ ap (λ (n : ℕ). rows_of (seenUpto p G n)) same;
+          ∙ seen-start p W G h.only-matched l (omega arith) ∙ ap (λ (n : ℕ). rowsOf (seenUpto p G n)) same;
       ranked = ranked-at same d;
     }
       where
@@ -72,16 +72,16 @@ module _ {p : Pair} {matched dependents predecessors goals : List ℕ} (m : Prep
     -- what the loop over due rows leaves is X(l + 1, k)
     pub x-is : {steps base start x : List ℕ} {bound : ℕ} (k : ℕ) → k < setsC p → steps ≡ stepRows (nC p) p.concrete.successors predecessors below
         → base ≡ joinRows matched goals steps → bound ≡ (l + 1) * setsC p → start ≡ uptoRows (nC p) (nA p) first bound
-        → Largest (nC p) p.concrete.successors predecessors base (get_or p.concrete.fairness k 0) start x → x ≡ rows_of (X k)
+        → Largest (nC p) p.concrete.successors predecessors base (get_or p.concrete.fairness k 0) start x → x ≡ rowsOf (X k)
     unfolding fairSet
     x-is {steps} {base} {start} {x} {bound} k hk et ebase ebound es q =
-        largest-is p W goals below k holds made inside ∙ ap (λ (B : List ℕ). rows_of (xOver p G B k)) below-is
+        largest-is p W goals below k holds made inside ∙ ap (λ (B : List ℕ). rowsOf (xOver p G B k)) below-is
       where
-        base-is : base ≡ joinRows (matchedMasks p) goals (steps_of p below)
+        base-is : base ≡ joinRows (matchedMasks p) goals (steps-of p below)
         base-is = ebase ∙ rw (et, m.matched-are, m.predecessors-are)
 
         below-is : pairsIn p below ≡ level p G l
-        below-is = ap (pairsIn p) eb ∙ set_back p W (level p G l) (level-canonical p G l)
+        below-is = ap (pairsIn p) eb ∙ set-back p W (level p G l) (level-canonical p G l)
 
         sized : bound ≡ l * setsC p + setsC p
         sized = omega (arith, ebound)
@@ -91,7 +91,7 @@ module _ {p : Pair} {matched dependents predecessors goals : List ℕ} (m : Prep
             let fits : suc l * setsC p ≤ pairs p * setsC p = mul-le-mul_right (setsC p) hl in
             rw es (upto-holds p W bound (omega (arith, ebound, places-small p W)) d.bounded)
 
-        made : Largest (nC p) p.concrete.successors (abstractPredecessors p) (joinRows (matchedMasks p) goals (steps_of p below)) (fairSet p.concrete k) start x
+        made : Largest (nC p) p.concrete.successors (abstractPredecessors p) (joinRows (matchedMasks p) goals (steps-of p below)) (fairSet p.concrete k) start x
         made = rw (← base-is, ← m.predecessors-are) q
 
         inside : (c a : ℕ) → c < nC p → a < nA p → mem p (xOver p G (pairsIn p below) k) c a ≡ true → hasBit (get_or start c 0) a ≡ true
@@ -101,11 +101,11 @@ module _ {p : Pair} {matched dependents predecessors goals : List ℕ} (m : Prep
     unfolding xSet
     tower-is k hk = tower-at p G l k hl hk
 
-    pub made-turn : {seen part x : List ℕ} {v k : ℕ} → k < setsC p → x ≡ rows_of (X k) → v ≡ l * setsC p + k + 1 → LevelMade p G first l k seen part
+    pub made-turn : {seen part x : List ℕ} {v k : ℕ} → k < setsC p → x ≡ rowsOf (X k) → v ≡ l * setsC p + k + 1 → LevelMade p G first l k seen part
         → LevelMade p G first l (k + 1) (joinRows matched x seen) (writeRows (nA p) x seen v part)
     made-turn {seen} {part} {x} {v} {k} hk ex ev q = record {
-      seen_are = ap₂ (λ (M S : List ℕ). joinRows M S seen) m.matched-are ex ∙ ap (joinRows (matchedMasks p) (rows_of (X k))) q.seen_are
-          ∙ seen_more p W G h.only-matched (l * setsC p + k) (X k) (xOver-canonical p G (level p G l) k) (tower-is k hk) ∙ ap (λ (n : ℕ). rows_of (seenUpto p G n)) next;
+      seen_are = ap₂ (λ (M S : List ℕ). joinRows M S seen) m.matched-are ex ∙ ap (joinRows (matchedMasks p) (rowsOf (X k))) q.seen_are
+          ∙ seen-more p W G h.only-matched (l * setsC p + k) (X k) (xOver-canonical p G (level p G l) k) (tower-is k hk) ∙ ap (λ (n : ℕ). rowsOf (seenUpto p G n)) next;
       ranked = rw (ex, q.seen_are, ev, add-one (l * setsC p + k)) (ranked-at next
           (ranked-more p W G h.only-matched (place-lt k hk) q.ranked (X k) (tower-is k hk) (λ c a hc ha t. ((xOver-is p G (level p G l) k).at c a hc ha t).0)));
     }
@@ -114,9 +114,9 @@ module _ {p : Pair} {matched dependents predecessors goals : List ℕ} (m : Prep
         next = omega arith
 
     pub made-done : {seen part : List ℕ} {k : ℕ} → k ≡ setsC p → LevelMade p G first l k seen part
-        → (seen ≡ rows_of (level p G (l + 1))) × RankedTo p G first ((l + 1) * setsC p) part
+        → (seen ≡ rowsOf (level p G (l + 1))) × RankedTo p G first ((l + 1) * setsC p) part
     made-done {seen} {part} {k} ek q = (
-      q.seen_are ∙ ap (λ (n : ℕ). rows_of (seenUpto p G n)) here ∙ ap rows_of (seen-level p W G h.only-matched l hl) ∙ ap (λ (n : ℕ). rows_of (level p G n)) (sym (add-one l)),
+      q.seen_are ∙ ap (λ (n : ℕ). rowsOf (seenUpto p G n)) here ∙ ap rowsOf (seen-level p W G h.only-matched l hl) ∙ ap (λ (n : ℕ). rowsOf (level p G n)) (sym (add-one l)),
       ranked-at (here ∙ ap (λ (n : ℕ). n * setsC p) (sym (add-one l))) q.ranked,
     )
       where
@@ -124,39 +124,39 @@ module _ {p : Pair} {matched dependents predecessors goals : List ℕ} (m : Prep
         here = omega arith
 
   -- ---- the levels, one after the other
-  pub levels-start : replicate 64 0 ≡ rows_of (level p G 0)
+  pub levels-start : replicate 64 0 ≡ rowsOf (level p G 0)
   unfolding none
-  levels-start = no_rows p W (λ c a. false) (λ c a hc ha. refl) ∙ ap rows_of (sym (level-zero p G))
+  levels-start = no-rows p W (λ c a. false) (λ c a hc ha. refl) ∙ ap rowsOf (sym (level-zero p G))
 
-  module _ {l : ℕ} {y : List ℕ} (hl : l < pairs p) (ey : y ≡ rows_of (level p G l)) where
+  module _ {l : ℕ} {y : List ℕ} (hl : l < pairs p) (ey : y ≡ rowsOf (level p G l)) where
     -- where a level is the one before, they are all there
-    pub levels-stop : {next first part : List ℕ} → next ≡ rows_of (level p G (l + 1)) → same_rows (nC p) y next ≡ true → RankedTo p G first ((l + 1) * setsC p) part
-        → (y ≡ rows_of (levels p G)) × RankedTo p G first (pairs p * setsC p) part
+    pub levels-stop : {next first part : List ℕ} → next ≡ rowsOf (level p G (l + 1)) → sameRows (nC p) y next ≡ true → RankedTo p G first ((l + 1) * setsC p) part
+        → (y ≡ rowsOf (levels p G)) × RankedTo p G first (pairs p * setsC p) part
     levels-stop {next} en t d = (
-      ey ∙ ap rows_of (set-ext p _ _ (level-canonical p G l) (levels-canonical p G) (level-levels p G l) ((levels-is p G).least (level p G l) (rw (level-suc p G l) at last))),
+      ey ∙ ap rowsOf (set-ext p _ _ (level-canonical p G l) (levels-canonical p G) (level-levels p G l) ((levels-is p G).least (level p G l) (rw (level-suc p G l) at last))),
       ranked-all p W G h.only-matched l hl (ap (λ (n : ℕ). n * setsC p) (sym (add-one l))) last d,
     )
       where
         same : sameSet p (level p G l) (level p G (suc l)) ≡ true
-        same = sym (rows_same p W (nC p) (omega arith) W.concrete.states-high (level p G l) (level p G (suc l)) (level-canonical p G l) (level-canonical p G (suc l)))
-            ∙ ap₂ (same_rows (nC p)) (sym ey) (sym (en ∙ ap (λ (n : ℕ). rows_of (level p G n)) (add-one l))) ∙ t
+        same = sym (rows-same p W (nC p) (omega arith) W.concrete.states-high (level p G l) (level p G (suc l)) (level-canonical p G l) (level-canonical p G (suc l)))
+            ∙ ap₂ (sameRows (nC p)) (sym ey) (sym (en ∙ ap (λ (n : ℕ). rowsOf (level p G n)) (add-one l))) ∙ t
 
         last : Within p (level p G (suc l)) (level p G l)
         last = same-holds p (level p G l) (level p G (suc l)) same
 
-  pub levels-out : {l : ℕ} {y : List ℕ} → l ≡ pairs p → y ≡ rows_of (level p G l) → y ≡ rows_of (levels p G)
-  levels-out el ey = ey ∙ ap (λ (n : ℕ). rows_of (level p G n)) el ∙ ap rows_of (sym (levels-eq p G))
+  pub levels-out : {l : ℕ} {y : List ℕ} → l ≡ pairs p → y ≡ rowsOf (level p G l) → y ≡ rowsOf (levels p G)
+  levels-out el ey = ey ∙ ap (λ (n : ℕ). rowsOf (level p G n)) el ∙ ap rowsOf (sym (levels-eq p G))
 
   -- ---- what was covered and is outside the levels becomes blank
   module _ {part covered : List ℕ} (b : Bounded p G part) (ec : covered ≡ uptoRows (nC p) (nA p) part (blank - 1)) where
-    covered-set : covered ≡ rows_of (pairsIn p covered)
-    unfolding rows_of
+    covered-set : covered ≡ rowsOf (pairsIn p covered)
+    unfolding rowsOf
     covered-set =
         let k = upto-holds p W (blank - 1) (omega arith) b in
-        fill_done 0 64 covered _ (ap length ec ∙ k.long) (λ c l. by_cases (dec_lt c (nC p))
+        fill-done 0 64 covered _ (ap length ec ∙ k.long) (λ c l. by_cases (dec_lt c (nC p))
         (λ hc. sym (in-at p covered c hc))
         (λ n. ap (λ (R : List ℕ). get_or R c 0) ec ∙ k.past c (omega arith) ∙ sym (in-past p covered c (omega arith))))
 
-    pub section-done : {y made T : List ℕ} → y ≡ rows_of (levels p G) → RankedTo p G part (pairs p * setsC p) made → T ≡ writeRows (nA p) covered y blank made → AreRanks p G T
+    pub section-done : {y made T : List ℕ} → y ≡ rowsOf (levels p G) → RankedTo p G part (pairs p * setsC p) made → T ≡ writeRows (nA p) covered y blank made → AreRanks p G T
     section-done ey d eT = rw (eT, ey, covered-set) (ranked-done p W G h.only-matched b d (pairsIn p covered)
         (λ c a hc ha. mem-in p covered c a hc ∙ ap (λ (R : List ℕ). hasBit (get_or R c 0) a) ec ∙ upto-bit p W part (blank - 1) c a hc ha))

@@ -14,12 +14,12 @@ use Rattle.std.proofs.Math.Arith.{digits_lt, digits_div, digits_mod}
 use Rattle.std.proofs.Math.Dec.{leb}
 use borrow.Author.Tests.{lt-ltb, le-ltb, le-leb, leb-true}
 use Rattle.mask.specs.Logic.{not, and, or}
-use Rattle.mask.specs.LogicLaws.{dec, clash, refute, both, and_i, and_l, and_r, and-false-l, and_false_r, or_l, or_r, or-e, not-i, not-e, not_f}
+use Rattle.mask.specs.LogicLaws.{dec, clash, refute, both, and-i, and-l, and-r, and-false-l, and-false-r, or-l, or-r, or-e, not-i, not-e, not-f}
 use Rattle.mask.specs.Bits.{hasBit}
 use Rattle.mask.specs.Bounded.{some}
-use Rattle.mask.specs.BoundedLaws.{some_at, some_of}
-use Rattle.mask.specs.Tables.{mask_of}
-use Rattle.mask.specs.TablesLaws.{table-length, table_at, table-past, maskOf-lt, has-maskOf-at}
+use Rattle.mask.specs.BoundedLaws.{some-at, some-of}
+use Rattle.mask.specs.Tables.{maskOf}
+use Rattle.mask.specs.TablesLaws.{table-length, table-at, table-past, maskOf-lt, has-maskOf-at}
 use Rattle.machine.specs.declared.Pair.{Pair}
 use Rattle.machine.specs.Machines.{matched, nC, nA, setsC, pairs}
 use Rattle.machine.specs.Observed.{matchedMasks}
@@ -31,8 +31,8 @@ use Rattle.theory.specs.Statements.{Within}
 use Rattle.theory.specs.GameLaws.{Canonical, of-set, in-set, set-canonical, set-ext, pairSet-cong, none-empty, goal, xOver-mono, levelOver-mono, Within-refl, level-zero, level-suc, level-later, level-levels, levels-level, level-canonical, levels-is}
 use Rattle.theory.specs.TowerLaws.{x-is, level-x, x-level, tower-at}
 use Rattle.theory.specs.RankLaws.{Ranked, is-goal, is-placed, is-outside, ranked, goal-zero, rank-le, rank-bounded, level-rank, covered-levels}
-use Rattle.rows.specs.Rows.{rows_of, joinRows}
-use Rattle.rows.specs.SetRowsLaws.{rows_at, join_is}
+use Rattle.rows.specs.Rows.{rowsOf, joinRows}
+use Rattle.rows.specs.SetRowsLaws.{rows-at, join-is}
 use Rattle.rows.specs.Entries.{uptoRows, without, writeRows}
 use Rattle.solver.specs.Ranking.{rankOver, seenUpto, entryOf, Bounded, RankedTo, AreRanks}
 use Rattle.rows.specs.WriteLaws.{has-without}
@@ -56,13 +56,13 @@ module _ (p : Pair) (w : WellPair p) where
   index-lt : (c a : ℕ) → c < nC p → a < nA p → c * nA p + a < pairs p
   index-lt c a hc ha = digits_lt hc ha
 
-  pub written_at : (X S part : List ℕ) (v c a : ℕ) → length part ≡ pairs p → c < nC p → a < nA p
-      → entryOf p (writeRows (nA p) (rows_of X) (rows_of S) v part) c a ≡ cond (and (mem p X c a) (not (mem p S c a))) v (entryOf p part c a)
+  pub written-at : (X S part : List ℕ) (v c a : ℕ) → length part ≡ pairs p → c < nC p → a < nA p
+      → entryOf p (writeRows (nA p) (rowsOf X) (rowsOf S) v part) c a ≡ cond (and (mem p X c a) (not (mem p S c a))) v (entryOf p part c a)
   unfolding writeRows mem
-  written_at X S part v c a long hc ha =
-      table_at (length part) (λ e. cond (hasBit (without (get_or (rows_of X) (e / nA p) 0) (get_or (rows_of S) (e / nA p) 0)) (e % nA p)) v (get_or part e 0))
+  written-at X S part v c a long hc ha =
+      table-at (length part) (λ e. cond (hasBit (without (get_or (rowsOf X) (e / nA p) 0) (get_or (rowsOf S) (e / nA p) 0)) (e % nA p)) v (get_or part e 0))
       (c * nA p + a) 0 (omega (arith, index-lt c a hc ha))
-      ∙ rw (digits_div c ha, digits_mod c ha, rows_at X c wide, rows_at S c wide, has-without a (get_or X c 0) (get_or S c 0))
+      ∙ rw (digits_div c ha, digits_mod c ha, rows-at X c wide, rows-at S c wide, has-without a (get_or X c 0) (get_or S c 0))
     where
       wide : c < 64
       wide = omega (arith, w.concrete.states-high)
@@ -72,10 +72,10 @@ module _ (p : Pair) (w : WellPair p) where
   written-long x y part v = table-length _ _
 
   -- the pairs up to a bound
-  upto-at : (part : List ℕ) (bound c : ℕ) → c < nC p → get_or (uptoRows (nC p) (nA p) part bound) c 0 ≡ mask_of (nA p) (λ a. leb (entryOf p part c a) bound)
+  upto-at : (part : List ℕ) (bound c : ℕ) → c < nC p → get_or (uptoRows (nC p) (nA p) part bound) c 0 ≡ maskOf (nA p) (λ a. leb (entryOf p part c a) bound)
   unfolding uptoRows
   upto-at part bound c hc =
-      table_at 64 (λ d. cond (ltb d (nC p)) (mask_of (nA p) (λ a. leb (get_or part (d * nA p + a) 0) bound)) 0) c 0 (omega (arith, w.concrete.states-high))
+      table-at 64 (λ d. cond (ltb d (nC p)) (maskOf (nA p) (λ a. leb (get_or part (d * nA p + a) 0) bound)) 0) c 0 (omega (arith, w.concrete.states-high))
       ∙ rw (lt-ltb c (nC p) hc)
 
   pub upto-bit : (part : List ℕ) (bound c a : ℕ) → c < nC p → a < nA p → hasBit (get_or (uptoRows (nC p) (nA p) part bound) c 0) a ≡ leb (entryOf p part c a) bound
@@ -84,8 +84,8 @@ module _ (p : Pair) (w : WellPair p) where
   upto-past : (part : List ℕ) (bound c : ℕ) → nC p ≤ c → get_or (uptoRows (nC p) (nA p) part bound) c 0 ≡ 0
   unfolding uptoRows
   upto-past part bound c h = by_cases (dec_le c 63)
-      (λ l. table_at 64 (λ d. cond (ltb d (nC p)) (mask_of (nA p) (λ a. leb (get_or part (d * nA p + a) 0) bound)) 0) c 0 (omega arith) ∙ rw (le-ltb c (nC p) h))
-      (λ l. table-past 64 (λ d. cond (ltb d (nC p)) (mask_of (nA p) (λ a. leb (get_or part (d * nA p + a) 0) bound)) 0) c 0 (omega arith))
+      (λ l. table-at 64 (λ d. cond (ltb d (nC p)) (maskOf (nA p) (λ a. leb (get_or part (d * nA p + a) 0) bound)) 0) c 0 (omega arith) ∙ rw (le-ltb c (nC p) h))
+      (λ l. table-past 64 (λ d. cond (ltb d (nC p)) (maskOf (nA p) (λ a. leb (get_or part (d * nA p + a) 0) bound)) 0) c 0 (omega arith))
 
   pub upto-holds : {goals part : List ℕ} (bound : ℕ) → bound < blank → Bounded p goals part → HoldsMatched p (uptoRows (nC p) (nA p) part bound)
   unfolding uptoRows
@@ -103,18 +103,18 @@ module _ (p : Pair) (w : WellPair p) where
     Has c a i = mem p (get_or (tower p G) i []) c a
 
     -- ---- the sets of the tower, by l and k
-    at_place : (i : ℕ) → i < pairs p * setsC p → get_or (tower p G) i [] ≡ xSet p G (suc (i / setsC p)) (i % setsC p)
-    at_place i h =
+    at-place : (i : ℕ) → i < pairs p * setsC p → get_or (tower p G) i [] ≡ xSet p G (suc (i / setsC p)) (i % setsC p)
+    at-place i h =
         ap (λ (n : ℕ). get_or (tower p G) n []) (sym (div-add-mod' i (setsC p)))
         ∙ tower-at p G (i / setsC p) (i % setsC p) ((div-lt_iff_lt-mul some-sets).1 h) (mod-lt i some-sets)
 
     has-place : (i c a : ℕ) → i < pairs p * setsC p → Has c a i ≡ true → mem p (xSet p G (suc (i / setsC p)) (i % setsC p)) c a ≡ true
-    has-place i c a h t = ap (λ (S : List ℕ). mem p S c a) (sym (at_place i h)) ∙ t
+    has-place i c a h t = ap (λ (S : List ℕ). mem p S c a) (sym (at-place i h)) ∙ t
 
     -- a pair of the sets before level l + 1 is in level l, and the other way round
-    some_level : (l c a : ℕ) → l ≤ pairs p → c < nC p → a < nA p → some (l * setsC p) (Has c a) ≡ true → mem p (level p G l) c a ≡ true
-    some_level l c a hl hc ha t =
-        let r = some_at (l * setsC p) (Has c a) t in
+    some-level : (l c a : ℕ) → l ≤ pairs p → c < nC p → a < nA p → some (l * setsC p) (Has c a) ≡ true → mem p (level p G l) c a ≡ true
+    some-level l c a hl hc ha t =
+        let r = some-at (l * setsC p) (Has c a) t in
         let e : ℕ = r.0 in
         let few : e / setsC p < l = (div-lt_iff_lt-mul some-sets).1 r.1 in
         let room : l * setsC p ≤ pairs p * setsC p = mul-le-mul_right (setsC p) hl in
@@ -125,23 +125,23 @@ module _ (p : Pair) (w : WellPair p) where
     level-some zero c a hl hc ha t = absurd (none-empty p c a hc ha (rw (level-zero p G) at t))
     level-some (suc l) c a hl hc ha t =
         let r = level-x p G l c a hc ha t in
-        some_of (suc l * setsC p) (Has c a) (l * setsC p + r.0) (omega (arith, r.1))
+        some-of (suc l * setsC p) (Has c a) (l * setsC p + r.0) (omega (arith, r.1))
         (ap (λ (S : List ℕ). mem p S c a) (tower-at p G l r.0 (omega arith) r.1) ∙ r.2)
 
     -- ---- the pairs that have a rank
-    pub seen_start : (l : ℕ) → l ≤ pairs p → joinRows (matchedMasks p) (rows_of G) (rows_of (level p G l)) ≡ rows_of (seenUpto p G (l * setsC p))
+    pub seen-start : (l : ℕ) → l ≤ pairs p → joinRows (matchedMasks p) (rowsOf G) (rowsOf (level p G l)) ≡ rowsOf (seenUpto p G (l * setsC p))
     unfolding seenUpto
-    seen_start l hl =
-        ap₂ (λ (S R : List ℕ). joinRows (matchedMasks p) (rows_of S) (rows_of R)) q (level-canonical p G l)
-        ∙ join_is p w (mem p G) (mem p (level p G l))
-        ∙ ap rows_of (pairSet-cong p _ _ (λ c a hc ha m. ap (or (mem p G c a)) (both _ _ (level-some l c a hl hc ha) (some_level l c a hl hc ha))))
+    seen-start l hl =
+        ap₂ (λ (S R : List ℕ). joinRows (matchedMasks p) (rowsOf S) (rowsOf R)) q (level-canonical p G l)
+        ∙ join-is p w (mem p G) (mem p (level p G l))
+        ∙ ap rowsOf (pairSet-cong p _ _ (λ c a hc ha m. ap (or (mem p G c a)) (both _ _ (level-some l c a hl hc ha) (some-level l c a hl hc ha))))
 
-    pub seen_more : (i : ℕ) (X : List ℕ) → Canonical p X → get_or (tower p G) i [] ≡ X → joinRows (matchedMasks p) (rows_of X) (rows_of (seenUpto p G i)) ≡ rows_of (seenUpto p G (suc i))
+    pub seen-more : (i : ℕ) (X : List ℕ) → Canonical p X → get_or (tower p G) i [] ≡ X → joinRows (matchedMasks p) (rowsOf X) (rowsOf (seenUpto p G i)) ≡ rowsOf (seenUpto p G (suc i))
     unfolding seenUpto some
-    seen_more i X k e =
-        ap (λ (S : List ℕ). joinRows (matchedMasks p) (rows_of S) (rows_of (seenUpto p G i))) k
-        ∙ join_is p w (mem p X) (λ c a. or (mem p G c a) (some i (Has c a)))
-        ∙ ap rows_of (pairSet-cong p _ _ (λ c a hc ha m. swap (mem p X c a) (mem p G c a) (some i (Has c a)) ∙ ap (λ (S : List ℕ). or (mem p G c a) (or (mem p S c a) (some i (Has c a)))) (sym e)))
+    seen-more i X k e =
+        ap (λ (S : List ℕ). joinRows (matchedMasks p) (rowsOf S) (rowsOf (seenUpto p G i))) k
+        ∙ join-is p w (mem p X) (λ c a. or (mem p G c a) (some i (Has c a)))
+        ∙ ap rowsOf (pairSet-cong p _ _ (λ c a hc ha m. swap (mem p X c a) (mem p G c a) (some i (Has c a)) ∙ ap (λ (S : List ℕ). or (mem p G c a) (or (mem p S c a) (some i (Has c a)))) (sym e)))
 
     -- after level l + 1 these are its pairs
     pub seen-level : (l : ℕ) → l < pairs p → seenUpto p G (suc l * setsC p) ≡ level p G (suc l)
@@ -149,10 +149,10 @@ module _ (p : Pair) (w : WellPair p) where
     seen-level l hl = set-ext p _ _ (set-canonical p _) (level-canonical p G (suc l))
         (λ c a hc ha t.
         let r = of-set p _ c a hc ha t in
-        ⊎_elim (λ u. x-level p G l 0 c a some-sets hc ha ((x-is p G l 0).of c a hc ha r.0 (goal u))) (λ u. some_level (suc l) c a hl hc ha u) (or-e r.1))
+        ⊎_elim (λ u. x-level p G l 0 c a some-sets hc ha ((x-is p G l 0).of c a hc ha r.0 (goal u))) (λ u. some-level (suc l) c a hl hc ha u) (or-e r.1))
         (λ c a hc ha t.
         let r = level-x p G l c a hc ha t in
-        in-set p _ c a hc ha ((x-is p G l r.0).at c a hc ha r.2).0 (or_r _ (level-some (suc l) c a hl hc ha t)))
+        in-set p _ c a hc ha ((x-is p G l r.0).at c a hc ha r.2).0 (or-r _ (level-some (suc l) c a hl hc ha t)))
 
     -- ---- these are the pairs of rank at most i
     module _ (c a : ℕ) (hc : c < nC p) (ha : a < nA p) where
@@ -168,7 +168,7 @@ module _ (p : Pair) (w : WellPair p) where
       seen-rank i h t = ⊎_elim
           (λ u. omega (arith, (goal-zero p how-ranked).1 u))
           (λ u.
-          let r = some_at i (Has c a) u in
+          let r = some-at i (Has c a) u in
           let e : ℕ = r.0 in
           omega (
             arith,
@@ -184,13 +184,13 @@ module _ (p : Pair) (w : WellPair p) where
       rank-seen i h r = go how-ranked
         where
           go : Ranked p G c a (rankOver p G c a) → mem p (seenUpto p G i) c a ≡ true
-          go (is-goal t e) = in-set p _ c a hc ha (goal-matched t) (or_l _ t)
+          go (is-goal t e) = in-set p _ c a hc ha (goal-matched t) (or-l _ t)
           go (is-placed l k t z) =
               let s : l ≡ suc (l - 1) = omega (arith, z.l-low) in
               let u : mem p (xSet p G (suc (l - 1)) k) c a ≡ true = rw s at z.is-in in
               let few : l - 1 < pairs p = omega (arith, z.l-low, z.l-high) in
-              in-set p _ c a hc ha ((x-is p G (l - 1) k).at c a hc ha u).0 (or_r _
-              (some_of i (Has c a) ((l - 1) * setsC p + k) (omega (arith, z.is-r))
+              in-set p _ c a hc ha ((x-is p G (l - 1) k).at c a hc ha u).0 (or-r _
+              (some-of i (Has c a) ((l - 1) * setsC p + k) (omega (arith, z.is-r))
               (ap (λ (S : List ℕ). mem p S c a) (tower-at p G (l - 1) k few z.k-high) ∙ u)))
           go (is-outside t o e) = absurd (omega (arith, places-small))
 
@@ -209,25 +209,25 @@ module _ (p : Pair) (w : WellPair p) where
     module _ {first part : List ℕ} {i : ℕ} (hi : i < pairs p * setsC p) (d : RankedTo p G first i part)
         (X : List ℕ) (e : get_or (tower p G) i [] ≡ X) (m : (c a : ℕ) → c < nC p → a < nA p → mem p X c a ≡ true → matched p c a ≡ true) where
       abbrev Part : List ℕ
-      Part = writeRows (nA p) (rows_of X) (rows_of (seenUpto p G i)) (suc i) part
+      Part = writeRows (nA p) (rowsOf X) (rowsOf (seenUpto p G i)) (suc i) part
 
       abbrev New : ℕ → ℕ → Bool
       New c a = and (mem p X c a) (not (mem p (seenUpto p G i) c a))
 
       at : (c a : ℕ) → c < nC p → a < nA p → entryOf p Part c a ≡ cond (New c a) (suc i) (entryOf p part c a)
-      at c a hc ha = written_at X (seenUpto p G i) part (suc i) c a d.bounded.long hc ha
+      at c a hc ha = written-at X (seenUpto p G i) part (suc i) c a d.bounded.long hc ha
 
       new : (c a : ℕ) → c < nC p → a < nA p → New c a ≡ true → (entryOf p Part c a ≡ suc i) × (rankOver p G c a ≡ suc i)
       unfolding seenUpto
       new c a hc ha t = (
         at c a hc ha ∙ rw t,
         by_cases (dec_le (rankOver p G c a) i)
-            (λ l. absurd (clash (not-e _ (and_r _ _ t)) (rank-seen c a hc ha i (omega arith) l)))
+            (λ l. absurd (clash (not-e _ (and-r _ _ t)) (rank-seen c a hc ha i (omega arith) l)))
             (λ l. omega (arith, seen-rank c a hc ha (suc i) hi now)),
       )
         where
           now : mem p (seenUpto p G (suc i)) c a ≡ true
-          now = in-set p _ c a hc ha (m c a hc ha (and_l _ _ t)) (or_r _ (some_of (suc i) (Has c a) i (omega arith) (ap (λ (S : List ℕ). mem p S c a) e ∙ and_l _ _ t)))
+          now = in-set p _ c a hc ha (m c a hc ha (and-l _ _ t)) (or-r _ (some-of (suc i) (Has c a) i (omega arith) (ap (λ (S : List ℕ). mem p S c a) e ∙ and-l _ _ t)))
 
       old : (c a : ℕ) → c < nC p → a < nA p → New c a ≡ false → entryOf p Part c a ≡ entryOf p part c a
       old c a hc ha t = at c a hc ha ∙ rw t
@@ -235,7 +235,7 @@ module _ (p : Pair) (w : WellPair p) where
       -- a pair of rank i + 1 is new
       rank-new : (c a : ℕ) → c < nC p → a < nA p → New c a ≡ false → rankOver p G c a ≤ suc i → rankOver p G c a ≤ i
       unfolding seenUpto some
-      rank-new c a hc ha t l = by_cases (dec_le (rankOver p G c a) i) (λ k. k) (λ k. absurd (clash t (and_i (in-X k) (not-i (unseen k)))))
+      rank-new c a hc ha t l = by_cases (dec_le (rankOver p G c a) i) (λ k. k) (λ k. absurd (clash t (and-i (in-X k) (not-i (unseen k)))))
         where
           unseen : ¬ (rankOver p G c a ≤ i) → mem p (seenUpto p G i) c a ≡ false
           unseen k = refute _ (λ u. k (seen-rank c a hc ha i (omega arith) u))
@@ -244,10 +244,10 @@ module _ (p : Pair) (w : WellPair p) where
           in-X k =
               let s = of-set p _ c a hc ha (rank-seen c a hc ha (suc i) hi l) in
               ⊎_elim
-              (λ u. absurd (clash (unseen k) (in-set p _ c a hc ha s.0 (or_l _ u))))
+              (λ u. absurd (clash (unseen k) (in-set p _ c a hc ha s.0 (or-l _ u))))
               (λ u. ⊎_elim
               (λ v. ap (λ (S : List ℕ). mem p S c a) (sym e) ∙ v)
-              (λ v. absurd (clash (unseen k) (in-set p _ c a hc ha s.0 (or_r _ v)))) (or-e u))
+              (λ v. absurd (clash (unseen k) (in-set p _ c a hc ha s.0 (or-r _ v)))) (or-e u))
               (or-e s.1)
 
       pub ranked-more : RankedTo p G first (suc i) Part
@@ -311,22 +311,22 @@ module _ (p : Pair) (w : WellPair p) where
           where
             among : (mem p G c a ≡ true) ⊎ (some (pairs p * setsC p) (Has c a) ≡ true) → mem p (levels p G) c a ≡ true
             among (inl t) = level-levels p G (suc l) c a hc ha (x-level p G l 0 c a some-sets hc ha ((x-is p G l 0).of c a hc ha (goal-matched c a hc ha t) (goal t)))
-            among (inr t) = level-levels p G (pairs p) c a hc ha (some_level (pairs p) c a (omega arith) hc ha t)
+            among (inr t) = level-levels p G (pairs p) c a hc ha (some-level (pairs p) c a (omega arith) hc ha t)
 
     -- ---- what is outside the levels is made blank
     module _ {first part : List ℕ} (b : Bounded p G first) (d : RankedTo p G first (pairs p * setsC p) part) (C : List ℕ)
         (covers : (c a : ℕ) → c < nC p → a < nA p → mem p C c a ≡ leb (entryOf p first c a) (blank - 1)) where
-      pub ranked-done : AreRanks p G (writeRows (nA p) (rows_of C) (rows_of (levels p G)) blank part)
-      ranked-done = record { long = written-long _ _ part blank ∙ d.bounded.long; ranks = λ c a hc ha. written_at C (levels p G) part blank c a d.bounded.long hc ha ∙ value c a hc ha }
+      pub ranked-done : AreRanks p G (writeRows (nA p) (rowsOf C) (rowsOf (levels p G)) blank part)
+      ranked-done = record { long = written-long _ _ part blank ∙ d.bounded.long; ranks = λ c a hc ha. written-at C (levels p G) part blank c a d.bounded.long hc ha ∙ value c a hc ha }
         where
           value : (c a : ℕ) → c < nC p → a < nA p → cond (and (mem p C c a) (not (mem p (levels p G) c a))) blank (entryOf p part c a) ≡ rankOver p G c a
           value c a hc ha = ⊎_elim kept (λ t. ⊎_elim (made t) (left t) (dec (mem p C c a))) (dec (mem p (levels p G) c a))
             where
               kept : mem p (levels p G) c a ≡ true → cond (and (mem p C c a) (not (mem p (levels p G) c a))) blank (entryOf p part c a) ≡ rankOver p G c a
-              kept t = rw (and_false_r (mem p C c a) (not_f t)) (d.final c a hc ha (levels-ranked c a hc ha t))
+              kept t = rw (and-false-r (mem p C c a) (not-f t)) (d.final c a hc ha (levels-ranked c a hc ha t))
 
               made : mem p (levels p G) c a ≡ false → mem p C c a ≡ true → cond (and (mem p C c a) (not (mem p (levels p G) c a))) blank (entryOf p part c a) ≡ rankOver p G c a
-              made t u = rw (and_i u (not-i t)) (sym (outside-blank c a hc ha t))
+              made t u = rw (and-i u (not-i t)) (sym (outside-blank c a hc ha t))
 
               was-blank : mem p C c a ≡ false → entryOf p first c a ≡ blank
               was-blank u = by_cases (dec_le (entryOf p first c a) (blank - 1))

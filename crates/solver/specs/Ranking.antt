@@ -10,7 +10,7 @@ use Rattle.machine.specs.Ranks.{tower, rankIn}
 use Rattle.machine.specs.Table.{blank}
 use Rattle.machine.specs.Observed.{matchedMasks}
 use Rattle.machine.specs.WellFormed.{wellFormed}
-use Rattle.rows.specs.Rows.{rows_of, pairsIn, abstractPredecessors, concretePredecessors}
+use Rattle.rows.specs.Rows.{rowsOf, pairsIn, abstractPredecessors, concretePredecessors}
 
 -- what is computed once of two machines
 pub record Prepared (p : Pair) (matched dependents predecessors : List ℕ) : Type 0 where
@@ -30,7 +30,7 @@ seenUpto p goals i = pairSet p (λ c a. or (mem p goals c a) (some i (λ e. mem 
 -- rows that hold matched pairs and nothing else
 pub record Holds (p : Pair) (rows : List ℕ) : Type 0 where
   pub only-matched : pairsIn p rows ≡ pairSet p (mem p (pairsIn p rows))
-  pub only-rows : rows ≡ rows_of (pairsIn p rows)
+  pub only-rows : rows ≡ rowsOf (pairsIn p rows)
 
 -- the entry of a pair in a section
 abbrev pub entryOf : Pair → List ℕ → ℕ → ℕ → ℕ
@@ -51,7 +51,7 @@ pub record RankedTo (p : Pair) (goals first : List ℕ) (i : ℕ) (part : List �
 
 -- level l is reached: the rows are its pairs, and these have their ranks
 pub record LevelReached (p : Pair) (goals first : List ℕ) (l : ℕ) (rows part : List ℕ) : Type 0 where
-  pub rows_are : rows ≡ rows_of (level p goals l)
+  pub rows_are : rows ≡ rowsOf (level p goals l)
   pub ranked : RankedTo p goals first (l * setsC p) part
 
 -- each entry is its pair's rank
@@ -61,5 +61,5 @@ pub record AreRanks (p : Pair) (goals part : List ℕ) : Type 0 where
 
 -- a level after k of its sets: the pairs that have a rank, and the entries
 pub record LevelMade (p : Pair) (goals first : List ℕ) (l k : ℕ) (seen part : List ℕ) : Type 0 where
-  pub seen_are : seen ≡ rows_of (seenUpto p goals (l * setsC p + k))
+  pub seen_are : seen ≡ rowsOf (seenUpto p goals (l * setsC p + k))
   pub ranked : RankedTo p goals first (l * setsC p + k) part

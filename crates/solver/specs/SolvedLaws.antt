@@ -9,7 +9,7 @@ use Rattle.machine.specs.WellFormedLaws.{well-pair, entries-small}
 use Rattle.machine.specs.EmptySetsLaws.{nonempty-valid}
 use Rattle.machine.specs.Ranks.{solverTable}
 use Rattle.machine.specs.Table.{tableRoom, entries}
-use Rattle.machine.specs.EntriesLaws.{front_same}
+use Rattle.machine.specs.EntriesLaws.{front-same}
 use Rattle.theory.specs.RankLaws.{table-entries}
 use Rattle.solver.specs.Solver.{solveValidity, solvedTable}
 use Rattle.solver.specs.SolverLaws.{solve-long}
@@ -25,7 +25,7 @@ module _ (p : Pair) (T : List ℕ) (well : wellFormed p ≡ true) (nonempty : no
   solved-is = buffer-made _ _ T solve-takes
 
   pub solved-same : (e : ℕ) → e < entries p → get_or (solvedTable p T) e 0 ≡ get_or (solverTable p) e 0
-  solved-same e l = rw solved-is (front_same p (solverTable p) _ (omega (arith, table-entries p)) e l)
+  solved-same e l = rw solved-is (front-same p (solverTable p) _ (omega (arith, table-entries p)) e l)
 
   pub solved-room : tableRoom ≤ length (solvedTable p T)
   solved-room = rw (solved-is, length-append, length-drop, table-entries p) (omega (arith, entries-small p (well-pair p well)))

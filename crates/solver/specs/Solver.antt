@@ -2,7 +2,7 @@
 -- a turn of a family, with the ranks over it.
 use Rattle.std.specs.Prelude.{List, ℕ, length}
 use Rattle.machine.specs.declared.Pair.{Pair}
-use Rattle.machine.specs.Refusals.{Tested, and_then, bufferValidity, bufferAfter, stateAfter}
+use Rattle.machine.specs.Refusals.{Tested, andThen, bufferValidity, bufferAfter, stateAfter}
 use Rattle.machine.specs.WellFormed.{nonemptyValidity}
 use Rattle.machine.specs.Ranks.{rankTable, solverTable}
 use Rattle.machine.specs.Table.{tableRoom}
@@ -10,7 +10,7 @@ use Rattle.solver.specs.Families.{familyIn, turnRows}
 
 -- all that the solver tests, of a pair and of the length of the lent table
 unfoldable pub solveValidity : Pair → ℕ → Tested
-solveValidity p len = and_then (bufferValidity tableRoom len) (nonemptyValidity p)
+solveValidity p len = andThen (bufferValidity tableRoom len) (nonemptyValidity p)
 
 -- the lent table's final content: exactly n × P entries are written, and none beside a refusal
 unfoldable pub solvedTable : Pair → List ℕ → List ℕ

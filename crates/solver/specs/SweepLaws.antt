@@ -18,39 +18,39 @@ use Rattle.std.proofs.Math.ListN.{length, get_or, drop, length-append, length-dr
 use Rattle.std.proofs.Math.Seq.{ext_get_or, get_or-take, get_or-drop, get_or-append-add}
 use Rattle.std.proofs.lemmas.Bool.{lt-leb}
 use Rattle.mask.specs.Logic.{not, and, or}
-use Rattle.mask.specs.LogicLaws.{dec, clash, refute, and_l, and_r, and_i, and-true-l, and_true_r, and-false-l, not-i, not-e, not-false, or-e, or-none}
-use Rattle.mask.specs.Bits.{hasBit, lowestOf, rest_of, withBit, fullMask}
-use Rattle.mask.specs.BitsLaws.{has-none, has-full, full-lt, has-lt, has-with, lowest_set}
-use Rattle.mask.specs.WalkLaws.{rest_has, rest-keeps, rest-small}
+use Rattle.mask.specs.LogicLaws.{dec, clash, refute, and-l, and-r, and-i, and-true-l, and-true-r, and-false-l, not-i, not-e, not-false, or-e, or-none}
+use Rattle.mask.specs.Bits.{hasBit, lowestOf, restOf, withBit, fullMask}
+use Rattle.mask.specs.BitsLaws.{has-none, has-full, full-lt, has-lt, has-with, lowest-set}
+use Rattle.mask.specs.WalkLaws.{rest-has, rest-keeps, rest-small}
 use Rattle.mask.specs.Bounded.{sum, count}
 use Rattle.mask.specs.BoundedLaws.{sum-eq, count-mono}
 use Rattle.mask.specs.Tables.{table}
-use Rattle.mask.specs.TablesLaws.{table-length, table_at}
+use Rattle.mask.specs.TablesLaws.{table-length, table-at}
 use Rattle.mask.specs.FrontLaws.{zeros-at}
 use Rattle.machine.specs.declared.Pair.{Pair}
 use Rattle.machine.specs.Machines.{fairSet, matched, next, nC, nA, setsA, pairs}
 use Rattle.machine.specs.StepLaws.{next-lt, next-wrap, next-step}
 use Rattle.machine.specs.Observed.{matchedMasks}
 use Rattle.machine.specs.ObservedLaws.{has-matched-at}
-use Rattle.machine.specs.WellFormedLaws.{WellPair, some_pairs, section-fits, entries-small}
+use Rattle.machine.specs.WellFormedLaws.{WellPair, some-pairs, section-fits, entries-small}
 use Rattle.machine.specs.Game.{pairSet, mem, sameSet, none, allMatched, goals, levels, family}
 use Rattle.machine.specs.Ranks.{rankTable, solverTable}
 use Rattle.machine.specs.Table.{blank, tableRoom, entryIndex, entry, covers, coveredCount, entries}
-use Rattle.machine.specs.LinesLaws.{covers_at, covers_of, covers-bound}
+use Rattle.machine.specs.LinesLaws.{covers-at, covers-of, covers-bound}
 use Rattle.machine.specs.EntriesLaws.{index-entries}
 use Rattle.theory.specs.Statements.{Within}
 use Rattle.theory.specs.Fixpoint.{bit-mono, bit-eq}
 use Rattle.theory.specs.GameLaws.{Canonical, mem-pairSet, pairSet-cong, set-canonical, set-ext, same-within, same-holds, same_of, Within-refl, of-allMatched, levels-canonical, levels-mono, levels-matched}
 use Rattle.theory.specs.FamilyLaws.{WithinF, tabled, goals-mono, family-is, family-tabled, family-ext}
 use Rattle.theory.specs.RankLaws.{ranks-at, ranks-entries, table-entries}
-use Rattle.rows.specs.Rows.{rows_of, pairsIn, same_rows, goalRows, stepRows, abstractPredecessors}
-use Rattle.rows.specs.SetRowsLaws.{rows_same, set_back, matched-rows, goals-is}
+use Rattle.rows.specs.Rows.{rowsOf, pairsIn, sameRows, goalRows, stepRows, abstractPredecessors}
+use Rattle.rows.specs.SetRowsLaws.{rows-same, set-back, matched-rows, goals-is}
 use Rattle.rows.specs.Entries.{uptoRows, without, writeRows}
 use Rattle.solver.specs.Ranking.{rankOver, entryOf, Holds, Bounded, AreRanks}
-use Rattle.solver.specs.Sweeps.{part_of, coveredFamily, goalsIn, Begun, Renewable, Renewed, Sweeping, FamilyRanked}
+use Rattle.solver.specs.Sweeps.{partOf, coveredFamily, goalsIn, Begun, Renewable, Renewed, Sweeping, FamilyRanked}
 use Rattle.rows.specs.LargestLaws.{wider}
 use Rattle.rows.specs.WriteLaws.{has-without, patch, patch-length, patch-before, patch-in, patch-after, cut-long}
-use Rattle.solver.specs.XLaws.{holds-set, holds_rows}
+use Rattle.solver.specs.XLaws.{holds-set, holds-rows}
 use Rattle.solver.specs.RankRowsLaws.{upto-bit, upto-holds, rank-top, outside-blank, levels-ranked, places-small, levels-covered, ranks-rise}
 
 with-small : (m s : ℕ) → s < 64 → m < 2 ^ 64 → withBit m s < 2 ^ 64
@@ -65,12 +65,12 @@ first-at P nA matched {ys} ey = (
   ap length ey ∙ table-length _ _ ∙ table-length P _,
   λ e h.
       ap (λ (m : List ℕ). get_or m e 0) ey
-      ∙ table_at (length (table P (λ i. blank))) _ e 0 (omega (arith, table-length P (λ i. blank)))
-      ∙ ap₂ (λ (b : Bool) (x : ℕ). cond b 0 x) (bit e) (table_at P (λ i. blank) e 0 h),
+      ∙ table-at (length (table P (λ i. blank))) _ e 0 (omega (arith, table-length P (λ i. blank)))
+      ∙ ap₂ (λ (b : Bool) (x : ℕ). cond b 0 x) (bit e) (table-at P (λ i. blank) e 0 h),
 )
   where
     bit : (e : ℕ) → hasBit (without (get_or matched (e / nA) 0) (get_or (replicate 64 0) (e / nA) 0)) (e % nA) ≡ hasBit (get_or matched (e / nA) 0) (e % nA)
-    bit e = has-without (e % nA) _ _ ∙ and_true_r _ (not-i (ap (λ (m : ℕ). hasBit m (e % nA)) (zeros-at 64 (e / nA)) ∙ has-none (e % nA)))
+    bit e = has-without (e % nA) _ _ ∙ and-true-r _ (not-i (ap (λ (m : ℕ). hasBit m (e % nA)) (zeros-at 64 (e / nA)) ∙ has-none (e % nA)))
 
 -- ---- and of all sections, one after the other
 module _ {P nA : ℕ} {matched first : List ℕ} where
@@ -102,30 +102,30 @@ module _ (p : Pair) (w : WellPair p) where
   unfolding entryIndex
   place j c a = omega (arith, add-mul (j * nC p) c (nA p), mul_assoc j (nC p) (nA p))
 
-  pub part-entry : (T : List ℕ) (j c a : ℕ) → c < nC p → a < nA p → entryOf p (part_of p T j) c a ≡ entry p T j c a
-  unfolding part_of entry
+  pub part-entry : (T : List ℕ) (j c a : ℕ) → c < nC p → a < nA p → entryOf p (partOf p T j) c a ≡ entry p T j c a
+  unfolding partOf entry
   part-entry T j c a hc ha =
       get_or-take (pairs p) (drop (j * pairs p) T) (c * nA p + a) 0 (digits_lt hc ha)
       ∙ get_or-drop (j * pairs p) T (c * nA p + a) 0 ∙ ap (λ (e : ℕ). get_or T e 0) (sym (place j c a))
 
-  pub cut-is : (T : List ℕ) (j a k : ℕ) → a ≡ j * pairs p → k ≡ pairs p → take k (drop a T) ≡ part_of p T j
-  unfolding part_of
+  pub cut-is : (T : List ℕ) (j a k : ℕ) → a ≡ j * pairs p → k ≡ pairs p → take k (drop a T) ≡ partOf p T j
+  unfolding partOf
   cut-is T j a k ea ek = rw (ea, ek)
 
-  pub part-long : (T : List ℕ) (j : ℕ) → tableRoom ≤ length T → j < setsA p → length (part_of p T j) ≡ pairs p
-  unfolding part_of
+  pub part-long : (T : List ℕ) (j : ℕ) → tableRoom ≤ length T → j < setsA p → length (partOf p T j) ≡ pairs p
+  unfolding partOf
   part-long T j room hj = cut-long (pairs p) (j * pairs p) T (omega (arith, section-fits p w j hj))
 
   -- an entry's number, as section, c and a
-  row_of : (e : ℕ) → e < pairs p → e / nA p < nC p
-  row_of e h = (div-lt_iff_lt-mul w.abstraction.states-low).1 h
+  row-of : (e : ℕ) → e < pairs p → e / nA p < nC p
+  row-of e h = (div-lt_iff_lt-mul w.abstraction.states-low).1 h
 
   state-of : (e : ℕ) → e % nA p < nA p
   state-of e = mod-lt e w.abstraction.states-low
 
-  entry_at : (T : List ℕ) (j e : ℕ) → e < pairs p → entry p T j (e / nA p) (e % nA p) ≡ get_or T (j * pairs p + e) 0
+  entry-at : (T : List ℕ) (j e : ℕ) → e < pairs p → entry p T j (e / nA p) (e % nA p) ≡ get_or T (j * pairs p + e) 0
   unfolding entry
-  entry_at T j e h = ap (λ (n : ℕ). get_or T n 0) (place j (e / nA p) (e % nA p) ∙ ap (λ (n : ℕ). j * pairs p + n) (div-add-mod' e (nA p)))
+  entry-at T j e h = ap (λ (n : ℕ). get_or T n 0) (place j (e / nA p) (e % nA p) ∙ ap (λ (n : ℕ). j * pairs p + n) (div-add-mod' e (nA p)))
 
   -- ---- a section's entries are put into the table
   module _ (T ys : List ℕ) {j a k : ℕ} (room : tableRoom ≤ length T) (hj : j < setsA p) (ea : a ≡ j * pairs p) (ek : k ≡ pairs p) (long : length ys ≡ pairs p) where
@@ -139,7 +139,7 @@ module _ (p : Pair) (w : WellPair p) where
     patched-others e h = ⊎_elim
         (λ l. patch-before T ys a k patch-fits (long ∙ sym ek) e (omega arith)) (λ l. patch-after T ys a k patch-fits (long ∙ sym ek) e (omega arith)) h
 
-    patched-ranks : {G : List ℕ} → AreRanks p G ys → AreRanks p G (part_of p (patch T a ys k) j)
+    patched-ranks : {G : List ℕ} → AreRanks p G ys → AreRanks p G (partOf p (patch T a ys k) j)
     unfolding entry
     patched-ranks r = record {
       long = part-long (patch T a ys k) j (rw patched-long room) hj;
@@ -150,7 +150,7 @@ module _ (p : Pair) (w : WellPair p) where
 
   -- a section has its ranks where its entries are those of another table's that has them
   same-ranks : (T U : List ℕ) {G : List ℕ} {j : ℕ} → tableRoom ≤ length U → j < setsA p → ((e : ℕ) → j * pairs p ≤ e → e < j * pairs p + pairs p → get_or U e 0 ≡ get_or T e 0)
-      → AreRanks p G (part_of p T j) → AreRanks p G (part_of p U j)
+      → AreRanks p G (partOf p T j) → AreRanks p G (partOf p U j)
   unfolding entry
   same-ranks T U {j = j} room hj same r = record {
     long = part-long U j room hj;
@@ -203,16 +203,16 @@ module _ (p : Pair) (w : WellPair p) where
         value e h =
             let s : ℕ = e / pairs p in
             let i : ℕ = e % pairs p in
-            let hi : i < pairs p = mod-lt e (some_pairs p w) in
+            let hi : i < pairs p = mod-lt e (some-pairs p w) in
             let y : e ≡ s * pairs p + i = sym (div-add-mod' e (pairs p)) in
-            ap (λ (n : ℕ). get_or T n 0) y ∙ sym (entry_at T s i hi)
-            ∙ entry-rank s (i / nA p) (i % nA p) ((div-lt_iff_lt-mul (some_pairs p w)).1 h) (row_of i hi) (state-of i)
-            ∙ entry_at (rankTable p Z) s i hi ∙ ap (λ (n : ℕ). get_or (rankTable p Z) n 0) (sym y)
+            ap (λ (n : ℕ). get_or T n 0) y ∙ sym (entry-at T s i hi)
+            ∙ entry-rank s (i / nA p) (i % nA p) ((div-lt_iff_lt-mul (some-pairs p w)).1 h) (row-of i hi) (state-of i)
+            ∙ entry-at (rankTable p Z) s i hi ∙ ap (λ (n : ℕ). get_or (rankTable p Z) n 0) (sym y)
 
   -- ---- what a table covers
   pub covered-at : (T : List ℕ) (j : ℕ) → j < setsA p → get_or (coveredFamily p T) j [] ≡ pairSet p (covers p T j)
   unfolding coveredFamily
-  covered-at T j h = table_at (setsA p) (λ i. pairSet p (covers p T i)) j [] h
+  covered-at T j h = table-at (setsA p) (λ i. pairSet p (covers p T i)) j [] h
 
   covered-canonical : (T : List ℕ) (j : ℕ) → j < setsA p → Canonical p (get_or (coveredFamily p T) j [])
   covered-canonical T j h = rw (covered-at T j h) (set-canonical p (covers p T j))
@@ -224,20 +224,20 @@ module _ (p : Pair) (w : WellPair p) where
   unfolding goals
   goals-canonical T j = set-canonical p _
 
-  module _ (T : List ℕ) (j : ℕ) (b : Bounded p (goalsIn p T j) (part_of p T j)) where
-    entry_top : (c a : ℕ) → c < nC p → a < nA p → entry p T j c a ≤ blank
-    entry_top c a hc ha = omega (arith, part-entry T j c a hc ha, b.low c a hc ha, rank-top p w (goalsIn p T j) (goals-canonical T j) c a hc ha)
+  module _ (T : List ℕ) (j : ℕ) (b : Bounded p (goalsIn p T j) (partOf p T j)) where
+    entry-top : (c a : ℕ) → c < nC p → a < nA p → entry p T j c a ≤ blank
+    entry-top c a hc ha = omega (arith, part-entry T j c a hc ha, b.low c a hc ha, rank-top p w (goalsIn p T j) (goals-canonical T j) c a hc ha)
 
-    covers-bit : (c a : ℕ) → c < nC p → a < nA p → leb (entryOf p (part_of p T j) c a) (blank - 1) ≡ and (matched p c a) (covers p T j c a)
+    covers-bit : (c a : ℕ) → c < nC p → a < nA p → leb (entryOf p (partOf p T j) c a) (blank - 1) ≡ and (matched p c a) (covers p T j c a)
     covers-bit c a hc ha = ⊎_elim
-        (λ m. ap (λ (e : ℕ). leb e (blank - 1)) (part-entry T j c a hc ha) ∙ sym (covers-bound p T j c a (entry_top c a hc ha)) ∙ sym (and-true-l _ m))
-        (λ m. lt-leb (entryOf p (part_of p T j) c a) (blank - 1) (omega (arith, b.unmatched c a hc ha m)) ∙ sym (and-false-l _ m)) (dec (matched p c a))
+        (λ m. ap (λ (e : ℕ). leb e (blank - 1)) (part-entry T j c a hc ha) ∙ sym (covers-bound p T j c a (entry-top c a hc ha)) ∙ sym (and-true-l _ m))
+        (λ m. lt-leb (entryOf p (partOf p T j) c a) (blank - 1) (omega (arith, b.unmatched c a hc ha m)) ∙ sym (and-false-l _ m)) (dec (matched p c a))
 
     -- the pairs up to the last rank are those that the section covers
-    pub covered-rows : j < setsA p → uptoRows (nC p) (nA p) (part_of p T j) (blank - 1) ≡ rows_of (get_or (coveredFamily p T) j [])
+    pub covered-rows : j < setsA p → uptoRows (nC p) (nA p) (partOf p T j) (blank - 1) ≡ rowsOf (get_or (coveredFamily p T) j [])
     covered-rows hj =
-        holds_rows p w (covers p T j) (upto-holds p w (blank - 1) (omega arith) b) (λ c a hc ha. upto-bit p w (part_of p T j) (blank - 1) c a hc ha ∙ covers-bit c a hc ha)
-        ∙ ap rows_of (sym (covered-at T j hj))
+        holds-rows p w (covers p T j) (upto-holds p w (blank - 1) (omega arith) b) (λ c a hc ha. upto-bit p w (partOf p T j) (blank - 1) c a hc ha ∙ covers-bit c a hc ha)
+        ∙ ap rowsOf (sym (covered-at T j hj))
 
   -- ---- the first entries
   unmatched-blank : (G : List ℕ) → Canonical p G → (c a : ℕ) → c < nC p → a < nA p → matched p c a ≡ false → rankOver p G c a ≡ blank
@@ -246,26 +246,26 @@ module _ (p : Pair) (w : WellPair p) where
 
   -- a section's first entries bound the ranks over any goals, and cover the matched pairs
   module _ {masks ys : List ℕ} (em : masks ≡ matchedMasks p) (ey : ys ≡ writeRows (nA p) masks (replicate 64 0) 0 (table (pairs p) (λ e. blank))) where
-    first_entry : (c a : ℕ) → c < nC p → a < nA p → entryOf p ys c a ≡ cond (matched p c a) 0 blank
-    first_entry c a hc ha =
+    first-entry : (c a : ℕ) → c < nC p → a < nA p → entryOf p ys c a ≡ cond (matched p c a) 0 blank
+    first-entry c a hc ha =
         (first-at (pairs p) (nA p) masks ey).1 (c * nA p + a) (digits_lt hc ha)
         ∙ rw (digits_div c ha, digits_mod c ha, em) (ap (λ (b : Bool). cond b 0 blank) (has-matched-at p w c hc a ha))
 
     pub first-bounded : (G : List ℕ) → Canonical p G → Bounded p G ys
-    first-bounded G q = record { long = (first-at (pairs p) (nA p) masks ey).0; low = λ c a hc ha. ⊎_elim (yes c a hc ha) (no c a hc ha) (dec (matched p c a)); unmatched = λ c a hc ha m. first_entry c a hc ha ∙ rw m }
+    first-bounded G q = record { long = (first-at (pairs p) (nA p) masks ey).0; low = λ c a hc ha. ⊎_elim (yes c a hc ha) (no c a hc ha) (dec (matched p c a)); unmatched = λ c a hc ha m. first-entry c a hc ha ∙ rw m }
       where
         yes : (c a : ℕ) → c < nC p → a < nA p → matched p c a ≡ true → entryOf p ys c a ≤ rankOver p G c a
-        yes c a hc ha m = let z : entryOf p ys c a ≡ 0 = first_entry c a hc ha ∙ rw m in omega arith
+        yes c a hc ha m = let z : entryOf p ys c a ≡ 0 = first-entry c a hc ha ∙ rw m in omega arith
 
         no : (c a : ℕ) → c < nC p → a < nA p → matched p c a ≡ false → entryOf p ys c a ≤ rankOver p G c a
-        no c a hc ha m = let z : entryOf p ys c a ≡ blank = first_entry c a hc ha ∙ rw m in omega (arith, unmatched-blank G q c a hc ha m)
+        no c a hc ha m = let z : entryOf p ys c a ≡ blank = first-entry c a hc ha ∙ rw m in omega (arith, unmatched-blank G q c a hc ha m)
 
     pub first-covered : masks ≡ uptoRows (nC p) (nA p) ys (blank - 1)
     unfolding none allMatched and
-    first-covered = em ∙ matched-rows p w ∙ sym (holds_rows p w (λ c a. true) (upto-holds p w (blank - 1) (omega arith) (first-bounded (none p) (set-canonical p _))) bits)
+    first-covered = em ∙ matched-rows p w ∙ sym (holds-rows p w (λ c a. true) (upto-holds p w (blank - 1) (omega arith) (first-bounded (none p) (set-canonical p _))) bits)
       where
         bits : (c a : ℕ) → c < nC p → a < nA p → hasBit (get_or (uptoRows (nC p) (nA p) ys (blank - 1)) c 0) a ≡ and (matched p c a) true
-        bits c a hc ha = upto-bit p w ys (blank - 1) c a hc ha ∙ ap (λ (x : ℕ). leb x (blank - 1)) (first_entry c a hc ha) ∙ tested (matched p c a)
+        bits c a hc ha = upto-bit p w ys (blank - 1) c a hc ha ∙ ap (λ (x : ℕ). leb x (blank - 1)) (first-entry c a hc ha) ∙ tested (matched p c a)
           where
             tested : (b : Bool) → leb (cond b 0 blank) (blank - 1) ≡ and b true
             tested true = refl
@@ -300,7 +300,7 @@ module _ (p : Pair) (w : WellPair p) where
       };
       above = λ j hj c a hc ha t.
           let m : matched p c a ≡ true = of-allMatched p c a hc ha (levels-matched p _ c a hc ha ((family-is p).at j hj c a hc ha t)) in
-          covered-mem T j c a hj hc ha ∙ and_i m (covers_of p T j c a (λ z. omega (arith, begun-matched j c a hj hc ha m)));
+          covered-mem T j c a hj hc ha ∙ and-i m (covers-of p T j c a (λ z. omega (arith, begun-matched j c a hj hc ha m)));
       exact = λ j hj t. absurd (clash t (ap (λ (m : ℕ). hasBit m (setsA p - 1 - j)) e ∙ has-full (setsA p) (setsA p - 1 - j) ∙ lt-ltb (setsA p - 1 - j) (setsA p) (omega arith)));
     }
 
@@ -317,18 +317,18 @@ module _ (p : Pair) (w : WellPair p) where
     G = goalsIn p T j
 
     pub goals-rows : {matched predecessors ahead g : List ℕ} {i : ℕ} → matched ≡ matchedMasks p → predecessors ≡ abstractPredecessors p → i ≡ next (setsA p) j
-        → ahead ≡ uptoRows (nC p) (nA p) (part_of p T i) (blank - 1) → g ≡ goalRows matched (fairSet p.abstraction j) (stepRows (nC p) p.concrete.successors predecessors ahead)
-        → g ≡ rows_of G
+        → ahead ≡ uptoRows (nC p) (nA p) (partOf p T i) (blank - 1) → g ≡ goalRows matched (fairSet p.abstraction j) (stepRows (nC p) p.concrete.successors predecessors ahead)
+        → g ≡ rowsOf G
     goals-rows {i} em ep ei ea eg =
         let hi : i < setsA p = rw ei (next-lt (setsA p) j d.section) in
         eg ∙ rw (em, ep, ea) (goals-is p w (coveredFamily p T) j _ (ap (pairsIn p) (covered-rows T i (d.bounded i hi) hi)
-        ∙ set_back p w (get_or (coveredFamily p T) i []) (covered-canonical T i hi) ∙ ap (λ (n : ℕ). get_or (coveredFamily p T) n []) ei))
+        ∙ set-back p w (get_or (coveredFamily p T) i []) (covered-canonical T i hi) ∙ ap (λ (n : ℕ). get_or (coveredFamily p T) n []) ei))
 
-    pub goals-held : {g : List ℕ} → g ≡ rows_of G → (pairsIn p g ≡ G) × Holds p g
-    goals-held e = (ap (pairsIn p) e ∙ set_back p w G (goals-canonical T j), holds-set p w G (goals-canonical T j) e)
+    pub goals-held : {g : List ℕ} → g ≡ rowsOf G → (pairsIn p g ≡ G) × Holds p g
+    goals-held e = (ap (pairsIn p) e ∙ set-back p w G (goals-canonical T j), holds-set p w G (goals-canonical T j) e)
 
     pub renewed : {ys old y : List ℕ} {a k : ℕ} {changed : Bool} → a ≡ j * pairs p → k ≡ pairs p → AreRanks p G ys
-        → old ≡ uptoRows (nC p) (nA p) (part_of p T j) (blank - 1) → y ≡ rows_of (levels p G) → changed ≡ not (same_rows (nC p) old y)
+        → old ≡ uptoRows (nC p) (nA p) (partOf p T j) (blank - 1) → y ≡ rowsOf (levels p G) → changed ≡ not (sameRows (nC p) old y)
         → Renewed p j T changed (patch T a ys k)
     renewed {ys} {old} {y} {a} {k} {changed} ea ek r eo ey ec = record {
       long = patched-long T ys d.room d.section ea ek r.long;
@@ -340,8 +340,8 @@ module _ (p : Pair) (w : WellPair p) where
     }
       where
         told : changed ≡ not (sameSet p (get_or (coveredFamily p T) j []) (levels p G))
-        told = ec ∙ ap not (ap₂ (same_rows (nC p)) (eo ∙ covered-rows T j (d.bounded j d.section) d.section) ey
-            ∙ rows_same p w (nC p) (omega arith) w.concrete.states-high _ _ (covered-canonical T j d.section) (levels-canonical p G))
+        told = ec ∙ ap not (ap₂ (sameRows (nC p)) (eo ∙ covered-rows T j (d.bounded j d.section) d.section) ey
+            ∙ rows-same p w (nC p) (omega arith) w.concrete.states-high _ _ (covered-canonical T j d.section) (levels-canonical p G))
 
   -- ---- and with it the table
   module _ {first T U : List ℕ} {due : ℕ} {j : ℕ} {changed : Bool} (d : Sweeping p first due T) (hj : j < setsA p) (r : Renewed p j T changed U) where
@@ -370,14 +370,14 @@ module _ (p : Pair) (w : WellPair p) where
         ∙ pairSet-cong p _ _ (λ c a hc ha m. ap (λ (e : ℕ). not (eqb e blank)) (other-entry s c a n hc ha)) ∙ sym (covered-at T s hs)
 
     this-covers : (c a : ℕ) → c < nC p → a < nA p → mem p (levels p Goals) c a ≡ true → covers p U j c a ≡ true
-    this-covers c a hc ha t = covers_of p U j c a (λ z. omega (arith, this-entry c a hc ha, levels-ranked p w Goals (goals-canonical T j) c a hc ha t, places-small p w))
+    this-covers c a hc ha t = covers-of p U j c a (λ z. omega (arith, this-entry c a hc ha, levels-ranked p w Goals (goals-canonical T j) c a hc ha t, places-small p w))
 
     this-set : get_or (coveredFamily p U) j [] ≡ levels p Goals
     this-set = set-ext p _ _ (covered-canonical U j hj) (levels-canonical p Goals)
         (λ c a hc ha t. ⊎_elim (λ u. u)
-        (λ u. absurd (covers_at p U j c a (and_r _ _ (sym (covered-mem U j c a hj hc ha) ∙ t)) (this-entry c a hc ha ∙ outside-blank p w Goals (goals-canonical T j) c a hc ha u)))
+        (λ u. absurd (covers-at p U j c a (and-r _ _ (sym (covered-mem U j c a hj hc ha) ∙ t)) (this-entry c a hc ha ∙ outside-blank p w Goals (goals-canonical T j) c a hc ha u)))
         (dec (mem p (levels p Goals) c a)))
-        (λ c a hc ha t. covered-mem U j c a hj hc ha ∙ and_i (of-allMatched p c a hc ha (levels-matched p Goals c a hc ha t)) (this-covers c a hc ha t))
+        (λ c a hc ha t. covered-mem U j c a hj hc ha ∙ and-i (of-allMatched p c a hc ha (levels-matched p Goals c a hc ha t)) (this-covers c a hc ha t))
 
     -- nothing is covered that was not
     levels-old : Within p (levels p Goals) (get_or (coveredFamily p T) j [])
@@ -392,17 +392,17 @@ module _ (p : Pair) (w : WellPair p) where
     rises : (s c a : ℕ) → s < setsA p → c < nC p → a < nA p → rankOver p (goalsIn p T s) c a ≤ rankOver p (goalsIn p U s) c a
     rises s c a hs hc ha = ranks-rise p w (goalsIn p U s) (goalsIn p T s) (goals-canonical U s) (goals-canonical T s) (goals-mono p _ _ shrinks s hs) c a hc ha
 
-    still-bounded : (s : ℕ) → s < setsA p → Bounded p (goalsIn p U s) (part_of p U s)
+    still-bounded : (s : ℕ) → s < setsA p → Bounded p (goalsIn p U s) (partOf p U s)
     still-bounded s hs = by_cases (ℕ_discrete s j) this other
       where
-        this : s ≡ j → Bounded p (goalsIn p U s) (part_of p U s)
+        this : s ≡ j → Bounded p (goalsIn p U s) (partOf p U s)
         this e = record {
           long = part-long U s room hs;
           low = λ c a hc ha. omega (arith, part-entry U s c a hc ha, rw (← e) at (this-entry c a hc ha), rises s c a hs hc ha);
           unmatched = λ c a hc ha m. part-entry U s c a hc ha ∙ rw e (this-entry c a hc ha) ∙ unmatched-blank Goals (goals-canonical T j) c a hc ha m;
         }
 
-        other : (s ≡ j → ⊥) → Bounded p (goalsIn p U s) (part_of p U s)
+        other : (s ≡ j → ⊥) → Bounded p (goalsIn p U s) (partOf p U s)
         other n = record {
           long = part-long U s room hs;
           low = λ c a hc ha. omega (arith, part-entry U s c a hc ha, other-entry s c a n hc ha, part-entry T s c a hc ha, (d.bounded s hs).low c a hc ha, rises s c a hs hc ha);
@@ -421,7 +421,7 @@ module _ (p : Pair) (w : WellPair p) where
 
     -- a section that is not due after the turn has its ranks
     still-exact : (s : ℕ) → s < setsA p → get_or (coveredFamily p U) (next (setsA p) s) [] ≡ get_or (coveredFamily p T) (next (setsA p) s) []
-        → ((s ≡ j → ⊥) → hasBit due (setsA p - 1 - s) ≡ false) → AreRanks p (goalsIn p U s) (part_of p U s)
+        → ((s ≡ j → ⊥) → hasBit due (setsA p - 1 - s) ≡ false) → AreRanks p (goalsIn p U s) (partOf p U s)
     still-exact s hs e old = rw (goals-stay s e) (record {
       long = part-long U s room hs;
       ranks = λ c a hc ha. part-entry U s c a hc ha ∙ by_cases (ℕ_discrete s j)
@@ -434,10 +434,10 @@ module _ (p : Pair) (w : WellPair p) where
       some-due = omega arith
 
       place-low : i < setsA p
-      place-low = d.low i (ap (hasBit due) ei ∙ lowest_set 64 due some-due d.small)
+      place-low = d.low i (ap (hasBit due) ei ∙ lowest-set 64 due some-due d.small)
 
       -- a section that is not left and not this one was not due
-      not-due : (s : ℕ) → s < setsA p → hasBit (rest_of due) (setsA p - 1 - s) ≡ false → (s ≡ j → ⊥) → hasBit due (setsA p - 1 - s) ≡ false
+      not-due : (s : ℕ) → s < setsA p → hasBit (restOf due) (setsA p - 1 - s) ≡ false → (s ≡ j → ⊥) → hasBit due (setsA p - 1 - s) ≡ false
       not-due s hs t n = refute _ (λ u. clash t (rest-keeps 64 due some-due d.small (setsA p - 1 - s) u (λ q. n (omega (arith, place-low)))))
 
       -- the section before this one stands at the place after this one's
@@ -446,7 +446,7 @@ module _ (p : Pair) (w : WellPair p) where
           (λ l. omega (arith, rw (next-step (setsA p) s l) at e, next-step (setsA p) i (omega (arith, rw (next-step (setsA p) s l) at e, place-low)), place-low))
           (λ l. let q : j ≡ 0 = sym e ∙ next-wrap (setsA p) s (omega arith) in omega (arith, next-wrap (setsA p) i (omega (arith, place-low))))
 
-      swept : {left : ℕ} → left < 2 ^ 64 → ((b : ℕ) → hasBit left b ≡ true → b < setsA p) → ((b : ℕ) → hasBit left b ≡ false → hasBit (rest_of due) b ≡ false)
+      swept : {left : ℕ} → left < 2 ^ 64 → ((b : ℕ) → hasBit left b ≡ true → b < setsA p) → ((b : ℕ) → hasBit left b ≡ false → hasBit (restOf due) b ≡ false)
           → ((s : ℕ) → s < setsA p → next (setsA p) s ≡ j → hasBit left (setsA p - 1 - s) ≡ false → get_or (coveredFamily p U) j [] ≡ get_or (coveredFamily p T) j [])
           → Sweeping p first left U
       swept {left} small low kept same = record {
@@ -465,31 +465,31 @@ module _ (p : Pair) (w : WellPair p) where
           past : (e : ℕ) → entries p ≤ e → j * pairs p + pairs p ≤ e
           past e h = let q : suc j * pairs p ≤ setsA p * pairs p = mul-le-mul_right (pairs p) hj in omega arith
 
-      pub sweeping-same : changed ≡ false → Sweeping p first (rest_of due) U
-      sweeping-same t = swept (rest-small 64 due some-due d.small) (λ b u. d.low b (rest_has 64 due some-due d.small b u)) (λ b u. u) (λ s hs q u. this-set ∙ sym (r.same t))
+      pub sweeping-same : changed ≡ false → Sweeping p first (restOf due) U
+      sweeping-same t = swept (rest-small 64 due some-due d.small) (λ b u. d.low b (rest-has 64 due some-due d.small b u)) (λ b u. u) (λ s hs q u. this-set ∙ sym (r.same t))
 
-      pub sweeping-changed : Sweeping p first (withBit (rest_of due) (next (setsA p) i)) U
+      pub sweeping-changed : Sweeping p first (withBit (restOf due) (next (setsA p) i)) U
       sweeping-changed = swept small
-          (λ b u. ⊎_elim (λ v. d.low b (rest_has 64 due some-due d.small b v)) (λ v. rw (eqb-true b (next (setsA p) i) v) (next-lt (setsA p) i place-low)) (or-e (sym (bit b) ∙ u)))
+          (λ b u. ⊎_elim (λ v. d.low b (rest-has 64 due some-due d.small b v)) (λ v. rw (eqb-true b (next (setsA p) i) v) (next-lt (setsA p) i place-low)) (or-e (sym (bit b) ∙ u)))
           (λ b u. (or-none _ _ (sym (bit b) ∙ u)).0)
           (λ s hs q u. absurd (clash (or-none _ _ (sym (bit (setsA p - 1 - s)) ∙ u)).1 (eq-eqb (setsA p - 1 - s) (next (setsA p) i) (before-place s hs q))))
         where
           few : next (setsA p) i < 64
           few = omega (arith, next-lt (setsA p) i place-low, w.abstraction.sets-high)
 
-          bit : (b : ℕ) → hasBit (withBit (rest_of due) (next (setsA p) i)) b ≡ or (hasBit (rest_of due) b) (eqb b (next (setsA p) i))
-          bit b = has-with (rest_of due) (next (setsA p) i) b few
+          bit : (b : ℕ) → hasBit (withBit (restOf due) (next (setsA p) i)) b ≡ or (hasBit (restOf due) b) (eqb b (next (setsA p) i))
+          bit b = has-with (restOf due) (next (setsA p) i) b few
 
-          small : withBit (rest_of due) (next (setsA p) i) < 2 ^ 64
-          small = with-small (rest_of due) (next (setsA p) i) few (rest-small 64 due some-due d.small)
+          small : withBit (restOf due) (next (setsA p) i) < 2 ^ 64
+          small = with-small (restOf due) (next (setsA p) i) few (rest-small 64 due some-due d.small)
 
     -- where the set has changed, fewer entries are covered
     still-covered : (s c a : ℕ) → s < setsA p → c < nC p → a < nA p → covers p U s c a ≡ true → covers p T s c a ≡ true
     unfolding covers
     still-covered s c a hs hc ha t = by_cases (ℕ_discrete s j)
         (λ q. ⊎_elim
-        (λ u. rw q (and_r _ _ (sym (covered-mem T j c a hj hc ha) ∙ levels-old c a hc ha u)))
-        (λ u. absurd (covers_at p U s c a t (rw q (this-entry c a hc ha) ∙ outside-blank p w Goals (goals-canonical T j) c a hc ha u))) (dec (mem p (levels p Goals) c a)))
+        (λ u. rw q (and-r _ _ (sym (covered-mem T j c a hj hc ha) ∙ levels-old c a hc ha u)))
+        (λ u. absurd (covers-at p U s c a t (rw q (this-entry c a hc ha) ∙ outside-blank p w Goals (goals-canonical T j) c a hc ha u))) (dec (mem p (levels p Goals) c a)))
         (λ n. ap (λ (e : ℕ). not (eqb e blank)) (sym (other-entry s c a n hc ha)) ∙ t)
 
     entry-covered : (e : ℕ) → e < entries p → not (eqb (get_or U e 0) blank) ≡ true → not (eqb (get_or T e 0) blank) ≡ true
@@ -497,11 +497,11 @@ module _ (p : Pair) (w : WellPair p) where
     entry-covered e h t =
         let s : ℕ = e / pairs p in
         let i : ℕ = e % pairs p in
-        let hi : i < pairs p = mod-lt e (some_pairs p w) in
+        let hi : i < pairs p = mod-lt e (some-pairs p w) in
         let y : s * pairs p + i ≡ e = div-add-mod' e (pairs p) in
-        ap (λ (n : ℕ). not (eqb n blank)) (sym (entry_at T s i hi ∙ ap (λ (n : ℕ). get_or T n 0) y))
-        ∙ still-covered s (i / nA p) (i % nA p) ((div-lt_iff_lt-mul (some_pairs p w)).1 h) (row_of i hi) (state-of i)
-        (ap (λ (n : ℕ). not (eqb n blank)) (entry_at U s i hi ∙ ap (λ (n : ℕ). get_or U n 0) y) ∙ t)
+        ap (λ (n : ℕ). not (eqb n blank)) (sym (entry-at T s i hi ∙ ap (λ (n : ℕ). get_or T n 0) y))
+        ∙ still-covered s (i / nA p) (i % nA p) ((div-lt_iff_lt-mul (some-pairs p w)).1 h) (row-of i hi) (state-of i)
+        (ap (λ (n : ℕ). not (eqb n blank)) (entry-at U s i hi ∙ ap (λ (n : ℕ). get_or U n 0) y) ∙ t)
 
     pub covered-stays : coveredCount p U ≤ coveredCount p T
     unfolding coveredCount
@@ -519,19 +519,19 @@ module _ (p : Pair) (w : WellPair p) where
             let e : ℕ = entryIndex (nC p) (nA p) j c a in
             let m = sym (covered-mem T j c a hj hc ha) ∙ u in
             let v = bit-eq (not (eqb (get_or U e 0) blank)) (not (eqb (get_or T e 0) blank)) (entry-covered e (index-entries p j c a hj hc ha))
-            (sum-eq (entries p) (Bit U) (Bit T) (λ i h. bit-mono _ _ (entry-covered i h)) l e (index-entries p j c a hj hc ha)) (and_r _ _ m) in
-            rw (← this-set) (covered-mem U j c a hj hc ha ∙ and_i (and_l _ _ m) v))
+            (sum-eq (entries p) (Bit U) (Bit T) (λ i h. bit-mono _ _ (entry-covered i h)) l e (index-entries p j c a hj hc ha)) (and-r _ _ m) in
+            rw (← this-set) (covered-mem U j c a hj hc ha ∙ and-i (and-l _ _ m) v))
             levels-old
 
   -- ---- no section is due
   module _ {first T : List ℕ} {due : ℕ} (z : due ≡ 0) (d : Sweeping p first due T) where
-    all : (s : ℕ) → s < setsA p → AreRanks p (goalsIn p T s) (part_of p T s)
+    all : (s : ℕ) → s < setsA p → AreRanks p (goalsIn p T s) (partOf p T s)
     all s hs = d.exact s hs (ap (λ (m : ℕ). hasBit m (setsA p - 1 - s)) z ∙ has-none (setsA p - 1 - s))
 
     -- each set lies within its levels, so that the table covers the family and nothing else
     inside : (s : ℕ) → s < setsA p → Within p (get_or (coveredFamily p T) s []) (levels p (goalsIn p T s))
     inside s hs c a hc ha t = ⊎_elim (λ u. u)
-        (λ u. absurd (covers_at p T s c a (and_r _ _ (sym (covered-mem T s c a hs hc ha) ∙ t))
+        (λ u. absurd (covers-at p T s c a (and-r _ _ (sym (covered-mem T s c a hs hc ha) ∙ t))
         (sym (part-entry T s c a hc ha) ∙ (all s hs).ranks c a hc ha ∙ outside-blank p w (goalsIn p T s) (goals-canonical T s) c a hc ha u)))
         (dec (mem p (levels p (goalsIn p T s)) c a))
 

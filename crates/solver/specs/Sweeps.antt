@@ -18,8 +18,8 @@ pub record Begun (P nA : ℕ) (matched first : List ℕ) (j : ℕ) (T : List ℕ
 
 module _ (p : Pair) where
   -- the entries of section j
-  unfoldable pub part_of : List ℕ → ℕ → List ℕ
-  part_of T j = take (pairs p) (drop (j * pairs p) T)
+  unfoldable pub partOf : List ℕ → ℕ → List ℕ
+  partOf T j = take (pairs p) (drop (j * pairs p) T)
 
   -- the pairs that a table covers, section by section
   unfoldable pub coveredFamily : List ℕ → List (List ℕ)
@@ -33,13 +33,13 @@ module _ (p : Pair) where
   pub record Renewable (j : ℕ) (T : List ℕ) : Type 0 where
     pub room : tableRoom ≤ length T
     pub section : j < setsA p
-    pub bounded : (i : ℕ) → i < setsA p → Bounded p (goalsIn T i) (part_of T i)
+    pub bounded : (i : ℕ) → i < setsA p → Bounded p (goalsIn T i) (partOf T i)
 
   -- it has been: its entries are the ranks over those goals, and it is said whether its set has changed
   pub record Renewed (j : ℕ) (T : List ℕ) (changed : Bool) (U : List ℕ) : Type 0 where
     pub long : length U ≡ length T
     pub others : (e : ℕ) → (e < j * pairs p) ⊎ (j * pairs p + pairs p ≤ e) → get_or U e 0 ≡ get_or T e 0
-    pub ranks : AreRanks p (goalsIn T j) (part_of U j)
+    pub ranks : AreRanks p (goalsIn T j) (partOf U j)
     pub same : changed ≡ false → get_or (coveredFamily T) j [] ≡ levels p (goalsIn T j)
     pub differs : changed ≡ true → get_or (coveredFamily T) j [] ≡ levels p (goalsIn T j) → ⊥
 
@@ -51,12 +51,12 @@ module _ (p : Pair) where
     pub room : tableRoom ≤ length T
     pub long : length T ≡ length first
     pub rest : (e : ℕ) → entries p ≤ e → get_or T e 0 ≡ get_or first e 0
-    pub bounded : (j : ℕ) → j < setsA p → Bounded p (goalsIn T j) (part_of T j)
+    pub bounded : (j : ℕ) → j < setsA p → Bounded p (goalsIn T j) (partOf T j)
     pub above : (j : ℕ) → j < setsA p → Within p (get_or (family p) j []) (get_or (coveredFamily T) j [])
-    pub exact : (j : ℕ) → j < setsA p → hasBit due (setsA p - 1 - j) ≡ false → AreRanks p (goalsIn T j) (part_of T j)
+    pub exact : (j : ℕ) → j < setsA p → hasBit due (setsA p - 1 - j) ≡ false → AreRanks p (goalsIn T j) (partOf T j)
 
   -- the ranks over a family of sets, in the first j sections of a table; the rest is as it was
   pub record FamilyRanked (Z : List (List ℕ)) (first : List ℕ) (j : ℕ) (T : List ℕ) : Type 0 where
     pub long : length T ≡ length first
-    pub ranks : (i : ℕ) → i < j → AreRanks p (goals p Z i) (part_of T i)
+    pub ranks : (i : ℕ) → i < j → AreRanks p (goals p Z i) (partOf T i)
     pub rest : (e : ℕ) → j * pairs p ≤ e → get_or T e 0 ≡ get_or first e 0

@@ -8,13 +8,13 @@ ghost use Rattle.std.specs.Prelude.{◌≡◌, true, ◌++◌, ◌+◌, ◌-◌,
 ghost use Rattle.mask.specs.Bits.{fullMask};
 ghost use Rattle.mask.specs.Tables.{table};
 ghost use Rattle.machine.specs.Machines.{nC, nA, setsC, setsA, pairs, fairSet};
-ghost use Rattle.machine.specs.Refusals.{tested_of};
+ghost use Rattle.machine.specs.Refusals.{testedOf};
 ghost use Rattle.machine.specs.Table.{blank, tableRoom};
 ghost use Rattle.machine.specs.Ranks.{rankTable, solverTable};
 ghost use Rattle.machine.specs.Observed.{matchedMasks};
 ghost use Rattle.machine.specs.WellFormed.{wellFormed};
 ghost use Rattle.machine.specs.Game.{level, levels, goals};
-ghost use Rattle.rows.specs.Rows.{rows_of, pairsIn, stepRows, goalRows};
+ghost use Rattle.rows.specs.Rows.{rowsOf, pairsIn, stepRows, goalRows};
 ghost use Rattle.rows.specs.Entries.{uptoRows, writeRows};
 ghost use Rattle.solver.specs.Families.{sectionOf, familyIn, turnRows, putSection};
 ghost use Rattle.solver.specs.Ranking.{Prepared, Holds, Bounded, RankedTo, AreRanks};
@@ -72,8 +72,8 @@ fn level(
     l: usize,
     part: &mut [u16],
 ) -> [u64; 64]
-    requires { (Prepared p matched.now dependents.now predecessors.now × Holds p goals.now) × ((l < pairs p) × ((below.now ≡ rows_of (level p (pairsIn p goals.now) l)) × RankedTo p (pairsIn p goals.now) part.old (l * setsC p) part.old)) }
-    ensures { (result ≡ rows_of (level p (pairsIn p goals.now) (l + 1))) × RankedTo p (pairsIn p goals.now) part.old ((l + 1) * setsC p) part.new }
+    requires { (Prepared p matched.now dependents.now predecessors.now × Holds p goals.now) × ((l < pairs p) × ((below.now ≡ rowsOf (level p (pairsIn p goals.now) l)) × RankedTo p (pairsIn p goals.now) part.old (l * setsC p) part.old)) }
+    ensures { (result ≡ rowsOf (level p (pairsIn p goals.now) (l + 1))) × RankedTo p (pairsIn p goals.now) part.old ((l + 1) * setsC p) part.new }
 {
     let concrete = p.concrete;
     let abstraction = p.abstraction;
@@ -117,7 +117,7 @@ fn levels(
     part: &mut [u16],
 ) -> [u64; 64]
     requires { (Prepared p matched.now dependents.now predecessors.now × Holds p goals.now) × Bounded p (pairsIn p goals.now) part.old }
-    ensures { (result ≡ rows_of (levels p (pairsIn p goals.now))) × RankedTo p (pairsIn p goals.now) part.old (pairs p * setsC p) part.new }
+    ensures { (result ≡ rowsOf (levels p (pairsIn p goals.now))) × RankedTo p (pairsIn p goals.now) part.old (pairs p * setsC p) part.new }
 {
     let concrete = p.concrete;
     let abstraction = p.abstraction;
@@ -167,7 +167,7 @@ fn section(
     part: &mut [u16],
 ) -> [u64; 64]
     requires { (Prepared p matched.now dependents.now predecessors.now × Holds p goals.now) × (Bounded p (pairsIn p goals.now) part.old × (covered.now ≡ uptoRows (nC p) (nA p) part.old (blank - 1))) }
-    ensures { (result ≡ rows_of (levels p (pairsIn p goals.now))) × AreRanks p (pairsIn p goals.now) part.new }
+    ensures { (result ≡ rowsOf (levels p (pairsIn p goals.now))) × AreRanks p (pairsIn p goals.now) part.new }
 {
     let concrete = p.concrete;
     let abstraction = p.abstraction;
@@ -290,8 +290,8 @@ fn rank_all(p: Pair, table: &mut [u16])
 
 // Writes the ranks of two machines into a lent table of 28,672 entries or more: exactly n x P entries, and none beside a refusal.
 pub fn solve(p: Pair, table: &mut [u16]) -> Validity
-    ensures result_value { tested_of result ≡ solveValidity p (length table.old) }
-    ensures table_after { table.new ≡ solvedTable p table.old }
+    ensures answer { testedOf result ≡ solveValidity p (length table.old) }
+    ensures content { table.new ≡ solvedTable p table.old }
 {
     if table.len() < machine::TABLE_ROOM {
         return Validity::Refused(machine::refuse(machine::SHORT_BUFFER, 0, 0, 0));
@@ -340,7 +340,7 @@ fn afresh(
     part: &mut [u16],
 ) -> [u64; 64]
     requires { (Prepared p matched.now dependents.now predecessors.now × Holds p goals.now) × (length part.old ≡ pairs p) }
-    ensures { (result ≡ rows_of (levels p (pairsIn p goals.now))) × AreRanks p (pairsIn p goals.now) part.new }
+    ensures { (result ≡ rowsOf (levels p (pairsIn p goals.now))) × AreRanks p (pairsIn p goals.now) part.new }
 {
     let concrete = p.concrete;
     let abstraction = p.abstraction;
@@ -362,7 +362,7 @@ fn turn_section(
     part: &mut [u16],
 ) -> [u64; 448]
     requires { Prepared p matched.now dependents.now predecessors.now × ((j < setsA p) × ((length part.old ≡ pairs p) × (length made.now ≡ 448))) }
-    ensures { (result ≡ putSection made.now j (rows_of (levels p (goals p (familyIn p family.now) j)))) × AreRanks p (goals p (familyIn p family.now) j) part.new }
+    ensures { (result ≡ putSection made.now j (rowsOf (levels p (goals p (familyIn p family.now) j)))) × AreRanks p (goals p (familyIn p family.now) j) part.new }
 {
     let abstraction = p.abstraction;
     let n = abstraction.sets;
@@ -431,9 +431,9 @@ fn turn_all(p: Pair, family: [u64; 448], table: &mut [u16]) -> [u64; 448]
 // Of a family of any rows: the family that a turn makes of it, and the ranks over it in a lent table of 28,672 entries or more, exactly n x P of
 // them. Beside a refusal the family comes back as it was, and nothing is written.
 pub fn turn_family(p: Pair, family: [u64; 448], table: &mut [u16]) -> TurnedFamily
-    ensures validity_value { tested_of result.validity ≡ solveValidity p (length table.old) }
-    ensures family_value { result.family ≡ turnedFamily p family (length table.old) }
-    ensures table_after { table.new ≡ turnedTable p family table.old }
+    ensures validity { testedOf result.validity ≡ solveValidity p (length table.old) }
+    ensures family { result.family ≡ turnedFamily p family (length table.old) }
+    ensures content { table.new ≡ turnedTable p family table.old }
 {
     let room = table.len();
     if room < machine::TABLE_ROOM {

@@ -8,7 +8,7 @@ use Rattle.mask.specs.Bits.{hasBit}
 use Rattle.mask.specs.BoundedLaws.{someIn-at, someIn-of}
 use Rattle.machine.specs.declared.Pair.{Pair}
 use Rattle.machine.specs.Machines.{nC, nA, setsC, setsA, successors, moves, starts, inFairSet, next}
-use Rattle.machine.specs.Step.{partner, found, state_of}
+use Rattle.machine.specs.Step.{partner, found, stateOf}
 use Rattle.machine.specs.StepLaws.{Steps}
 use Rattle.machine.specs.PartnerLaws.{partner-found, partner-at, found-state}
 use Rattle.machine.specs.SingleStep.{Best, Chosen}
@@ -16,8 +16,8 @@ use Rattle.machine.specs.SingleStepLaws.{single-found, chosen-named}
 use Rattle.machine.specs.Table.{entry}
 use Rattle.machine.specs.Ranks.{levelOf, setOf}
 use Rattle.machine.specs.LevelLaws.{level-low, level-below}
-use Rattle.machine.specs.Lines.{nonBlank, at_most, passesEach}
-use Rattle.machine.specs.LinesLaws.{Passing, passes_at, each_at, covers_of, nonBlank-at, nonBlank-of, atMost-at, lower-atMost}
+use Rattle.machine.specs.Lines.{nonBlank, atMost, passesEach}
+use Rattle.machine.specs.LinesLaws.{Passing, passes-at, each-at, covers-of, nonBlank-at, nonBlank-of, atMost-at, lower-atMost}
 use Rattle.machine.specs.Verdict.{startCovered}
 use Rattle.machine.specs.WellFormedLaws.{WellPair, ranks-small}
 use Rattle.machine.specs.Player.{Place, startPartner, sectionAfter, follow, stepTo}
@@ -35,15 +35,15 @@ module _ (p : Pair) (T : List ℕ) where
     pub covered : nonBlank p T at.section c at.state ≡ true
 
   -- the entry of a place beside c
-  abbrev pub entry_at : ℕ → Place → ℕ
-  entry_at c at = entry p T at.section c at.state
+  abbrev pub entry-at : ℕ → Place → ℕ
+  entry-at c at = entry p T at.section c at.state
 
   -- what the rule's answer `to`, at the place `at`, to a move from c to d has: entries never rise while they are not 0, and fall in rig set k
   pub record Answer (c d : ℕ) (at to : Place) : Type 0 where
     pub again : Covered d to
     pub moved : moves p.abstraction at.state to.state ≡ true
-    pub stays : entry_at c at ≢ 0 → entry_at d to ≤ entry_at c at
-    pub falls : entry_at c at ≢ 0 → inFairSet p.concrete (setOf (setsC p) (entry_at c at)) c ≡ true → entry_at d to < entry_at c at
+    pub stays : entry-at c at ≢ 0 → entry-at d to ≤ entry-at c at
+    pub falls : entry-at c at ≢ 0 → inFairSet p.concrete (setOf (setsC p) (entry-at c at)) c ≡ true → entry-at d to < entry-at c at
 
   -- b is a partner of least entry beside d, whatever the rule for ties
   pub record LeastPartner (c d : ℕ) (at : Place) (b : ℕ) : Type 0 where
@@ -53,11 +53,11 @@ module _ (p : Pair) (T : List ℕ) where
     pub least : (i : ℕ) → i < nA p → moves p.abstraction at.state i ≡ true → nonBlank p T (sectionAfter p T c at) d i ≡ true
         → entry p T (sectionAfter p T c at) d b ≤ entry p T (sectionAfter p T c at) d i
 
-  section-goal : (c : ℕ) (at : Place) → entry_at c at ≡ 0 → sectionAfter p T c at ≡ next (setsA p) at.section
+  section-goal : (c : ℕ) (at : Place) → entry-at c at ≡ 0 → sectionAfter p T c at ≡ next (setsA p) at.section
   unfolding sectionAfter
   section-goal c at e = rw (eq-eqb _ _ e)
 
-  section-stays : (c : ℕ) (at : Place) → entry_at c at ≢ 0 → sectionAfter p T c at ≡ at.section
+  section-stays : (c : ℕ) (at : Place) → entry-at c at ≢ 0 → sectionAfter p T c at ≡ at.section
   unfolding sectionAfter
   section-stays c at e = rw (ne_eqb _ _ e)
 
@@ -67,13 +67,13 @@ module _ (p : Pair) (T : List ℕ) where
     low : who < nA p
     moved : moves p.abstraction at.state who ≡ true
     covered : nonBlank p T (sectionAfter p T c at) d who ≡ true
-    stays : entry_at c at ≢ 0 → entry p T (sectionAfter p T c at) d who ≤ entry_at c at
-    falls : entry_at c at ≢ 0 → inFairSet p.concrete (setOf (setsC p) (entry_at c at)) c ≡ true → entry p T (sectionAfter p T c at) d who < entry_at c at
+    stays : entry-at c at ≢ 0 → entry p T (sectionAfter p T c at) d who ≤ entry-at c at
+    falls : entry-at c at ≢ 0 → inFairSet p.concrete (setOf (setsC p) (entry-at c at)) c ≡ true → entry p T (sectionAfter p T c at) d who < entry-at c at
 
   module _ (w : WellPair p) (passing : passesEach p T ≡ true) where
     pub passing-at : (c : ℕ) (at : Place) → c < nC p → Covered c at → Passing p T at.section c at.state
     passing-at c at hc h =
-        passes_at p T at.section c at.state (each_at p T passing at.section c at.state h.section-bound hc h.bound)
+        passes-at p T at.section c at.state (each-at p T passing at.section c at.state h.section-bound hc h.bound)
         (nonBlank-at p T at.section c at.state h.covered).1
 
     -- states are bits of a mask
@@ -81,13 +81,13 @@ module _ (p : Pair) (T : List ℕ) where
     small h = omega (arith, w.abstraction.states-high)
 
     -- an entry that is small enough is not blank
-    small-covered : (j c a r : ℕ) → r ≤ setsC p * (nC p * nA p) → at_most p T j r c a ≡ true → nonBlank p T j c a ≡ true
+    small-covered : (j c a r : ℕ) → r ≤ setsC p * (nC p * nA p) → atMost p T j r c a ≡ true → nonBlank p T j c a ≡ true
     small-covered j c a r h t =
         let q = atMost-at p T j r c a t in
-        nonBlank-of p T j c a q.0 (covers_of p T j c a (λ e. omega (arith, q.1, ranks-small p w)))
+        nonBlank-of p T j c a q.0 (covers-of p T j c a (λ e. omega (arith, q.1, ranks-small p w)))
 
     -- in a goal, the next section has it; elsewhere the line bounds its entry
-    line-partner-goal : (c d : ℕ) (at : Place) → c < nC p → Covered c at → d < nC p → moves p.concrete c d ≡ true → entry_at c at ≡ 0 → LinePartner c d at
+    line-partner-goal : (c d : ℕ) (at : Place) → c < nC p → Covered c at → d < nC p → moves p.concrete c d ≡ true → entry-at c at ≡ 0 → LinePartner c d at
     line-partner-goal c d at hc h hd m e =
         let b = (passing-at c at hc h).to-next e d hd m in
         record {
@@ -99,9 +99,9 @@ module _ (p : Pair) (T : List ℕ) where
           falls = λ z. absurd (z e);
         }
 
-    line-partner-ranked : (c d : ℕ) (at : Place) → c < nC p → Covered c at → d < nC p → moves p.concrete c d ≡ true → entry_at c at ≢ 0
-        → (bound : ℕ) → bound ≤ entry_at c at → (inFairSet p.concrete (setOf (setsC p) (entry_at c at)) c ≡ true → bound < entry_at c at)
-        → Steps p (at_most p T at.section bound) c at.state → LinePartner c d at
+    line-partner-ranked : (c d : ℕ) (at : Place) → c < nC p → Covered c at → d < nC p → moves p.concrete c d ≡ true → entry-at c at ≢ 0
+        → (bound : ℕ) → bound ≤ entry-at c at → (inFairSet p.concrete (setOf (setsC p) (entry-at c at)) c ≡ true → bound < entry-at c at)
+        → Steps p (atMost p T at.section bound) c at.state → LinePartner c d at
     line-partner-ranked c d at hc h hd m z bound most less line =
         let b = line d hd m in
         let small = (atMost-at p T at.section bound d b.0 b.3).1 in
@@ -122,12 +122,12 @@ module _ (p : Pair) (T : List ℕ) where
         (dec (inFairSet p.concrete (setOf (setsC p) r) c)))
       where
         r : ℕ
-        r = entry_at c at
+        r = entry-at c at
 
         line : Passing p T at.section c at.state
         line = passing-at c at hc h
 
-        lowered : r ≢ 0 → inFairSet p.concrete (setOf (setsC p) r) c ≡ true → Steps p (at_most p T at.section ((levelOf (setsC p) r - 1) * setsC p)) c at.state
+        lowered : r ≢ 0 → inFairSet p.concrete (setOf (setsC p) r) c ≡ true → Steps p (atMost p T at.section ((levelOf (setsC p) r - 1) * setsC p)) c at.state
         lowered z i d hd m =
             let b = line.inside z i d hd m in
             (b.0, b.1, b.2, rw (lower-atMost p T at.section (levelOf (setsC p) r) d b.0 w.concrete.sets-low (level-low (setsC p) r)) at b.3)
@@ -147,13 +147,13 @@ module _ (p : Pair) (T : List ℕ) where
 
     -- the rule's is the one that the single step chooses
     follow-chosen : (c d : ℕ) (at : Place) → LinePartner c d at → let j = sectionAfter p T c at in
-        Chosen at.state (successors p.abstraction at.state) (nonBlank p T j d) (entry p T j d) (state_of (follow p T j at d))
+        Chosen at.state (successors p.abstraction at.state) (nonBlank p T j d) (entry p T j d) (stateOf (follow p T j at d))
     unfolding follow moves
     follow-chosen c d at k = chosen-named at.state (entry p T (sectionAfter p T c at) d) _ _
         (single-found at.state _ _ _ ∙ someIn-of 64 _ _ k.who (small k.low) k.moved k.covered)
 
     -- and so of least entry
-    follow-least : (c d : ℕ) (at : Place) → at.state < nA p → LinePartner c d at → LeastPartner c d at (state_of (follow p T (sectionAfter p T c at) at d))
+    follow-least : (c d : ℕ) (at : Place) → at.state < nA p → LinePartner c d at → LeastPartner c d at (stateOf (follow p T (sectionAfter p T c at) at d))
     unfolding moves
     follow-least c d at h k =
         let x = follow-chosen c d at k in
@@ -176,12 +176,12 @@ module _ (p : Pair) (T : List ℕ) where
       step-chosen = follow-chosen c d at (line-partner c d at hc h hd m)
 
     -- the rule's start, where there is a partner, is the lowest start state of least entry
-    pub start-best : (c : ℕ) → found (startPartner p T c) ≡ true → Best p.abstraction.start (nonBlank p T 0 c) (entry p T 0 c) (state_of (startPartner p T c))
+    pub start-best : (c : ℕ) → found (startPartner p T c) ≡ true → Best p.abstraction.start (nonBlank p T 0 c) (entry p T 0 c) (stateOf (startPartner p T c))
     unfolding startPartner
     start-best c t = partner-at p.abstraction.start (nonBlank p T 0 c) (entry p T 0 c) _ (found-state _ t)
 
-    pub start-place : (c : ℕ) → found (startPartner p T c) ≡ true → Covered c (record { state = state_of (startPartner p T c); section = 0 })
-        × (starts p.abstraction (state_of (startPartner p T c)) ≡ true)
+    pub start-place : (c : ℕ) → found (startPartner p T c) ≡ true → Covered c (record { state = stateOf (startPartner p T c); section = 0 })
+        × (starts p.abstraction (stateOf (startPartner p T c)) ≡ true)
     unfolding starts
     start-place c t =
         let x = (start-best c t).candidate in (
@@ -198,6 +198,6 @@ module _ (p : Pair) (T : List ℕ) where
     unfolding startPartner startCovered
     start-found c hc t =
         let b = someIn-at _ _ _ t in
-        let s = passes_at p T 0 c b.0 (each_at p T passing 0 c b.0 w.abstraction.sets-low hc b.1) b.3 in
+        let s = passes-at p T 0 c b.0 (each-at p T passing 0 c b.0 w.abstraction.sets-low hc b.1) b.3 in
         named p.abstraction.start (nonBlank p T 0 c) (entry p T 0 c) b.0 (small b.1) b.2
         (nonBlank-of p T 0 c b.0 s.is-matched b.3)

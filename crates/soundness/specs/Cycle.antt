@@ -4,7 +4,7 @@ use Rattle.std.proofs.Common.{⊎_elim, ap, arith, eqb-true, eq-eqb, le-leb}
 use Rattle.std.proofs.Math.Decide.{dec_le, dec_lt}
 use Rattle.std.proofs.lemmas.Bool.{eqb-false, lt-leb}
 use Rattle.mask.specs.Logic.{and}
-use Rattle.mask.specs.LogicLaws.{dec, clash, and_l, and_r, and_i}
+use Rattle.mask.specs.LogicLaws.{dec, clash, and-l, and-r, and-i}
 use Rattle.mask.specs.BoundedLaws.{find}
 use Rattle.machine.specs.Machines.{next}
 use Rattle.machine.specs.StepLaws.{next-wrap, next-step}
@@ -71,9 +71,9 @@ pub sections-met : (n : ℕ) (j : ℕ → ℕ) (goal : ℕ → Bool) (N : ℕ) �
     → ((i : ℕ) → i < N → j (suc i) ≡ cond (goal i) (next n (j i)) (j i)) → j 0 ≡ j N → (i : ℕ) × (i < N) × (goal i ≡ true)
     → (s : ℕ) → s < n → (i : ℕ) × (i < N) × (goal i ≡ true) × (j i ≡ s)
 sections-met n j goal N bound step ends g s hs = ⊎_elim
-    (λ q. (q.0, q.1, and_l _ _ q.2, eqb-true _ _ (and_r _ _ q.2)))
+    (λ q. (q.0, q.1, and-l _ _ q.2, eqb-true _ _ (and-r _ _ q.2)))
     (λ none.
-    let ne : (i : ℕ) → i < N → goal i ≡ true → j i ≢ s = λ i l t e. clash (none i l) (and_i t (eq-eqb (j i) s e)) in
+    let ne : (i : ℕ) → i < N → goal i ≡ true → j i ≢ s = λ i l t e. clash (none i l) (and-i t (eq-eqb (j i) s e)) in
     let moves : (i : ℕ) → i < N → goal i ≡ true → along n s (j (suc i)) ≡ suc (along n s (j i)) =
     λ i l t. rw (step i l, t) (along-next n s (j i) hs (bound i) (ne i l t)) in
     let stays : (i : ℕ) → i < N → goal i ≡ false → along n s (j (suc i)) ≡ along n s (j i) = λ i l t. rw (step i l, t) refl in

@@ -5,15 +5,15 @@ use Rattle.std.proofs.Common.{subst, ◌∙◌, mod-lt, div-add-mod', mul-pos, a
 use Rattle.std.proofs.Math.Nat.{add-mod_right}
 use Rattle.std.proofs.Math.Decide.{dec_lt}
 use Rattle.std.proofs.Math.ListN.{length}
-use Rattle.mask.specs.LogicLaws.{and_l, and_r, and_i}
-use Rattle.mask.specs.BoundedLaws.{every-at, every_of, some_at, some_of}
+use Rattle.mask.specs.LogicLaws.{and-l, and-r, and-i}
+use Rattle.mask.specs.BoundedLaws.{every-at, every-of, some-at, some-of}
 use Rattle.mask.specs.Tables.{table}
-use Rattle.mask.specs.TablesLaws.{table-length, table_at}
+use Rattle.mask.specs.TablesLaws.{table-length, table-at}
 use Rattle.machine.specs.declared.Machine.{Machine}
 use Rattle.machine.specs.Machines.{observation, moves, starts, inFairSet}
 use Rattle.machine.specs.Lassos.{Lasso, moment, isLasso, isFair, fromStart, isPlay, SameObservations}
 use Rattle.machine.specs.LassosLaws.{moment-stem, moment-round, moment-loop, Goes, lasso-loop, lasso-goes, lasso-of}
-use Rattle.machine.specs.HiddenLaws.{HidesMore, same-zero, same_refl, same-sym, same-trans, same_more}
+use Rattle.machine.specs.HiddenLaws.{HidesMore, same-zero, same-refl, same-sym, same-trans, same-more}
 use Rattle.soundness.specs.Plays.{Again, lassoOf, unrolled, SamePlay, Play}
 
 -- ---- sequences that come again
@@ -54,13 +54,13 @@ lassoOf-loop p q f = table-length q (λ i. f (p + i))
 
 lassoOf-stem-at : (p q : ℕ) (f : ℕ → ℕ) (t : ℕ) → t < p → moment (lassoOf p q f) t ≡ f t
 unfolding lassoOf
-lassoOf-stem-at p q f t h = moment-stem (lassoOf p q f) t (rw (table-length p f) h) ∙ table_at p f t 0 h
+lassoOf-stem-at p q f t h = moment-stem (lassoOf p q f) t (rw (table-length p f) h) ∙ table-at p f t 0 h
 
 lassoOf-loop-at : (p q : ℕ) (f : ℕ → ℕ) (i : ℕ) → i < q → moment (lassoOf p q f) (p + i) ≡ f (p + i)
 unfolding lassoOf
 lassoOf-loop-at p q f i h =
     ap (λ (x : ℕ). moment (lassoOf p q f) (x + i)) (sym (table-length p f)) ∙ moment-loop (lassoOf p q f) i (rw (table-length q (λ i. f (p + i))) h)
-    ∙ table_at q (λ i. f (p + i)) i 0 h
+    ∙ table-at q (λ i. f (p + i)) i 0 h
 
 lassoOf-again : (p q : ℕ) (f : ℕ → ℕ) → Again p q (moment (lassoOf p q f))
 lassoOf-again p q f t h =
@@ -98,12 +98,12 @@ table-cut p q f = λ i. record { stem = front i; loop = back i }
     front : take p (table (p + q) f) ≡ table p f
     front = ext_get_or 0 (take p (table (p + q) f)) (table p f) (long ∙ sym (table-length p f))
         (λ i h. let b : i < p = omega (arith, long) in
-        get_or-take p (table (p + q) f) i 0 b ∙ table_at (p + q) f i 0 (omega arith) ∙ sym (table_at p f i 0 b))
+        get_or-take p (table (p + q) f) i 0 b ∙ table-at (p + q) f i 0 (omega arith) ∙ sym (table-at p f i 0 b))
 
     back : drop p (table (p + q) f) ≡ table q (λ i. f (p + i))
     back = ext_get_or 0 (drop p (table (p + q) f)) (table q (λ i. f (p + i))) (rest ∙ sym (table-length q (λ i. f (p + i))))
         (λ i h. let b : i < q = omega (arith, rest) in
-        get_or-drop p (table (p + q) f) i 0 ∙ table_at (p + q) f (p + i) 0 (omega arith) ∙ sym (table_at q (λ i. f (p + i)) i 0 b))
+        get_or-drop p (table (p + q) f) i 0 ∙ table-at (p + q) f (p + i) 0 (omega arith) ∙ sym (table-at q (λ i. f (p + i)) i 0 b))
 
 -- ---- what the tests of a lasso say of its endless play
 module _ (m : Machine) (l : Lasso) where
@@ -119,12 +119,12 @@ module _ (m : Machine) (l : Lasso) where
   pub fair-at : isFair m l ≡ true → (k : ℕ) → k < m.sets → (i : ℕ) × (i < length l.loop) × (inFairSet m k (moment l (length l.stem + i)) ≡ true)
   unfolding isFair
   fair-at h k b =
-      let x = some_at _ _ (every-at _ _ h k b) in
+      let x = some-at _ _ (every-at _ _ h k b) in
       (x.0, x.1, ap (inFairSet m k) (moment-loop l x.0 x.1) ∙ x.2)
 
   pub fair-of : ((k : ℕ) → k < m.sets → (i : ℕ) × (i < length l.loop) × (inFairSet m k (moment l (length l.stem + i)) ≡ true)) → isFair m l ≡ true
   unfolding isFair
-  fair-of h = every_of _ _ (λ k b. let x = h k b in some_of _ _ x.0 x.1 (ap (inFairSet m k) (sym (moment-loop l x.0 x.1)) ∙ x.2))
+  fair-of h = every-of _ _ (λ k b. let x = h k b in some-of _ _ x.0 x.1 (ap (inFairSet m k) (sym (moment-loop l x.0 x.1)) ∙ x.2))
 
   -- fair as a fact about the endless play: each set is met again after any moment
   pub fair-often : isFair m l ≡ true → (k : ℕ) → k < m.sets → (from : ℕ) → (t : ℕ) × (from ≤ t) × (inFairSet m k (moment l t) ≡ true)
@@ -153,26 +153,26 @@ module _ (m : Machine) (l : Lasso) where
   unfolding fromStart
   start-at h = h
 
-  pub start_of : starts m (moment l 0) ≡ true → fromStart m l ≡ true
+  pub start-of : starts m (moment l 0) ≡ true → fromStart m l ≡ true
   unfolding fromStart
-  start_of h = h
+  start-of h = h
 
   pub play-at : isPlay m l ≡ true → Play m l
   unfolding isPlay
   play-at h = record {
-    some-loop = lasso-loop m l (and_l _ _ h);
-    bound = λ t. (lasso-at (and_l _ _ h) t).0;
-    step = λ t. (lasso-at (and_l _ _ h) t).1;
-    fair = fair-at (and_l _ _ (and_r _ _ h));
-    start = start-at (and_r _ _ (and_r _ _ h));
+    some-loop = lasso-loop m l (and-l _ _ h);
+    bound = λ t. (lasso-at (and-l _ _ h) t).0;
+    step = λ t. (lasso-at (and-l _ _ h) t).1;
+    fair = fair-at (and-l _ _ (and-r _ _ h));
+    start = start-at (and-r _ _ (and-r _ _ h));
   }
 
   pub play-parts : isLasso m l ≡ true → isFair m l ≡ true → fromStart m l ≡ true → isPlay m l ≡ true
   unfolding isPlay
-  play-parts h f s = and_i h (and_i f s)
+  play-parts h f s = and-i h (and-i f s)
 
   pub play-of : Play m l → isPlay m l ≡ true
-  play-of y = play-parts (lasso-of m l y.some-loop (λ t b. (y.bound t, y.step t))) (fair-of y.fair) (start_of y.start)
+  play-of y = play-parts (lasso-of m l y.some-loop (λ t b. (y.bound t, y.step t))) (fair-of y.fair) (start-of y.start)
 
   -- each set is met in each round
   pub fair-round : Play m l → (x k : ℕ) → k < m.sets
@@ -201,7 +201,7 @@ module _ (m : Machine) (p q : ℕ) (f : ℕ → ℕ) (pos : 0 < q) (again : Agai
       (x.0, rw (lassoOf-stem p q f) x.1, ap (inFairSet m k) (lassoOf-moment p q f pos again x.0) ∙ x.2))
 
   pub lassoOf-start : starts m (f 0) ≡ true → fromStart m (lassoOf p q f) ≡ true
-  lassoOf-start h = start_of m (lassoOf p q f) (ap (starts m) (lassoOf-moment p q f pos again 0) ∙ h)
+  lassoOf-start h = start-of m (lassoOf p q f) (ap (starts m) (lassoOf-moment p q f pos again 0) ∙ h)
 
   pub lassoOf-play : ((t : ℕ) → f t < m.states) → ((t : ℕ) → moves m (f t) (f (suc t)) ≡ true)
       → ((k : ℕ) → k < m.sets → (t : ℕ) × (p ≤ t) × (inFairSet m k (f t) ≡ true)) → starts m (f 0) ≡ true → isPlay m (lassoOf p q f) ≡ true
@@ -218,11 +218,11 @@ module _ (m : Machine) (l k : Lasso) (pos : 0 < length k.loop) (same : SamePlay 
       (x.0, x.1, ap (inFairSet m s) (sym (same x.0)) ∙ x.2))
 
   pub same_start : fromStart m l ≡ true → fromStart m k ≡ true
-  same_start h = start_of m k (ap (starts m) (sym (same 0)) ∙ start-at m l h)
+  same_start h = start-of m k (ap (starts m) (sym (same 0)) ∙ start-at m l h)
 
   pub same-play : isPlay m l ≡ true → isPlay m k ≡ true
   unfolding isPlay
-  same-play h = play-parts m k (same-lasso (and_l _ _ h)) (same-fair (and_l _ _ (and_r _ _ h))) (same_start (and_r _ _ (and_r _ _ h)))
+  same-play h = play-parts m k (same-lasso (and-l _ _ h)) (same-fair (and-l _ _ (and-r _ _ h))) (same_start (and-r _ _ (and-r _ _ h)))
 
 -- ---- a lasso written out further
 module _ (l : Lasso) (d n : ℕ) (some-loop : 0 < length l.loop) (some_turn : 0 < n) where
@@ -248,7 +248,7 @@ unrolled-loop l d n = lassoOf-loop (length l.stem + d) (n * length l.loop) (mome
 module _ (hidden : ℕ) where
   pub observations-refl : (m : Machine) (l : Lasso) → SameObservations hidden m l m l
   unfolding SameObservations
-  observations-refl m l t = same_refl hidden _
+  observations-refl m l t = same-refl hidden _
 
   pub observations-sym : (m : Machine) (l : Lasso) (m' : Machine) (k : Lasso) → SameObservations hidden m l m' k → SameObservations hidden m' k m l
   unfolding SameObservations
@@ -263,12 +263,12 @@ module _ (hidden : ℕ) where
   pub observations-more : (more : ℕ) → HidesMore more hidden → (m : Machine) (l : Lasso) (m' : Machine) (k : Lasso) → SameObservations hidden m l m' k
       → SameObservations more m l m' k
   unfolding SameObservations
-  observations-more more g m l m' k h t = same_more hidden more _ _ g (h t)
+  observations-more more g m l m' k h t = same-more hidden more _ _ g (h t)
 
   -- lassos with the same endless play, in one machine
   pub observations-play : (m : Machine) (l k : Lasso) → SamePlay l k → SameObservations hidden m l m k
   unfolding SameObservations
-  observations-play m l k h t = rw (h t) (same_refl hidden _)
+  observations-play m l k h t = rw (h t) (same-refl hidden _)
 
 -- with mask 0 the bytes are equal at every moment
 pub observations-zero : (m : Machine) (l : Lasso) (m' : Machine) (k : Lasso) → SameObservations 0 m l m' k

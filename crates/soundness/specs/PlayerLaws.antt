@@ -8,10 +8,10 @@ use Prim.Native.Nat.{ℕ, zero, suc, ◌+◌, ◌-◌, ◌*◌, ◌≤◌, ◌<�
 use Rattle.std.proofs.Math.Decide.{dec_lt}
 use Rattle.std.proofs.Math.ListN.{length}
 use borrow.Author.Tests.{eqb-true, eq-eqb, ne_eqb, ltb-false, leb-false}
-use Rattle.mask.specs.LogicLaws.{dec, clash, and_l, and_r, and_i, or-none, not-i, not-false}
+use Rattle.mask.specs.LogicLaws.{dec, clash, and-l, and-r, and-i, or-none, not-i, not-false}
 use Rattle.mask.specs.Bounded.{first, some}
-use Rattle.mask.specs.BoundedLaws.{first-before, first-has, first-most, some_of, some_at, every_of}
-use Rattle.mask.specs.TablesLaws.{table-length, table_at}
+use Rattle.mask.specs.BoundedLaws.{first-before, first-has, first-most, some-of, some-at, every-of}
+use Rattle.mask.specs.TablesLaws.{table-length, table-at}
 use Rattle.machine.specs.declared.Machine.{Machine}
 use Rattle.machine.specs.declared.Pair.{Pair}
 use Rattle.machine.specs.Refusals.{valid}
@@ -23,11 +23,11 @@ use Rattle.machine.specs.LinesLaws.{valid-passes}
 use Rattle.machine.specs.WellFormedLaws.{WellPair, well-valid}
 use Rattle.machine.specs.Player.{badStep, missedSet, lassoValidity, startPartner, startValidity, placeAt, loopStart, samePlace, lastRound, earlierRound, stemLength, loopLength, run, runRoom, playValidity}
 use Rattle.machine.specs.LassosLaws.{lasso-of}
-use Rattle.machine.specs.PlayerLaws.{good_length, Entered}
+use Rattle.machine.specs.PlayerLaws.{good-length, Entered}
 use Rattle.machine.specs.RefusalsLaws.{valid-next, valid-if, then-answer}
 use Rattle.soundness.specs.Statements.{IsRun}
 use Rattle.soundness.specs.Plays.{runBetween}
-use Rattle.soundness.specs.PlayLaws.{play-at, play-parts, start_of, table-cut}
+use Rattle.soundness.specs.PlayLaws.{play-at, play-parts, start-of, table-cut}
 use Rattle.soundness.specs.AnswerLaws.{Covered}
 use Rattle.soundness.specs.SoundLaws.{rounds-between, place-eq, covered-at, returns, closes, agrees}
 
@@ -47,7 +47,7 @@ module _ (m : Machine) (l : Lasso) where
       record {
         bound = leb-false _ _ a.0;
         entry = record { start = λ e. not-false _ (rw (eq-eqb i 0 e) at b.0); entered = λ e. not-false _ (rw (ne_eqb i 0 e) at b.0) };
-        closing = λ e. ⊎_elim (λ u. u) (λ u. absurd (clash b.1 (and_i (eq-eqb _ _ e) (not-i u)))) (dec (moves m (moment l i) (moment l (suc i))));
+        closing = λ e. ⊎_elim (λ u. u) (λ u. absurd (clash b.1 (and-i (eq-eqb _ _ e) (not-i u)))) (dec (moves m (moment l i) (moment l (suc i))));
       }
 
   -- no position is wrong, and no set is missed
@@ -59,7 +59,7 @@ module _ (m : Machine) (l : Lasso) where
 
   good-fair : ((k : ℕ) → k < m.sets → missedSet m l k ≡ false) → isFair m l ≡ true
   unfolding isFair missedSet
-  good-fair h = every_of _ _ (λ k b. not-false _ (h k b))
+  good-fair h = every-of _ _ (λ k b. not-false _ (h k b))
 
   pub good-lasso : lassoValidity m l ≡ valid → GoodLasso
   unfolding lassoValidity
@@ -67,7 +67,7 @@ module _ (m : Machine) (l : Lasso) where
       let a = valid-next _ _ _ e in
       let b = valid-next _ _ _ a.1 in
       let c = valid-next _ _ _ b.1 in
-      let long = good_length l a.0 in
+      let long = good-length l a.0 in
       let steps : lassoLength l ≤ first (lassoLength l) (badStep m l) = ltb-false _ _ b.0 in
       let sets : m.sets ≤ first m.sets (missedSet m l) = ltb-false _ _ c.0 in
       record {
@@ -79,7 +79,7 @@ module _ (m : Machine) (l : Lasso) where
 
   pub good-play : GoodLasso → isPlay m l ≡ true
   good-play g = play-parts m l (lasso-of m l g.some-loop (λ t h. ((g.right t h).bound, moved t h))) g.fair
-      (start_of m l ((g.right 0 (omega (arith, g.some-loop))).entry.start refl))
+      (start-of m l ((g.right 0 (omega (arith, g.some-loop))).entry.start refl))
     where
       moved : (t : ℕ) → t < lassoLength l → moves m (moment l t) (moment l (suc t)) ≡ true
       moved t h = by_cases (dec_lt (suc t) (lassoLength l))
@@ -108,13 +108,13 @@ module _ (p : Pair) (T : List ℕ) (l : Lasso) where
       }
 
   -- ---- places
-  same_at : (x y : ℕ) → samePlace p T l x y ≡ true → placeAt p T l (loopStart p T l x) ≡ placeAt p T l (loopStart p T l y)
+  same-at : (x y : ℕ) → samePlace p T l x y ≡ true → placeAt p T l (loopStart p T l x) ≡ placeAt p T l (loopStart p T l y)
   unfolding samePlace
-  same_at x y t = place-eq _ _ (eqb-true _ _ (and_l _ _ t)) (eqb-true _ _ (and_r _ _ t))
+  same-at x y t = place-eq _ _ (eqb-true _ _ (and-l _ _ t)) (eqb-true _ _ (and-r _ _ t))
 
   same_of : (x y : ℕ) → placeAt p T l (loopStart p T l x) ≡ placeAt p T l (loopStart p T l y) → samePlace p T l x y ≡ true
   unfolding samePlace
-  same_of x y e = and_i (eq-eqb _ _ (ap (λ at. at.state) e)) (eq-eqb _ _ (ap (λ at. at.section) e))
+  same_of x y e = and-i (eq-eqb _ _ (ap (λ at. at.state) e)) (eq-eqb _ _ (ap (λ at. at.section) e))
 
   -- the rounds at which the rule ends
   record Rounds : Type 0 where
@@ -127,18 +127,18 @@ module _ (p : Pair) (T : List ℕ) (l : Lasso) where
   rounds-of x y h b t =
       let again : ℕ → Bool = λ y. some y (λ x. samePlace p T l x y) in
       let z = first 449 again in
-      let last : z ≤ y = first-most 449 again y (some_of y (λ x. samePlace p T l x y) x h t) in
-      let q = some_at z (λ x. samePlace p T l x z) (first-has 449 again (omega arith)) in
+      let last : z ≤ y = first-most 449 again y (some-of y (λ x. samePlace p T l x y) x h t) in
+      let q = some-at z (λ x. samePlace p T l x z) (first-has 449 again (omega arith)) in
       let early = first-most z (λ x. samePlace p T l x z) q.0 q.2 in
       record { soon = omega arith; order = omega (arith, early, q.1); same = first-has z (λ x. samePlace p T l x z) (omega (arith, early, q.1)) }
 
-  run_length : length (run p T l) ≡ loopStart p T l (lastRound p T l)
+  run-length : length (run p T l) ≡ loopStart p T l (lastRound p T l)
   unfolding run
-  run_length = table-length (loopStart p T l (lastRound p T l)) (λ t. (placeAt p T l t).state)
+  run-length = table-length (loopStart p T l (lastRound p T l)) (λ t. (placeAt p T l t).state)
 
   pub run-states : (t : ℕ) → t < length (run p T l) → get_or (run p T l) t 0 ≡ (placeAt p T l t).state
   unfolding run
-  run-states t h = table_at (loopStart p T l (lastRound p T l)) (λ t. (placeAt p T l t).state) t 0 (omega (arith, run_length))
+  run-states t h = table-at (loopStart p T l (lastRound p T l)) (λ t. (placeAt p T l t).state) t 0 (omega (arith, run-length))
 
   parts : earlierRound p T l < lastRound p T l → loopStart p T l (lastRound p T l) ≡ stemLength p T l + loopLength p T l
   unfolding stemLength loopLength
@@ -176,13 +176,13 @@ player-run p T l k =
     let r = rounds-of p T l two.0 two.1 two.2 (omega (arith, two.3)) (same_of p T l two.0 two.1 two.4) in
     let x = earlierRound p T l in
     let z = lastRound p T l in
-    let same = same_at p T l x z r.same in
+    let same = same-at p T l x z r.same in
     record {
       soon = r.soon;
       order = r.order;
       returns = r.same;
-      fits = rw (run_length p T l) (room (length l.stem) (length l.loop) z k.good.short r.soon (omega (arith, r.order)));
-      whole = run_length p T l ∙ parts p T l r.order;
+      fits = rw (run-length p T l) (room (length l.stem) (length l.loop) z k.good.short r.soon (omega (arith, r.order)));
+      whole = run-length p T l ∙ parts p T l r.order;
       fair = rw (cut p T l r.order) (closes p T k.well k.passing l y k.partnered x z r.order same);
       agrees = rw (cut p T l r.order) (agrees p T k.well k.passing l y k.partnered x z r.order same);
     }

@@ -5,19 +5,19 @@ use Rattle.std.proofs.Common.{◌∙◌}
 use Prim.Native.Nat.{ℕ, zero, suc, ◌+◌, ◌*◌, ◌≤◌, ◌<◌}
 use Rattle.std.proofs.Math.ListN.{length}
 use Rattle.mask.specs.Logic.{and}
-use Rattle.mask.specs.BoundedLaws.{first_cong, some-cong}
+use Rattle.mask.specs.BoundedLaws.{first-cong, some-cong}
 use Rattle.mask.specs.TablesLaws.{table-cong}
 use Rattle.machine.specs.declared.Pair.{Pair}
 use Rattle.machine.specs.Refusals.{answer, valid}
-use Rattle.machine.specs.RefusalsLaws.{then-answer, buffer-valid, then_same, after_same}
+use Rattle.machine.specs.RefusalsLaws.{then-answer, buffer-valid, then-same, after-same}
 use Rattle.machine.specs.Machines.{matched, moves, starts, successors, nC, nA, setsA}
 use Rattle.machine.specs.WellFormedLaws.{WellPair, well-valid}
 use Rattle.machine.specs.Lassos.{Lasso, moment}
-use Rattle.machine.specs.Step.{state_of}
+use Rattle.machine.specs.Step.{stateOf}
 use Rattle.machine.specs.PartnerLaws.{partner-below}
 use Rattle.machine.specs.SingleStepLaws.{single-below}
 use Rattle.machine.specs.Table.{tableRoom, SameEntries}
-use Rattle.machine.specs.EntriesLaws.{entry-same, covers-same, lines_same}
+use Rattle.machine.specs.EntriesLaws.{entry-same, covers-same, lines-same}
 use Rattle.machine.specs.Lines.{nonBlank}
 use Rattle.machine.specs.Player.{Place, startPartner, startValidity, sectionAfter, follow, stepTo, placeAt, samePlace, lastRound, earlierRound, stemLength, loopLength, run, played, playValidity, allValidity, playerAnswer, playerBuffer}
 use Rattle.soundness.specs.PlayLaws.{play-at}
@@ -52,7 +52,7 @@ module _ (p : Pair) (T U : List ℕ) (same : SameEntries p T U) where
     step-unread c d at hc hd ha hj hk =
         rw (← entry-same p T U same at.section c at.state hj hc ha)
         (λ i. record {
-          state = state_of (follow-unread _ at d hk hd ha i);
+          state = stateOf (follow-unread _ at d hk hd ha i);
           section = sectionAfter p T c at;
         })
 
@@ -74,11 +74,11 @@ module _ (p : Pair) (T U : List ℕ) (same : SameEntries p T U) where
 
     last-unread : lastRound p T l ≡ lastRound p U l
     unfolding lastRound
-    last-unread = first_cong _ _ _ (λ y h. some-cong _ _ _ (λ x h. same-unread x y))
+    last-unread = first-cong _ _ _ (λ y h. some-cong _ _ _ (λ x h. same-unread x y))
 
     earlier-unread : earlierRound p T l ≡ earlierRound p U l
     unfolding earlierRound
-    earlier-unread = rw last-unread (first_cong _ _ _ (λ x h. same-unread x (lastRound p U l)))
+    earlier-unread = rw last-unread (first-cong _ _ _ (λ x h. same-unread x (lastRound p U l)))
 
     lengths-unread : played (stemLength p T l) (loopLength p T l) ≡ played (stemLength p U l) (loopLength p U l)
     unfolding stemLength loopLength
@@ -91,13 +91,13 @@ module _ (p : Pair) (T U : List ℕ) (same : SameEntries p T U) where
   -- ---- the player
   play-same : (l : Lasso) → playValidity p T l ≡ playValidity p U l
   unfolding playValidity
-  play-same l = then_same _ _ _ _ refl (λ v. then_same _ _ _ _ (lines_same p T U same) (λ _. then_same _ _ _ _ refl
+  play-same l = then-same _ _ _ _ refl (λ v. then-same _ _ _ _ (lines-same p T U same) (λ _. then-same _ _ _ _ refl
       (λ g. starts-unread (well-valid p v) l (within l (good-lasso p.concrete l g) 0))))
 
   module _ (l : Lasso) (buffer : List ℕ) (long : tableRoom ≤ length T) (long' : tableRoom ≤ length U) where
-    all_same : allValidity p T l buffer ≡ allValidity p U l buffer
+    all-same : allValidity p T l buffer ≡ allValidity p U l buffer
     unfolding allValidity
-    all_same = then_same _ _ _ _ (buffer-valid tableRoom (length T) long ∙ sym (buffer-valid tableRoom (length U) long')) (λ _. then_same _ _ _ _ refl (λ _. play-same l))
+    all-same = then-same _ _ _ _ (buffer-valid tableRoom (length T) long ∙ sym (buffer-valid tableRoom (length U) long')) (λ _. then-same _ _ _ _ refl (λ _. play-same l))
 
     tested : allValidity p T l buffer ≡ valid → Playable p T l
     unfolding allValidity
@@ -105,8 +105,8 @@ module _ (p : Pair) (T U : List ℕ) (same : SameEntries p T U) where
 
     pub answer-same : playerAnswer p T l buffer ≡ playerAnswer p U l buffer
     unfolding playerAnswer
-    answer-same = then_same _ _ _ _ all_same (λ e. ap answer (lengths-unread l (tested e)))
+    answer-same = then-same _ _ _ _ all-same (λ e. ap answer (lengths-unread l (tested e)))
 
     pub buffer-same : playerBuffer p T l buffer ≡ playerBuffer p U l buffer
     unfolding playerBuffer
-    buffer-same = after_same _ _ _ _ _ all_same (λ e. run-unread l (tested e))
+    buffer-same = after-same _ _ _ _ _ all-same (λ e. run-unread l (tested e))

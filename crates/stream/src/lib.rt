@@ -1,5 +1,6 @@
 // Standard input into a lent buffer, for the programs.
 #![tactic(auto)]
+
 ghost use Rattle.std.specs.Prelude.{◌≤◌, length};
 
 use std::io::Read;

@@ -33,8 +33,8 @@ module _ {n : ℕ} {bytes : List ℕ} {start rest : ℕ} (p : Partly n bytes sta
       omega
       (arith, p.room, decimal-most n, decimal-some (rest / 10), simp length-append at (ap length p.digits_are), simp length-append at (ap length (decimal-more rest l p.small)))
 
-  pub partly_more : 10 ≤ rest → Partly n (set bytes start (48 + rest % 10)) (start - 1) (rest / 10)
-  partly_more l =
+  pub partly-more : 10 ≤ rest → Partly n (set bytes start (48 + rest % 10)) (start - 1) (rest / 10)
+  partly-more l =
       let next : start ≡ suc (start - 1) = omega (arith, partly-room l) in
       record {
         stored = (48 + rest % 10) ∷ p.stored;

@@ -4,22 +4,22 @@ use mathlib.Core.List.{List, [], ◌∷◌, ◌++◌, head-eq_of_cons-eq, tail-e
 use Rattle.std.proofs.Math.Logic.{by_cases}
 use Rattle.std.proofs.Common.{sym, ap, ap₂, ◌∙◌, arith, le-leb}
 use Rattle.std.proofs.Math.Decide.{dec_lt}
-use Rattle.mask.specs.LogicLaws.{clash, and_i}
+use Rattle.mask.specs.LogicLaws.{clash, and-i}
 use Rattle.text.specs.Decimal.{digitsUpTo, decimal, isDigit}
 use Rattle.text.specs.DecimalLaws.{upTo-one, upTo-more, decimal-some, decimal-apart}
 
 -- ---- digits
 pub digit-is : (d : ℕ) → d < 10 → isDigit (48 + d) ≡ true
 unfolding isDigit
-digit-is d h = and_i (le-leb 48 (48 + d) (omega arith)) (le-leb (48 + d) 57 (omega arith))
+digit-is d h = and-i (le-leb 48 (48 + d) (omega arith)) (le-leb (48 + d) 57 (omega arith))
 
 data Digits : List ℕ → Type 0 where
   none : Digits []
   next : {d : ℕ} {u : List ℕ} → isDigit d ≡ true → Digits u → Digits (d ∷ u)
 
-digits_append : {u v : List ℕ} → Digits u → Digits v → Digits (u ++ v)
-digits_append none h = h
-digits_append (next d g) h = next d (digits_append g h)
+digits-append : {u v : List ℕ} → Digits u → Digits v → Digits (u ++ v)
+digits-append none h = h
+digits-append (next d g) h = next d (digits-append g h)
 
 one-digit : (n : ℕ) → n < 10 → Digits ((48 + n) ∷ [])
 one-digit n l = next (digit-is n l) none
@@ -29,7 +29,7 @@ unfolding digitsUpTo
 upTo-digits zero n = none
 upTo-digits (suc k) n =
     by_cases (dec_lt n 10) (λ l. rw (upTo-one k n l) (one-digit n l))
-    (λ l. rw (upTo-more k n (omega arith)) (digits_append (upTo-digits k (n / 10)) (one-digit (n % 10) (omega arith))))
+    (λ l. rw (upTo-more k n (omega arith)) (digits-append (upTo-digits k (n / 10)) (one-digit (n % 10) (omega arith))))
 
 decimal-digits : (n : ℕ) → Digits (decimal n)
 unfolding decimal

@@ -25,12 +25,12 @@ module _ {out₀ : List ℕ} {at : ℕ} {word out : List ℕ} {to i : ℕ} (p : 
     same = length-set out to (get_or word i 0) ∙ p.same;
   }
 
-  pub put_full : length out ≤ to → out ≡ sets out₀ at word
-  put_full h = sym (sets-out (drop i word) out to h) ∙ p.answer
+  pub put-full : length out ≤ to → out ≡ sets out₀ at word
+  put-full h = sym (sets-out (drop i word) out to h) ∙ p.answer
 
   pub put-done : length word ≤ i → out ≡ sets out₀ at word
   put-done h = ap (sets out to) (sym (drop_of_length-le word h)) ∙ p.answer
 
 -- a byte, and a word put behind it
-pub byte_word : (out after word : List ℕ) (at b : ℕ) → after ≡ sets (set out at b) (at + 1) word → after ≡ sets out at (b ∷ word)
-byte_word out after word at b e = e ∙ ap (λ (k : ℕ). sets (set out at b) k word) (add-one at)
+pub byte-word : (out after word : List ℕ) (at b : ℕ) → after ≡ sets (set out at b) (at + 1) word → after ≡ sets out at (b ∷ word)
+byte-word out after word at b e = e ∙ ap (λ (k : ℕ). sets (set out at b) k word) (add-one at)

@@ -4,7 +4,7 @@ use Rattle.std.proofs.Math.Logic.{⊎_elim}
 use Rattle.std.proofs.Math.Path.{◌≡◌, ap}
 use Rattle.std.proofs.Common.{◌∙◌, arith}
 use borrow.Author.Tests.{ltb-true, le-ltb}
-use Rattle.mask.specs.LogicLaws.{dec, cond_cases, and_l, and_r, and-false-l, and_false_r, not-e, not_f}
+use Rattle.mask.specs.LogicLaws.{dec, cond-cases, and-l, and-r, and-false-l, and-false-r, not-e, not-f}
 use Rattle.mask.specs.BoundedLaws.{first-none, first-has, someIn-at, someIn-of}
 use Rattle.machine.specs.declared.Pair.{Pair}
 use Rattle.machine.specs.Refusals.{valid, answer}
@@ -23,18 +23,18 @@ module _ (p : Pair) (T : List ℕ) where
   unfolding lackingStart
   lowest h =
       let t = first-has (nC p) _ h in
-      record { state = h; is-start = and_l _ _ t; lacks = not-e _ (and_r _ _ t); lower = λ d l. before-lacking p T d l }
+      record { state = h; is-start = and-l _ _ t; lacks = not-e _ (and-r _ _ t); lower = λ d l. before-lacking p T d l }
 
   -- Carried is said where each start state has a partner
   pub starts-carried : HasStarts p T → startVerdict p T ≡ carried (coveredCount p T)
   unfolding startVerdict lackingStart
   starts-carried h =
-      let e : lackingStart p T ≡ nC p = first-none (nC p) _ (λ c hc. ⊎_elim (λ s. and_false_r _ (not_f (h c hc s))) (λ s. and-false-l _ s) (dec (starts p.concrete c))) in
+      let e : lackingStart p T ≡ nC p = first-none (nC p) _ (λ c hc. ⊎_elim (λ s. and-false-r _ (not-f (h c hc s))) (λ s. and-false-l _ s) (dec (starts p.concrete c))) in
       rw (e, le-ltb (nC p) (nC p) (omega arith))
 
   pub lowest-said : (c n : ℕ) → startVerdict p T ≡ notCarried c n → IsLowest p T c
   unfolding startVerdict
-  lowest-said c n = cond_cases (ltb (lackingStart p T) (nC p)) (λ v. v ≡ notCarried c n → IsLowest p T c) _ _
+  lowest-said c n = cond-cases (ltb (lackingStart p T) (nC p)) (λ v. v ≡ notCarried c n → IsLowest p T c) _ _
       (λ u e. let l : lackingStart p T ≡ c = cc in rw l at (lowest (ltb-true _ _ u)))
       (λ u e. let z : ◌≡◌ {A = ℕ} 0 1 = cc in absurd (omega arith))
 

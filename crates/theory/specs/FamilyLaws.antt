@@ -4,16 +4,16 @@ use Rattle.std.proofs.Math.Path.{sym}
 use Rattle.std.proofs.Common.{◌∙◌}
 use mathlib.Core.List.{List, []}
 use Rattle.std.proofs.Math.ListN.{get_or}
-use Rattle.mask.specs.LogicLaws.{and_l, and_r, and_i}
+use Rattle.mask.specs.LogicLaws.{and-l, and-r, and-i}
 use Rattle.mask.specs.Tables.{table}
-use Rattle.mask.specs.TablesLaws.{table_at, table-cong}
+use Rattle.mask.specs.TablesLaws.{table-at, table-cong}
 use Rattle.machine.specs.declared.Pair.{Pair}
 use Rattle.machine.specs.Machines.{inFairSet, matched, next, nC, nA, setsA, pairs}
 use Rattle.machine.specs.Step.{steps}
 use Rattle.machine.specs.StepLaws.{next-lt}
 use Rattle.machine.specs.Game.{mem, allMatched, goals, levels, turn, firstFamily, familyAfter, sameFamily, family}
 use Rattle.theory.specs.Statements.{Within}
-use Rattle.theory.specs.Fixpoint.{Order, Fam, Fam-room, Settled, settle_is, settle-reaches, settle-keeps, settled-below, iterate-falls, iterate-down, settle-last}
+use Rattle.theory.specs.Fixpoint.{Order, Fam, Fam-room, Settled, settle-is, settle-reaches, settle-keeps, settled-below, iterate-falls, iterate-down, settle-last}
 use Rattle.theory.specs.GameLaws.{Canonical, Pairs, Within-trans, in-set, of-set, set-ext, set-canonical, steps-within, levels-canonical, levels-mono, levels-matched}
 
 module _ (p : Pair) where
@@ -21,12 +21,12 @@ module _ (p : Pair) where
   pub goals-at : (Z : List (List ℕ)) (j c a : ℕ) → c < nC p → a < nA p → mem p (goals p Z j) c a ≡ true
       → (matched p c a ≡ true) × (inFairSet p.abstraction j a ≡ true) × (steps p (mem p (get_or Z (next (setsA p) j) [])) c a ≡ true)
   unfolding goals
-  goals-at Z j c a hc ha t = let q = of-set p _ c a hc ha t in (q.0, and_l _ _ q.1, and_r _ _ q.1)
+  goals-at Z j c a hc ha t = let q = of-set p _ c a hc ha t in (q.0, and-l _ _ q.1, and-r _ _ q.1)
 
-  pub goals_of : (Z : List (List ℕ)) (j c a : ℕ) → c < nC p → a < nA p → matched p c a ≡ true → inFairSet p.abstraction j a ≡ true
+  pub goals-of : (Z : List (List ℕ)) (j c a : ℕ) → c < nC p → a < nA p → matched p c a ≡ true → inFairSet p.abstraction j a ≡ true
       → steps p (mem p (get_or Z (next (setsA p) j) [])) c a ≡ true → mem p (goals p Z j) c a ≡ true
   unfolding goals
-  goals_of Z j c a hc ha m i s = in-set p _ c a hc ha m (and_i i s)
+  goals-of Z j c a hc ha m i s = in-set p _ c a hc ha m (and-i i s)
 
   -- ---- families in order, section by section
   unfoldable pub Families : Order (List (List ℕ))
@@ -42,23 +42,23 @@ module _ (p : Pair) where
   pub goals-mono : (Z W : List (List ℕ)) → WithinF Z W → (j : ℕ) → j < setsA p → Within p (goals p Z j) (goals p W j)
   goals-mono Z W h j hj c a hc ha t =
       let q = goals-at Z j c a hc ha t in
-      goals_of W j c a hc ha q.0 q.1 (steps-within p _ _ (h (next (setsA p) j) (next-lt (setsA p) j hj)) c a q.2)
+      goals-of W j c a hc ha q.0 q.1 (steps-within p _ _ (h (next (setsA p) j) (next-lt (setsA p) j hj)) c a q.2)
 
   -- ---- a turn
-  pub turn_at : (Z : List (List ℕ)) (j : ℕ) → j < setsA p → get_or (turn p Z) j [] ≡ levels p (goals p Z j)
+  pub turn-at : (Z : List (List ℕ)) (j : ℕ) → j < setsA p → get_or (turn p Z) j [] ≡ levels p (goals p Z j)
   unfolding turn
-  turn_at Z j h = table_at (setsA p) (λ i. levels p (goals p Z i)) j [] h
+  turn-at Z j h = table-at (setsA p) (λ i. levels p (goals p Z i)) j [] h
 
   pub first-at : (j : ℕ) → j < setsA p → get_or (firstFamily p) j [] ≡ allMatched p
   unfolding firstFamily
-  first-at j h = table_at (setsA p) (λ i. allMatched p) j [] h
+  first-at j h = table-at (setsA p) (λ i. allMatched p) j [] h
 
   pub turn-mono : (Z W : List (List ℕ)) → WithinF Z W → WithinF (turn p Z) (turn p W)
-  turn-mono Z W h j hj = rw (turn_at Z j hj, turn_at W j hj) (levels-mono p _ _ (goals-mono Z W h j hj))
+  turn-mono Z W h j hj = rw (turn-at Z j hj, turn-at W j hj) (levels-mono p _ _ (goals-mono Z W h j hj))
 
   -- the first family is the largest that a turn can make
   pub turn-first : (Z : List (List ℕ)) → WithinF (turn p Z) (firstFamily p)
-  turn-first Z j hj = rw (turn_at Z j hj, first-at j hj) (levels-matched p (goals p Z j))
+  turn-first Z j hj = rw (turn-at Z j hj, first-at j hj) (levels-matched p (goals p Z j))
 
   -- families shrink
   pub family-shrinks : (t : ℕ) → WithinF (familyAfter p (suc t)) (familyAfter p t)
@@ -73,7 +73,7 @@ module _ (p : Pair) where
   pub family-settled : Settled Families (turn p) (firstFamily p) (family p)
   unfolding family sameFamily Families Fam
   family-settled =
-      settle_is Families (turn p) turn-mono (setsA p * pairs p) (firstFamily p) (turn-first _) (rw (sym Families-room) (Families.size_room (firstFamily p)))
+      settle-is Families (turn p) turn-mono (setsA p * pairs p) (firstFamily p) (turn-first _) (rw (sym Families-room) (Families.size_room (firstFamily p)))
 
   pub record IsFamily (Z : List (List ℕ)) : Type 0 where
     pub at : (j : ℕ) → j < setsA p → Within p (get_or Z j []) (levels p (goals p Z j))
@@ -85,9 +85,9 @@ module _ (p : Pair) where
   family-is =
       let s = family-settled in
       record {
-        at = λ j hj. rw (turn_at (family p) j hj) at (s.up j hj);
-        of = λ j hj. rw (turn_at (family p) j hj) at (s.down j hj);
-        largest = λ W h. s.largest W (λ j hj. rw (turn_at W j hj) (h j hj))
+        at = λ j hj. rw (turn-at (family p) j hj) at (s.up j hj);
+        of = λ j hj. rw (turn-at (family p) j hj) at (s.down j hj);
+        largest = λ W h. s.largest W (λ j hj. rw (turn-at W j hj) (h j hj))
             (λ j hj. rw (first-at j hj) (Within-trans p (get_or W j []) (levels p (goals p W j)) (allMatched p) (h j hj) (levels-matched p (goals p W j))));
       }
 
@@ -107,8 +107,8 @@ module _ (p : Pair) where
 
   pub tabled : (f : ℕ → List ℕ) → ((j : ℕ) → j < setsA p → Canonical p (f j)) → Tabled (table (setsA p) f)
   tabled f h = record {
-    listed = table-cong (setsA p) _ _ (λ j hj. sym (table_at (setsA p) f j [] hj));
-    canonical = λ j hj. rw (table_at (setsA p) f j [] hj) (h j hj);
+    listed = table-cong (setsA p) _ _ (λ j hj. sym (table-at (setsA p) f j [] hj));
+    canonical = λ j hj. rw (table-at (setsA p) f j [] hj) (h j hj);
   }
 
   pub family-ext : (Z W : List (List ℕ)) → Tabled Z → Tabled W → WithinF Z W → WithinF W Z → Z ≡ W

@@ -8,9 +8,9 @@ use Rattle.std.proofs.Math.Logic.{by_cases}
 use Prim.Native.Nat.{ℕ, zero, suc, ◌-◌, ◌*◌, ◌≤◌, ◌<◌}
 use native.Mathlib.Omega.{arith}
 use Rattle.std.proofs.Math.Decide.{dec_le}
-use Rattle.mask.specs.LogicLaws.{clash, cond_cases}
+use Rattle.mask.specs.LogicLaws.{clash, cond-cases}
 use Rattle.mask.specs.Bounded.{every, sum}
-use Rattle.mask.specs.BoundedLaws.{every-at, every_of, sum-le, sum-eq, sum-const}
+use Rattle.mask.specs.BoundedLaws.{every-at, every-of, sum-le, sum-eq, sum-const}
 use Rattle.machine.specs.Iteration.{iterate, settle}
 
 -- ---- iterates, in no order
@@ -39,7 +39,7 @@ module _ {X : Type 0} (F : X → X) where
   settle-reaches same zero s = (0, omega arith, refl)
   settle-reaches same (suc n) s =
       let q = settle-reaches same n (F s) in
-      cond_cases (same s (F s)) (λ r. (t : ℕ) × (t ≤ suc n) × (r ≡ iterate t F s)) s (settle same n F (F s))
+      cond-cases (same s (F s)) (λ r. (t : ℕ) × (t ≤ suc n) × (r ≡ iterate t F s)) s (settle same n F (F s))
       (λ u. (0, omega arith, refl)) (λ u. (suc q.0, omega (arith, q.1), q.2 ∙ iterate-front q.0 s))
 
   pub settle-keeps : (P : X → Type 0) → ((x : X) → P x → P (F x)) → (same : X → X → Bool) (n : ℕ) (s : X) → P s → P (settle same n F s)
@@ -68,15 +68,15 @@ pub record Settled {X : Type 0} (O : Order X) (F : X → X) (s r : X) : Type 0 w
   pub largest : (u : X) → O.le u (F u) → O.le u s → O.le u r
 
 module _ {X : Type 0} (O : Order X) (F : X → X) (mono : (x y : X) → O.le x y → O.le (F x) (F y)) where
-  pub settle_is : (n : ℕ) (s : X) → O.le (F s) s → O.size s ≤ n → Settled O F s (settle O.same n F s)
+  pub settle-is : (n : ℕ) (s : X) → O.le (F s) s → O.size s ≤ n → Settled O F s (settle O.same n F s)
   unfolding settle
-  settle_is zero s d h =
+  settle-is zero s d h =
       record { below = O.le_refl s; down = d; up = O.size-eq (F s) s d (omega (arith, O.size-le (F s) s d)); largest = λ u p q. q }
-  settle_is (suc n) s d h =
-      cond_cases (O.same s (F s)) (Settled O F s) s (settle O.same n F (F s))
+  settle-is (suc n) s d h =
+      cond-cases (O.same s (F s)) (Settled O F s) s (settle O.same n F (F s))
       (λ t. record { below = O.le_refl s; down = d; up = O.same-le s (F s) t; largest = λ u p q. q })
       (λ t.
-      let r = settle_is n (F s) (mono (F s) s d) (smaller (dec_le (O.size s) (O.size (F s))) t) in
+      let r = settle-is n (F s) (mono (F s) s d) (smaller (dec_le (O.size s) (O.size (F s))) t) in
       record {
         below = O.le_trans _ (F s) s r.below d;
         down = r.down;
@@ -139,9 +139,9 @@ beq-of true y t u = rw (t refl)
 beq-of false true t u = u refl
 beq-of false false t u = refl
 
-pub bit_le : (x : Bool) → cond x 1 0 ≤ 1
-bit_le true = omega arith
-bit_le false = omega arith
+pub bit-le : (x : Bool) → cond x 1 0 ≤ 1
+bit-le true = omega arith
+bit-le false = omega arith
 
 pub bit-mono : (x y : Bool) → (x ≡ true → y ≡ true) → cond x 1 0 ≤ cond y 1 0
 bit-mono true y t = rw (t refl) (omega arith)
@@ -163,7 +163,7 @@ Test = record {
   same_of = beq-of;
   size = λ x. cond x 1 0;
   room = 1;
-  size_room = bit_le;
+  size_room = bit-le;
   size-le = bit-mono;
   size-eq = bit-eq;
 }
@@ -178,7 +178,7 @@ module _ {X Y : Type 0} (n : ℕ) (read : Y → ℕ → X) (O : Order X) where
     same = λ s t. every n (λ i. O.same (read s i) (read t i));
     same-le = λ s t h i l. O.same-le (read s i) (read t i) (every-at n _ h i l);
     same-ge = λ s t h i l. O.same-ge (read s i) (read t i) (every-at n _ h i l);
-    same_of = λ s t p q. every_of n _ (λ i l. O.same_of (read s i) (read t i) (p i l) (q i l));
+    same_of = λ s t p q. every-of n _ (λ i l. O.same_of (read s i) (read t i) (p i l) (q i l));
     size = λ s. sum n (λ i. O.size (read s i));
     room = sum n (λ i. O.room);
     size_room = λ s. sum-le n _ _ (λ i l. O.size_room (read s i));

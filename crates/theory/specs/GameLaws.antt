@@ -8,12 +8,12 @@ use mathlib.Core.List.{List, []}
 use Prim.Native.Nat.{ℕ, zero, suc, ◌*◌, ◌≤◌, ◌<◌}
 use Rattle.std.proofs.Math.ListN.{get_or}
 use Rattle.mask.specs.Logic.{and}
-use Rattle.mask.specs.LogicLaws.{both, and_l, and_r, and_i, and-true-l, or_l, or_r, or-e, not-e, not-i}
+use Rattle.mask.specs.LogicLaws.{both, and-l, and-r, and-i, and-true-l, or-l, or-r, or-e, not-e, not-i}
 use Rattle.mask.specs.Bits.{hasBit}
 use Rattle.mask.specs.Bounded.{sum, count}
-use Rattle.mask.specs.BoundedLaws.{some_at, some_of}
-use Rattle.mask.specs.Tables.{mask_of}
-use Rattle.mask.specs.TablesLaws.{table_at, table-cong, maskOf-cong, has-maskOf-at}
+use Rattle.mask.specs.BoundedLaws.{some-at, some-of}
+use Rattle.mask.specs.Tables.{maskOf}
+use Rattle.mask.specs.TablesLaws.{table-at, table-cong, maskOf-cong, has-maskOf-at}
 use Rattle.machine.specs.declared.Pair.{Pair}
 use Rattle.machine.specs.Machines.{inFairSet, matched, nC, nA, setsC, pairs}
 use Rattle.machine.specs.Step.{steps}
@@ -21,21 +21,21 @@ use Rattle.machine.specs.StepLaws.{steps-mono}
 use Rattle.machine.specs.Iteration.{iterate}
 use Rattle.machine.specs.Game.{pairSet, mem, sameSet, none, allMatched, inX, roundX, xAfter, xOver, xsOver, union, levelOver, level, xSet, levels}
 use Rattle.theory.specs.Statements.{Within}
-use Rattle.theory.specs.Fixpoint.{Order, Fam, Fam-room, Test, Upside, Settled, settle_is, settled-below, settle-last, iterate-falls, iterate-down, iterate-keeps, settle-keeps}
+use Rattle.theory.specs.Fixpoint.{Order, Fam, Fam-room, Test, Upside, Settled, settle-is, settled-below, settle-last, iterate-falls, iterate-down, iterate-keeps, settle-keeps}
 
 module _ (p : Pair) where
   -- ---- pair sets
   pub mem-pairSet : (f : ℕ → ℕ → Bool) (c a : ℕ) → c < nC p → a < nA p → mem p (pairSet p f) c a ≡ and (matched p c a) (f c a)
   unfolding pairSet mem
   mem-pairSet f c a hc ha =
-      ap (λ (m : ℕ). hasBit m a) (table_at (nC p) (λ d. mask_of (nA p) (λ b. and (matched p d b) (f d b))) c 0 hc)
+      ap (λ (m : ℕ). hasBit m a) (table-at (nC p) (λ d. maskOf (nA p) (λ b. and (matched p d b) (f d b))) c 0 hc)
       ∙ has-maskOf-at (nA p) (λ b. and (matched p c b) (f c b)) a ha
 
   pub in-set : (f : ℕ → ℕ → Bool) (c a : ℕ) → c < nC p → a < nA p → matched p c a ≡ true → f c a ≡ true → mem p (pairSet p f) c a ≡ true
-  in-set f c a hc ha m t = mem-pairSet f c a hc ha ∙ and_i m t
+  in-set f c a hc ha m t = mem-pairSet f c a hc ha ∙ and-i m t
 
   pub of-set : (f : ℕ → ℕ → Bool) (c a : ℕ) → c < nC p → a < nA p → mem p (pairSet p f) c a ≡ true → (matched p c a ≡ true) × (f c a ≡ true)
-  of-set f c a hc ha t = let u = sym (mem-pairSet f c a hc ha) ∙ t in (and_l _ _ u, and_r _ _ u)
+  of-set f c a hc ha t = let u = sym (mem-pairSet f c a hc ha) ∙ t in (and-l _ _ u, and-r _ _ u)
 
   pub set-mono : (f g : ℕ → ℕ → Bool) → ((c a : ℕ) → c < nC p → a < nA p → matched p c a ≡ true → f c a ≡ true → g c a ≡ true)
       → Within p (pairSet p f) (pairSet p g)
@@ -51,8 +51,8 @@ module _ (p : Pair) where
   unfolding none
   none-empty c a hc ha t = false≢true (of-set _ c a hc ha t).1
 
-  pub none_within : (S : List ℕ) → Within p (none p) S
-  none_within S c a hc ha t = absurd (none-empty c a hc ha t)
+  pub none-within : (S : List ℕ) → Within p (none p) S
+  none-within S c a hc ha t = absurd (none-empty c a hc ha t)
 
   pub in-allMatched : (c a : ℕ) → c < nC p → a < nA p → matched p c a ≡ true → mem p (allMatched p) c a ≡ true
   unfolding allMatched
@@ -69,8 +69,8 @@ module _ (p : Pair) where
   pub pairSet-cong : (f g : ℕ → ℕ → Bool) → ((c a : ℕ) → c < nC p → a < nA p → matched p c a ≡ true → f c a ≡ g c a) → pairSet p f ≡ pairSet p g
   unfolding pairSet
   pairSet-cong f g h = table-cong (nC p) _ _ (λ c hc. maskOf-cong (nA p) _ _ (λ a ha. both _ _
-      (λ t. and_i (and_l _ _ t) (sym (h c a hc ha (and_l _ _ t)) ∙ and_r _ _ t))
-      (λ t. and_i (and_l _ _ t) (h c a hc ha (and_l _ _ t) ∙ and_r _ _ t))))
+      (λ t. and-i (and-l _ _ t) (sym (h c a hc ha (and-l _ _ t)) ∙ and-r _ _ t))
+      (λ t. and-i (and-l _ _ t) (h c a hc ha (and-l _ _ t) ∙ and-r _ _ t))))
 
   pub set-canonical : (f : ℕ → ℕ → Bool) → Canonical (pairSet p f)
   set-canonical f = pairSet-cong f _ (λ c a hc ha m. sym (mem-pairSet f c a hc ha ∙ and-true-l _ m))
@@ -110,9 +110,9 @@ module _ (p : Pair) where
   unfolding setSize count mem Fam Test
   size-within S R h = Rows.size-le S R (λ c hc a ha. h c a hc ha)
 
-  pub size_same : (S R : List ℕ) → Within p S R → setSize R ≤ setSize S → Within p R S
+  pub size-same : (S R : List ℕ) → Within p S R → setSize R ≤ setSize S → Within p R S
   unfolding setSize count mem Fam Test
-  size_same S R h l c a hc ha = Rows.size-eq S R (λ c hc a ha. h c a hc ha) l c hc a ha
+  size-same S R h l c a hc ha = Rows.size-eq S R (λ c hc a ha. h c a hc ha) l c hc a ha
 
   abbrev pub Pairs : Order (List ℕ)
   Pairs = record {
@@ -127,7 +127,7 @@ module _ (p : Pair) where
     room = pairs p;
     size_room = size_room;
     size-le = size-within;
-    size-eq = size_same;
+    size-eq = size-same;
   }
 
   -- a pair that steps into S steps into every set that has the pairs of S
@@ -142,13 +142,13 @@ module _ (p : Pair) where
 
   pub inX-of : (G B : List ℕ) (k : ℕ) (X : List ℕ) (c a : ℕ) → InX G B k X c a → inX p G B k X c a ≡ true
   unfolding inX
-  inX-of G B k X c a (goal t) = or_l _ t
-  inX-of G B k X c a (lower t) = or_r _ (or_l _ t)
-  inX-of G B k X c a (stay o t) = or_r _ (or_r _ (and_i (not-i o) t))
+  inX-of G B k X c a (goal t) = or-l _ t
+  inX-of G B k X c a (lower t) = or-r _ (or-l _ t)
+  inX-of G B k X c a (stay o t) = or-r _ (or-r _ (and-i (not-i o) t))
 
   pub inX-at : (G B : List ℕ) (k : ℕ) (X : List ℕ) (c a : ℕ) → inX p G B k X c a ≡ true → InX G B k X c a
   unfolding inX
-  inX-at G B k X c a t = ⊎_elim goal (λ u. ⊎_elim lower (λ v. stay (not-e _ (and_l _ _ v)) (and_r _ _ v)) (or-e u)) (or-e t)
+  inX-at G B k X c a t = ⊎_elim goal (λ u. ⊎_elim lower (λ v. stay (not-e _ (and-l _ _ v)) (and-r _ _ v)) (or-e u)) (or-e t)
 
   pub InX-mono : {G B : List ℕ} {k : ℕ} {X : List ℕ} {c a : ℕ} (G' B' X' : List ℕ)
       → Within p G G' → Within p B B' → Within p X X' → c < nC p → a < nA p → InX G B k X c a → InX G' B' k X' c a
@@ -171,8 +171,8 @@ module _ (p : Pair) where
     unfolding roundX
     of-round X c a hc ha t = let q = of-set _ c a hc ha t in (q.0, inX-at G B k X c a q.1)
 
-    pub round_mono : (X Y : List ℕ) → Within p X Y → Within p (roundX p G B k X) (roundX p G B k Y)
-    round_mono X Y h c a hc ha t =
+    pub round-mono : (X Y : List ℕ) → Within p X Y → Within p (roundX p G B k X) (roundX p G B k Y)
+    round-mono X Y h c a hc ha t =
         let q = of-round X c a hc ha t in
         in-round Y c a hc ha q.0 (InX-mono G B Y (Within-refl G) (Within-refl B) h hc ha q.1)
 
@@ -181,7 +181,7 @@ module _ (p : Pair) where
 
     pub xOver-settled : Settled Pairs (roundX p G B k) (allMatched p) (xOver p G B k)
     unfolding xOver
-    xOver-settled = settle_is Pairs (roundX p G B k) round_mono (pairs p) (allMatched p) round-falls (size_room (allMatched p))
+    xOver-settled = settle-is Pairs (roundX p G B k) round-mono (pairs p) (allMatched p) round-falls (size_room (allMatched p))
 
     pub xOver-is : IsX G B k (xOver p G B k)
     xOver-is =
@@ -197,11 +197,11 @@ module _ (p : Pair) where
     -- it is what the rounds come to
     pub xOver-round : (i : ℕ) → Within p (xOver p G B k) (xAfter p G B k i)
     unfolding xAfter
-    xOver-round i = settled-below Pairs (roundX p G B k) round_mono xOver-settled i
+    xOver-round i = settled-below Pairs (roundX p G B k) round-mono xOver-settled i
 
     pub round-xOver : Within p (xAfter p G B k (pairs p)) (xOver p G B k)
     unfolding xAfter xOver
-    round-xOver = settle-last Pairs (roundX p G B k) round_mono (pairs p) (allMatched p) round-falls
+    round-xOver = settle-last Pairs (roundX p G B k) round-mono (pairs p) (allMatched p) round-falls
 
     pub xOver-canonical : Canonical (xOver p G B k)
     unfolding xOver roundX allMatched
@@ -217,14 +217,14 @@ module _ (p : Pair) where
       → (k : ℕ) × (k < setsC p) × (mem p (xOver p G B k) c a ≡ true)
   unfolding levelOver union xsOver
   level-at G B c a hc ha t =
-      let q = some_at _ _ (of-set _ c a hc ha t).1 in
-      (q.0, q.1, rw (table_at (setsC p) (xOver p G B) q.0 [] q.1) at q.2)
+      let q = some-at _ _ (of-set _ c a hc ha t).1 in
+      (q.0, q.1, rw (table-at (setsC p) (xOver p G B) q.0 [] q.1) at q.2)
 
   pub level-of : (G B : List ℕ) (k c a : ℕ) → k < setsC p → c < nC p → a < nA p
       → mem p (xOver p G B k) c a ≡ true → mem p (levelOver p G B) c a ≡ true
   unfolding levelOver union xsOver
   level-of G B k c a hk hc ha t =
-      in-set _ c a hc ha ((xOver-is G B k).at c a hc ha t).0 (some_of _ _ k hk (rw (table_at (setsC p) (xOver p G B) k [] hk) t))
+      in-set _ c a hc ha ((xOver-is G B k).at c a hc ha t).0 (some-of _ _ k hk (rw (table-at (setsC p) (xOver p G B) k [] hk) t))
 
   pub levelOver-mono : (G G' B B' : List ℕ) → Within p G G' → Within p B B' → Within p (levelOver p G B) (levelOver p G' B')
   levelOver-mono G G' B B' g b c a hc ha t =
@@ -264,16 +264,16 @@ module _ (p : Pair) where
 
     pub level-grows : (l : ℕ) → Within p (level p G l) (level p G (suc l))
     unfolding level Upside
-    level-grows l = iterate-falls (Upside Pairs) (levelOver p G) grows (none p) (none_within _) l
+    level-grows l = iterate-falls (Upside Pairs) (levelOver p G) grows (none p) (none-within _) l
 
     pub level-later : (l n : ℕ) → l ≤ n → Within p (level p G l) (level p G n)
     unfolding level Upside
-    level-later l n h = iterate-down (Upside Pairs) (levelOver p G) grows (none p) (none_within _) l n h
+    level-later l n h = iterate-down (Upside Pairs) (levelOver p G) grows (none p) (none-within _) l n h
 
     -- level l lies within every X(l + 1, k)
     pub level-within-x : (l k : ℕ) → Within p (level p G l) (xSet p G (suc l) k)
     unfolding level iterate xSet
-    level-within-x zero k = none_within _
+    level-within-x zero k = none-within _
     level-within-x (suc l) k = holds-below G (level p G l) (level-grows l) k
 
   -- the levels' union is the least set that is its own next level
@@ -285,11 +285,11 @@ module _ (p : Pair) where
   module _ (G : List ℕ) where
     levels-settled : Settled (Upside Pairs) (levelOver p G) (none p) (levels p G)
     unfolding levels Upside
-    levels-settled = settle_is (Upside Pairs) (levelOver p G) (grows G) (pairs p) (none p) (none_within _) ((Upside Pairs).size_room (none p))
+    levels-settled = settle-is (Upside Pairs) (levelOver p G) (grows G) (pairs p) (none p) (none-within _) ((Upside Pairs).size_room (none p))
 
     pub levels-is : IsTop G (levels p G)
     unfolding Upside
-    levels-is = let s = levels-settled in record { at = s.down; of = s.up; least = λ U h. s.largest U h (none_within U) }
+    levels-is = let s = levels-settled in record { at = s.down; of = s.up; least = λ U h. s.largest U h (none-within U) }
 
     -- every level lies within it, and it within level P
     pub level-levels : (l : ℕ) → Within p (level p G l) (levels p G)
@@ -298,7 +298,7 @@ module _ (p : Pair) where
 
     pub levels-level : Within p (levels p G) (level p G (pairs p))
     unfolding level levels Upside
-    levels-level = settle-last (Upside Pairs) (levelOver p G) (grows G) (pairs p) (none p) (none_within _)
+    levels-level = settle-last (Upside Pairs) (levelOver p G) (grows G) (pairs p) (none p) (none-within _)
 
     -- so it is level P
     pub level-canonical : (l : ℕ) → Canonical (level p G l)

@@ -10,8 +10,8 @@ use Rattle.machine.specs.StepLaws.{next-lt, Steps, steps-at, steps-mono}
 use Rattle.machine.specs.Game.{mem, goals, level, xSet, family}
 use Rattle.machine.specs.Ranks.{rank, solverTable}
 use Rattle.machine.specs.Table.{entry, covers}
-use Rattle.machine.specs.Lines.{nonBlank, at_most, passes, passesEach}
-use Rattle.machine.specs.LinesLaws.{covers_at, covers_of, nonBlank-of, atMost-of, lower-atMost, Passing, passes_of, passes-blank, each_of}
+use Rattle.machine.specs.Lines.{nonBlank, atMost, passes, passesEach}
+use Rattle.machine.specs.LinesLaws.{covers-at, covers-of, nonBlank-of, atMost-of, lower-atMost, Passing, passes-of, passes-blank, each-of}
 use Rattle.theory.specs.Statements.{IsPlace}
 use Rattle.theory.specs.GameLaws.{InX, goal, lower as lower-way, stay, of-allMatched, level-levels, levels-matched}
 use Rattle.theory.specs.FamilyLaws.{goals-at, family-is}
@@ -22,7 +22,7 @@ module _ (p : Pair) (w : WellPair p) where
   -- the solver's table covers the family
   pub family-covered : (j c a : ℕ) → j < setsA p → c < nC p → a < nA p → mem p (get_or (family p) j []) c a ≡ true → covers p (solverTable p) j c a ≡ true
   family-covered j c a hj hc ha t =
-      covers_of p (solverTable p) j c a (λ e. (rank-covered p w j c a hj hc ha).1 t (sym (table-rank p j c a hj hc ha) ∙ e))
+      covers-of p (solverTable p) j c a (λ e. (rank-covered p w j c a hj hc ha).1 t (sym (table-rank p j c a hj hc ha) ∙ e))
 
   family-nonBlank : (j c a : ℕ) → j < setsA p → c < nC p → a < nA p → mem p (get_or (family p) j []) c a ≡ true
       → nonBlank p (solverTable p) j c a ≡ true
@@ -33,8 +33,8 @@ module _ (p : Pair) (w : WellPair p) where
     -- a pair that steps into matched pairs of rank at most r steps into those with entry at most r
     into : (S : List ℕ) (r c a : ℕ)
         → ((d b : ℕ) → d < nC p → b < nA p → mem p S d b ≡ true → (matched p d b ≡ true) × (rank p j d b ≤ r))
-        → steps p (mem p S) c a ≡ true → Steps p (at_most p (solverTable p) j r) c a
-    into S r c a h t = steps-at p _ c a (steps-mono p (mem p S) (at_most p (solverTable p) j r)
+        → steps p (mem p S) c a ≡ true → Steps p (atMost p (solverTable p) j r) c a
+    into S r c a h t = steps-at p _ c a (steps-mono p (mem p S) (atMost p (solverTable p) j r)
         (λ d b hd hb u. let q = h d b hd hb u in atMost-of p (solverTable p) j r d b q.0 (rw (table-rank p j d b hj hd hb) q.1)) c a t)
 
     goal-passes : (c a : ℕ) → c < nC p → a < nA p → mem p (goals p (family p) j) c a ≡ true → entry p (solverTable p) j c a ≡ 0
@@ -66,8 +66,8 @@ module _ (p : Pair) (w : WellPair p) where
     -- a pair of X(l + 1, k) that is no goal: in rig set k it steps lower, and elsewhere no higher
     ways : (l k c a : ℕ) → l < pairs p → k < setsC p → mem p (goals p (family p) j) c a ≡ false
         → InX p (goals p (family p) j) (level p (goals p (family p) j) l) k (xSet p (goals p (family p) j) (suc l) k) c a
-        → (inFairSet p.concrete k c ≡ true → Steps p (at_most p (solverTable p) j (l * setsC p)) c a)
-        × Steps p (at_most p (solverTable p) j (l * setsC p + k + 1)) c a
+        → (inFairSet p.concrete k c ≡ true → Steps p (atMost p (solverTable p) j (l * setsC p)) c a)
+        × Steps p (atMost p (solverTable p) j (l * setsC p + k + 1)) c a
     ways l k c a hl hk g (goal t) = absurd (clash g t)
     ways l k c a hl hk g (lower-way t) = (
       λ i. into _ _ c a (λ d b hd hb u. level-bound l d b (omega arith) hd hb u) t,
@@ -100,9 +100,9 @@ module _ (p : Pair) (w : WellPair p) where
         is = table-rank p j c a hj hc ha
 
         go : Ranked p (goals p (family p) j) c a (rank p j c a) → passes p (solverTable p) j c a ≡ true
-        go (is-goal t e) = passes_of p (solverTable p) j c a (goal-passes c a hc ha t (is ∙ e))
-        go (is-placed l k t q) = passes_of p (solverTable p) j c a (placed-passes c a l k hc ha t q)
-        go (is-outside t o e) = passes-blank p (solverTable p) j c a (refute _ (λ u. covers_at p (solverTable p) j c a u (is ∙ e)))
+        go (is-goal t e) = passes-of p (solverTable p) j c a (goal-passes c a hc ha t (is ∙ e))
+        go (is-placed l k t q) = passes-of p (solverTable p) j c a (placed-passes c a l k hc ha t q)
+        go (is-outside t o e) = passes-blank p (solverTable p) j c a (refute _ (λ u. covers-at p (solverTable p) j c a u (is ∙ e)))
 
   pub table-passes : passesEach p (solverTable p) ≡ true
-  table-passes = each_of p (solverTable p) (λ j c a hj hc ha. entry-passes j hj c a hc ha)
+  table-passes = each-of p (solverTable p) (λ j c a hj hc ha. entry-passes j hj c a hc ha)

@@ -10,11 +10,11 @@ use Rattle.std.proofs.Math.Nat.{mul_assoc, add-mul}
 use Rattle.std.proofs.Math.Arith.{digits_lt, digits_div, digits_mod}
 use Rattle.std.proofs.Math.ListN.{length, get_or, get_or-eq_default}
 use borrow.Author.Tests.{ltb-true, ltb-false}
-use Rattle.mask.specs.LogicLaws.{clash, refute, cond_cases}
+use Rattle.mask.specs.LogicLaws.{clash, refute, cond-cases}
 use Rattle.mask.specs.Bounded.{first}
 use Rattle.mask.specs.BoundedLaws.{first-has, first-before}
 use Rattle.mask.specs.Tables.{table}
-use Rattle.mask.specs.TablesLaws.{table-length, table_at}
+use Rattle.mask.specs.TablesLaws.{table-length, table-at}
 use Rattle.machine.specs.declared.Pair.{Pair}
 use Rattle.machine.specs.Machines.{matched, nC, nA, setsC, setsA, pairs}
 use Rattle.machine.specs.WellFormedLaws.{WellPair, ranks-small}
@@ -107,9 +107,9 @@ module _ (p : Pair) where
         let N : ℕ = length (tower p G) in
         let i : ℕ = first N has in
         let long : N ≡ pairs p * setsC p = tower-length p G in
-        cond_cases (mem p G c a) (λ r. Ranked G c a r) 0 (cond (ltb i N) (suc i) blank)
+        cond-cases (mem p G c a) (λ r. Ranked G c a r) 0 (cond (ltb i N) (suc i) blank)
         (λ t. is-goal t refl)
-        (λ t. cond_cases (ltb i N) (λ r. Ranked G c a r) (suc i) blank
+        (λ t. cond-cases (ltb i N) (λ r. Ranked G c a r) (suc i) blank
         (λ u. let q = found i (omega (arith, ltb-true i N u)) (first-has N has (ltb-true i N u)) (first-before N has) in is-placed q.0 q.1 t q.2)
         (λ u. is-outside t (λ l k hl hk.
         sym (has-at l k hl hk) ∙ first-before N has (l * setsC p + k) (omega (arith, ltb-false i N u, digits_lt hl hk))) refl))
@@ -202,9 +202,9 @@ module _ (p : Pair) where
         let sec : e / pairs p ≡ j = rw split (digits_div j hq) in
         let row : e % pairs p / nA p ≡ c = rw (split, digits_mod j hq) (digits_div c ha) in
         let Gs : List (List ℕ) = table (setsA p) (goals p Z) in
-        let G : get_or Gs j [] ≡ goals p Z j = table_at (setsA p) (goals p Z) j [] hj in
-        table_at (entries p) _ e 0 (rw split (digits_lt hj hq))
-        ∙ rw (sec, row, column j c a ha, table_at (setsA p) (λ i. tower p (get_or Gs i [])) j [] hj, G)
+        let G : get_or Gs j [] ≡ goals p Z j = table-at (setsA p) (goals p Z) j [] hj in
+        table-at (entries p) _ e 0 (rw split (digits_lt hj hq))
+        ∙ rw (sec, row, column j c a ha, table-at (setsA p) (λ i. tower p (get_or Gs i [])) j [] hj, G)
 
     pub ranks-entries : length (rankTable p Z) ≡ entries p
     unfolding rankTable
@@ -214,7 +214,7 @@ module _ (p : Pair) where
     unfolding rankTable
     ranks-bounded e l =
         let sec : e / pairs p < setsA p = (div-lt_iff_lt-mul (factor-low _ _ e l)).1 l in
-        rw (table_at {A = ℕ} (entries p) _ e 0 l, table_at {A = List (List ℕ)} (setsA p) _ (e / pairs p) [] sec) (rank-bounded (ranked _ _ _))
+        rw (table-at {A = ℕ} (entries p) _ e 0 l, table-at {A = List (List ℕ)} (setsA p) _ (e / pairs p) [] sec) (rank-bounded (ranked _ _ _))
 
   -- the solver's table is the case of the largest family
   pub table-rank : TableHoldsRanks p

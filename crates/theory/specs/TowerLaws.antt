@@ -7,7 +7,7 @@ use Prim.Native.Nat.{ℕ, zero, suc, ◌+◌, ◌-◌, ◌*◌, ◌<◌}
 use native.Mathlib.Omega.{arith}
 use Rattle.std.proofs.Math.Arith.{digits_lt, digits_div, digits_mod}
 use Rattle.std.proofs.Math.ListN.{length, length-append, get_or-append}
-use Rattle.mask.specs.TablesLaws.{table-length, table_at}
+use Rattle.mask.specs.TablesLaws.{table-length, table-at}
 use Rattle.machine.specs.declared.Pair.{Pair}
 use Rattle.machine.specs.Machines.{nC, nA, setsC, pairs}
 use Rattle.machine.specs.Iteration.{iterate}
@@ -56,7 +56,7 @@ module _ (p : Pair) (G : List ℕ) where
 
   xs-at : (B : List ℕ) (k : ℕ) → k < setsC p → get_or (xsOver p G B) k [] ≡ xOver p G B k
   unfolding xsOver
-  xs-at B k h = table_at (setsC p) (xOver p G B) k [] h
+  xs-at B k h = table-at (setsC p) (xOver p G B) k [] h
 
   tower-over-length : (n : ℕ) (B : List ℕ) → length (towerOver p n G B) ≡ n * setsC p
   unfolding towerOver levelOver

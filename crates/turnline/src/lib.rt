@@ -4,7 +4,7 @@
 ghost use Rattle.std.specs.Prelude.{◌∷◌, ◌≡◌, suc, ◌+◌, ◌<◌, ◌≤◌, min, length};
 ghost use Rattle.std.proofs.lemmas.List.Edits.{sets};
 ghost use Rattle.text.specs.Decimal.{decimal};
-ghost use Rattle.report.specs.Answers.{line_of};
+ghost use Rattle.report.specs.Answers.{lineOf};
 ghost use Rattle.turnline.specs.Lines.{rowsCount, turnLine, finishedLine};
 
 use machine::Pair;
@@ -42,8 +42,8 @@ fn put_count(out: &mut [u8; 128], at: usize, n: usize) -> usize
 
 // The line of turn t, which left this family: how many pairs are still in, section by section.
 pub fn turn_line(p: Pair, t: usize, family: [u64; 448]) -> Line
-    ensures value { result ≡ line_of (turnLine p t family) }
-    ensures length_bound { result.length ≤ 128 }
+    ensures value { result ≡ lineOf (turnLine p t family) }
+    ensures room { result.length ≤ 128 }
 {
     let abstraction = p.abstraction;
     let n = held(abstraction.sets);
@@ -63,8 +63,8 @@ pub fn turn_line(p: Pair, t: usize, family: [u64; 448]) -> Line
 
 // The last line, where turn t finished.
 pub fn finished_line(t: usize) -> Line
-    ensures value { result ≡ line_of (finishedLine t) }
-    ensures length_bound { result.length ≤ 128 }
+    ensures value { result ≡ lineOf (finishedLine t) }
+    ensures room { result.length ≤ 128 }
 {
     let mut out = [0u8; 128];
     text::put(&mut out, 0, b"finished ");

@@ -5,7 +5,7 @@
 ghost use Rattle.std.specs.Prelude.{◌≡◌, cond, ltb, eqb, length};
 ghost use Rattle.mask.specs.Logic.{not, or};
 ghost use Rattle.mask.specs.Bounded.{some};
-ghost use Rattle.machine.specs.Refusals.{tested_of};
+ghost use Rattle.machine.specs.Refusals.{testedOf};
 ghost use Rattle.machine.specs.WellFormed.{countsOk, beyond, stateBeyond, setBeyond, beyondCounts, firstEmpty, emptySet, hasEmptySet, contentValidity, contentTests, machineValidity, pairTests};
 
 use machine::{Machine, Pair, Validity};
@@ -112,7 +112,7 @@ fn beyond_counts(m: Machine) -> bool
 
 // Refusals 9, 10 and 11 of one machine, which is number `index` of a pair.
 fn content_validity(index: usize, m: Machine) -> Validity
-    ensures { tested_of result ≡ contentValidity index m }
+    ensures { testedOf result ≡ contentValidity index m }
 {
     if beyond_counts(m) {
         return Validity::Refused(machine::refuse(machine::BEYOND_COUNTS, index, 0, 0));
@@ -145,7 +145,7 @@ pub fn has_empty_set(m: Machine) -> bool
 
 // Refusals 9 to 11 of machine number `index`, and 21 behind them where its sets shall be nonempty.
 fn content_tests(nonempty: bool, index: usize, m: Machine) -> Validity
-    ensures { tested_of result ≡ contentTests nonempty index m }
+    ensures { testedOf result ≡ contentTests nonempty index m }
 {
     let content = content_validity(index, m);
     if let Validity::Refused(r) = content {
@@ -162,7 +162,7 @@ fn content_tests(nonempty: bool, index: usize, m: Machine) -> Validity
 
 // Whether one machine, which has at most `limit` sets, is well formed; it is machine 0.
 pub fn machine_validity(limit: usize, m: Machine) -> Validity
-    ensures { tested_of result ≡ machineValidity limit m }
+    ensures { testedOf result ≡ machineValidity limit m }
 {
     if !counts_ok(limit, m.states, m.sets) {
         return Validity::Refused(machine::refuse(machine::BAD_COUNTS, 0, 0, 0));
@@ -178,7 +178,7 @@ pub const NONEMPTY_SETS: bool = true;
 // Whether a pair is well formed, and every set nonempty if that is asked: the counts of both, then the whole concrete machine, then the whole
 // abstract one.
 pub fn pair_validity(p: Pair, nonempty: bool) -> Validity
-    ensures { tested_of result ≡ pairTests nonempty p }
+    ensures { testedOf result ≡ pairTests nonempty p }
 {
     let c = p.concrete;
     let a = p.abstraction;

@@ -1,7 +1,7 @@
 -- Laws of what is said of a file: the state that NotCarried names.
 use Rattle.std.specs.Prelude.{List, ◌≡◌, ℕ, ◌<◌, ltb}
 use Rattle.std.proofs.Common.{arith, ltb-true}
-use Rattle.mask.specs.LogicLaws.{cond_cases}
+use Rattle.mask.specs.LogicLaws.{cond-cases}
 use Rattle.machine.specs.declared.Pair.{Pair}
 use Rattle.machine.specs.Refusals.{answer}
 use Rattle.machine.specs.Machines.{nC}
@@ -18,7 +18,7 @@ unfolding startVerdict
 check-low p T c n e =
     let said = lines-said p T (notCarried c n) (check-said p T (notCarried c n) e) in
     let states = (well-valid p said.0).concrete.states-high in
-    cond_cases (ltb (lackingStart p T) (nC p)) (λ v. v ≡ notCarried c n → c < 64) _ _
+    cond-cases (ltb (lackingStart p T) (nC p)) (λ v. v ≡ notCarried c n → c < 64) _ _
     (λ t q. let same : lackingStart p T ≡ c = cc in omega (arith, states, same, ltb-true (lackingStart p T) (nC p) t))
     (λ t q. let z : ◌≡◌ {A = ℕ} 0 1 = cc in absurd (omega arith))
     said.2

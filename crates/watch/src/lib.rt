@@ -2,9 +2,9 @@
 #![tactic(auto)]
 
 ghost use Rattle.std.specs.Prelude.{◌≡◌, length};
-ghost use Rattle.machine.specs.Refusals.{valid, tested_of, spotAfter};
+ghost use Rattle.machine.specs.Refusals.{valid, testedOf, spotAfter};
 ghost use Rattle.machine.specs.Table.{tableRoom};
-ghost use Rattle.codec.specs.Reader.{pair_of, readValidity};
+ghost use Rattle.codec.specs.Reader.{pairOf, readValidity};
 ghost use Rattle.progress.specs.Answers.{turnedOf, lookedUpOf};
 ghost use Rattle.watch.specs.Watching.{firstFile, firstFileGiven, firstFileRows, turnFile, turnFileRows, turnFileTable, lookUpFile, readyNumber, toldNumber};
 
@@ -21,8 +21,8 @@ struct Machines {
 
 // Reads the machines of a file; a table that came with them is not kept.
 fn machines_of(bytes: &[u8]) -> Machines
-    ensures validity_value { tested_of result.validity ≡ readValidity bytes.now tableRoom }
-    ensures pair_value { readValidity bytes.now tableRoom ≡ valid → result.pair ≡ pair_of bytes.now }
+    ensures validity { testedOf result.validity ≡ readValidity bytes.now tableRoom }
+    ensures machines { readValidity bytes.now tableRoom ≡ valid → result.pair ≡ pairOf bytes.now }
 {
     let mut table = [0u16; machine::TABLE_ROOM];
     let show = codec::reader::read_file(bytes, &mut table);
@@ -44,8 +44,8 @@ fn machines_of(bytes: &[u8]) -> Machines
 
 // The first family of a file's machines, or where the call was stopped: zeros beside a refusal.
 pub fn first_family_bytes(bytes: &[u8]) -> FirstFamily
-    ensures validity_value { tested_of result.validity ≡ firstFile bytes.now }
-    ensures family_value { result.family ≡ firstFileGiven bytes.now }
+    ensures validity { testedOf result.validity ≡ firstFile bytes.now }
+    ensures family { result.family ≡ firstFileGiven bytes.now }
 {
     let machines = machines_of(bytes);
     let read = machines.validity;
@@ -61,9 +61,9 @@ pub fn first_family_bytes(bytes: &[u8]) -> FirstFamily
 
 // A turn over a file's machines; the table that the file may have is not looked at.
 pub fn turn_bytes(bytes: &[u8], family: [u64; 448], table: &mut [u16]) -> TurnMade
-    ensures said_value { turnedOf result.said ≡ turnFile bytes.now family (length table.old) }
-    ensures family_value { result.family ≡ turnFileRows bytes.now family (length table.old) }
-    ensures table_after { table.new ≡ turnFileTable bytes.now family table.old }
+    ensures answer { turnedOf result.said ≡ turnFile bytes.now family (length table.old) }
+    ensures family { result.family ≡ turnFileRows bytes.now family (length table.old) }
+    ensures content { table.new ≡ turnFileTable bytes.now family table.old }
 {
     if table.len() < machine::TABLE_ROOM {
         return TurnMade {

@@ -3,7 +3,7 @@ use mathlib.Core.Path.{◌≡◌, sym, ap, ◌∙◌}
 use Prim.Native.Nat.{ℕ}
 use native.Mathlib.Omega.{arith}
 use lib.ListN.{take, length-take}
-use Rattle.codec.specs.Reader.{size_of}
+use Rattle.codec.specs.Reader.{sizeOf}
 use Rattle.codec.specs.Answers.{sizedOf}
 use Rattle.codec.specs.AnswersLaws.{sized-bytes, sized-refused}
 use Rattle.console.specs.FirstBlock.{sizeNumber}
@@ -25,8 +25,8 @@ cut c = elim c.if-bytes-lt512.branch [
 ]
 
 -- what the reader says of it
-sized : (c : After-file_size) → sizedOf c.file_size.result ≡ size_of (take 512 c.args.bytes.now)
-sized c = c.file_size.ensures ∙ ap size_of (cut c)
+sized : (c : After-file_size) → sizedOf c.file_size.result ≡ sizeOf (take 512 c.args.bytes.now)
+sized c = c.file_size.ensures ∙ ap sizeOf (cut c)
 
 pub overflow_cast-result : goal.overflow_cast-result
 overflow_cast-result c =

@@ -13,7 +13,7 @@ unfolding sizedOf
 returns-then-out-lt-TEXT_ROOM c =
     let x = c.args in
     let both = export-short x.bytes.now x.which x.out.now c.if-out-lt-TEXT_ROOM.true in
-    record { result_value = ap refused c.refuse.ensures ∙ sym both.0; out_after = sym both.1 }
+    record { answer = ap refused c.refuse.ensures ∙ sym both.0; content = sym both.1 }
 
 pub returns-in_default : goal.returns-in_default
 unfolding sizedOf
@@ -21,7 +21,7 @@ returns-in_default c =
     let x = c.args in
     let told = c.in_default.is in
     let both = export-unread x.bytes.now x.which x.out.now (omega (arith, c.if-out-lt-TEXT_ROOM.false)) (machines-refused _ _ c.read_file-show.ensures.answer told) in
-    record { result_value = ap refused (c.refusal_of.ensures ∙ refusal-of told) ∙ sym both.0; out_after = sym both.1 }
+    record { answer = ap refused (c.refusal_of.ensures ∙ refusal-of told) ∙ sym both.0; content = sym both.1 }
 
 pub returns-in-0 : goal.returns-in-0
 returns-in-0 c =
@@ -31,7 +31,7 @@ returns-in-0 c =
     let same = first-machine x.bytes.now x.which (omega arith) (machines-pair _ _ read told) in
     let both = export-written x.bytes.now x.which x.out.now (omega (arith, c.if-out-lt-TEXT_ROOM.false)) (machines-taken _ _ read told) _ (omega arith) same in
     let text = c.write_text.ensures in
-    record { result_value = text.result_value ∙ sym both.0; out_after = text.out_after ∙ sym both.1 }
+    record { answer = text.answer ∙ sym both.0; content = text.content ∙ sym both.1 }
 
 pub returns-in-1 : goal.returns-in-1
 returns-in-1 c =
@@ -41,11 +41,11 @@ returns-in-1 c =
     let same = second-machine x.bytes.now x.which (omega arith) (machines-pair _ _ read told) in
     let both = export-written x.bytes.now x.which x.out.now (omega (arith, c.if-out-lt-TEXT_ROOM.false)) (machines-taken _ _ read told) _ (omega arith) same in
     let text = c.write_text-in-1.ensures in
-    record { result_value = text.result_value ∙ sym both.0; out_after = text.out_after ∙ sym both.1 }
+    record { answer = text.answer ∙ sym both.0; content = text.content ∙ sym both.1 }
 
 pub returns-in_default-which : goal.returns-in_default-which
 unfolding sizedOf
 returns-in_default-which c =
     let x = c.args in
     let both = export-neither x.bytes.now x.which x.out.now (omega (arith, c.if-out-lt-TEXT_ROOM.false)) (machines-taken _ _ c.read_file-show.ensures.answer c.in-Taken.is) (omega arith) in
-    record { result_value = ap refused c.refuse-in_default-which.ensures ∙ sym both.0; out_after = sym both.1 }
+    record { answer = ap refused c.refuse-in_default-which.ensures ∙ sym both.0; content = sym both.1 }

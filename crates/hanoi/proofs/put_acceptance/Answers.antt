@@ -2,7 +2,7 @@
 use mathlib.Core.Path.{refl}
 use native.Mathlib.Omega.{arith}
 use Rattle.hanoi.specs.Words.{ascii}
-use Rattle.hanoi.specs.PutLaws.{left-all, left_split, left-next, left-room, left-last}
+use Rattle.hanoi.specs.PutLaws.{left-all, left-split, left-next, left-room, left-last}
 use Rattle.hanoi.specs.WalkLaws.{conditions-start, conditions-more, conditions-end}
 use Rattle.hanoi.proofs.put_acceptance.Goals as goal
 
@@ -20,12 +20,12 @@ put_numbered-end-requires c = left-room (conditions-more _ _ c.loop-k.invariant.
 
 pub put_word-to-requires-in-loop-k : goal.put_word-to-requires-in-loop-k
 put_word-to-requires-in-loop-k c =
-    left-room (left_split (left-next (conditions-more _ _ c.loop-k.invariant.1 c.loop-k-test.true) c.put_numbered-end.ensures) (ascii ")") _ refl)
+    left-room (left-split (left-next (conditions-more _ _ c.loop-k.invariant.1 c.loop-k-test.true) c.put_numbered-end.ensures) (ascii ")") _ refl)
 
 pub loop-k-preserved : goal.loop-k-preserved
 loop-k-preserved c =
     let next = left-next (conditions-more _ _ c.loop-k.invariant.1 c.loop-k-test.true) c.put_numbered-end.ensures in
-    (omega (arith, c.loop-k-test.true), left-next (left_split next (ascii ")") _ refl) c.put_word-to-in-loop-k.ensures)
+    (omega (arith, c.loop-k-test.true), left-next (left-split next (ascii ")") _ refl) c.put_word-to-in-loop-k.ensures)
 
 pub returns : goal.returns
 returns c =

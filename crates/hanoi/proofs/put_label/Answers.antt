@@ -1,7 +1,7 @@
 -- The first bit, and then those that are left.
 use native.Mathlib.Omega.{arith}
 use Rattle.hanoi.specs.PutLaws.{left-all, left-next, left-room, left-last}
-use Rattle.hanoi.specs.WalkLaws.{literals-start, literals-more, literals_end}
+use Rattle.hanoi.specs.WalkLaws.{literals-start, literals-more, literals-end}
 use Rattle.hanoi.proofs.put_label.Goals as goal
 
 pub put_literal-to-requires : goal.put_literal-to-requires
@@ -22,4 +22,4 @@ pub returns : goal.returns
 returns c =
     let x = c.args in
     let start = literals-start x.out.now x.at x.o c.requires in
-    left-last (left-next start c.put_literal-to.ensures) (literals_end _ _ (omega arith) c.loop-i.invariant.1)
+    left-last (left-next start c.put_literal-to.ensures) (literals-end _ _ (omega arith) c.loop-i.invariant.1)

@@ -2,7 +2,7 @@
 use native.Mathlib.Omega.{arith}
 use Rattle.hanoi.specs.PartsLaws.{lines-all}
 use Rattle.hanoi.specs.PutLaws.{left-all, left-to, left-next, left-room}
-use Rattle.hanoi.specs.WalkLaws.{lines_more, lines_end}
+use Rattle.hanoi.specs.WalkLaws.{lines-more, lines-end}
 use Rattle.hanoi.proofs.put_states.Goals as goal
 
 pub loop-s-init : goal.loop-s-init
@@ -11,13 +11,13 @@ loop-s-init c = let x = c.args in (omega arith, left-to (left-all _ _ _ c.requir
 pub put_state-to-requires : goal.put_state-to-requires
 put_state-to-requires c =
     let x = c.args in
-    left-room (lines_more x.k x.observations.now x.successors.now x.fairness.now _ _ c.loop-s.invariant.1 _ c.sets_with-members.ensures c.loop-s-test.true)
+    left-room (lines-more x.k x.observations.now x.successors.now x.fairness.now _ _ c.loop-s.invariant.1 _ c.sets_with-members.ensures c.loop-s-test.true)
 
 pub loop-s-preserved : goal.loop-s-preserved
 loop-s-preserved c =
     let x = c.args in
-    let next = lines_more x.k x.observations.now x.successors.now x.fairness.now _ _ c.loop-s.invariant.1 _ c.sets_with-members.ensures c.loop-s-test.true in
+    let next = lines-more x.k x.observations.now x.successors.now x.fairness.now _ _ c.loop-s.invariant.1 _ c.sets_with-members.ensures c.loop-s-test.true in
     (omega (arith, c.loop-s-test.true), left-next next c.put_state-to.ensures)
 
 pub returns : goal.returns
-returns c = let x = c.args in lines_end x.k x.observations.now x.successors.now x.fairness.now _ _ c.loop-s.invariant.1 (omega arith)
+returns c = let x = c.args in lines-end x.k x.observations.now x.successors.now x.fairness.now _ _ c.loop-s.invariant.1 (omega arith)

@@ -13,14 +13,14 @@ unfolding sizedOf
 returns-then-out-lt-TEXT_ROOM c =
     let x = c.args in
     let both = text-short x.m x.out.now c.if-out-lt-TEXT_ROOM.true in
-    record { result_value = ap refused c.refuse.ensures ∙ sym both.0; out_after = sym both.1 }
+    record { answer = ap refused c.refuse.ensures ∙ sym both.0; content = sym both.1 }
 
 pub returns-in-Refused : goal.returns-in-Refused
 unfolding sizedOf
 returns-in-Refused c =
     let x = c.args in
     let both = text-stopped x.m x.out.now (omega (arith, c.if-out-lt-TEXT_ROOM.false)) (tested-refused c.machine_validity-valid.ensures c.in-Refused.is) in
-    record { result_value = sym both.0; out_after = sym both.1 }
+    record { answer = sym both.0; content = sym both.1 }
 
 pub put_text-requires : goal.put_text-requires
 put_text-requires c = tested-valid c.machine_validity-valid.ensures c.in_default.is
@@ -31,4 +31,4 @@ returns c =
     let x = c.args in
     let valid = tested-valid c.machine_validity-valid.ensures c.in_default.is in
     let both = text-placed x.m x.out.now (omega (arith, c.if-out-lt-TEXT_ROOM.false)) valid (valid-machine 8 x.m (omega arith) valid) c.put_text.ensures in
-    record { result_value = both.0; out_after = both.1 }
+    record { answer = both.0; content = both.1 }

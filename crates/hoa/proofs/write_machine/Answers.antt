@@ -12,9 +12,9 @@ use Rattle.hoa.proofs.write_machine.Goals as goal
 pub slice_bounds-out-end : goal.slice_bounds-out-end
 slice_bounds-out-end g c =
     let made = c.text_bytes in
-    omega (arith, export-small _ _ _ (sized-bytes made.ensures.result_value c.in-Bytes.is), made.auto.out ∙ length-replicate {A = ℕ} textRoom 0)
+    omega (arith, export-small _ _ _ (sized-bytes made.ensures.answer c.in-Bytes.is), made.auto.out ∙ length-replicate {A = ℕ} textRoom 0)
 
 pub slice_bounds-write_all-end : goal.slice_bounds-write_all-end
 slice_bounds-write_all-end g c =
     let made = c.text_bytes in
-    sym (length-take-le _ _ (omega (arith, export-small _ _ _ (sized-bytes made.ensures.result_value c.in-Bytes.is), made.auto.out ∙ length-replicate {A = ℕ} textRoom 0)))
+    sym (length-take-le _ _ (omega (arith, export-small _ _ _ (sized-bytes made.ensures.answer c.in-Bytes.is), made.auto.out ∙ length-replicate {A = ℕ} textRoom 0)))

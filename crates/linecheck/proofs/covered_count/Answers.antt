@@ -9,7 +9,7 @@ use lib.Dec.{eqb}
 use lib.ListN.{get_or}
 use borrow.Author.Tests.{eq-eqb, ne_eqb}
 use Rattle.mask.specs.Logic.{not}
-use Rattle.mask.specs.LogicLaws.{not-i, not_f}
+use Rattle.mask.specs.LogicLaws.{not-i, not-f}
 use Rattle.mask.specs.BoundedLaws.{count-zero, count-hit, count-miss}
 use Rattle.machine.specs.Table.{blank}
 use Rattle.linecheck.proofs.covered_count.Goals as goal
@@ -31,7 +31,7 @@ loop-e-preserved c =
       ],
       rw add-one (elim c.if-table-e.branch [
         | then-table-e w ↦ omega (arith, l.invariant.1, count-hit l.e q (not-i (ne_eqb _ _ w.if-table-e.true)))
-        | else-table-e w ↦ omega (arith, l.invariant.1, count-miss l.e q (not_f (eq-eqb _ _ w.if-table-e.false)))
+        | else-table-e w ↦ omega (arith, l.invariant.1, count-miss l.e q (not-f (eq-eqb _ _ w.if-table-e.false)))
       ]),
     )
 

@@ -7,12 +7,12 @@ use lib.ListN.{length, get_or, take, drop}
 use borrow.Author.Count.{below_more, below_none}
 use Rattle.machine.specs.declared.Pair.{Pair}
 use Rattle.machine.specs.Machines.{starts, nC, nA}
-use Rattle.machine.specs.Step.{singleStep, in_row, found}
+use Rattle.machine.specs.Step.{singleStep, inRow, found}
 use Rattle.machine.specs.WellFormedLaws.{WellPair, well-pair}
-use Rattle.machine.specs.Table.{blank, tableRoom, place_of}
+use Rattle.machine.specs.Table.{blank, tableRoom, place-of}
 use Rattle.machine.specs.Verdict.{startCovered}
 use Rattle.machine.specs.VerdictLaws.{lacks-not, lacks-covered, lacks-is, lacking-is, lacking-none}
-use Rattle.linecheck.specs.BoundsLaws.{place_at, row_fits}
+use Rattle.linecheck.specs.BoundsLaws.{place-at, row-fits}
 use Rattle.linecheck.specs.StartsLaws.{start-found}
 use Rattle.linecheck.proofs.lacking_start.Goals as goal
 use Rattle.linecheck.proofs.lacking_start.Goals.{After-entry_index-from, else-has, then-has+else-not-has_partner}
@@ -21,14 +21,14 @@ use Rattle.linecheck.proofs.lacking_start.Goals.{After-entry_index-from, else-ha
 room : (c : After-entry_index-from) → c.entry_index-from.result + nA c.args.p ≤ length c.args.table.now
 room c =
     let x = c.args in
-    row_fits x.p (well-pair x.p c.requires.0) _ _ c.loop-c.c _ c.entry_index-from.ensures (omega arith) (omega arith) c.requires.1
+    row-fits x.p (well-pair x.p c.requires.0) _ _ c.loop-c.c _ c.entry_index-from.ensures (omega arith) (omega arith) c.requires.1
 
 -- it is that of section 1 beside c
-covered : (p : Pair) (T : List ℕ) → WellPair p → ((i : ℕ) → get_or T i 0 ≤ blank) → tableRoom ≤ length T → (c from : ℕ) → c < nC p → from ≡ place_of (nC p) (nA p) 0 c 0
+covered : (p : Pair) (T : List ℕ) → WellPair p → ((i : ℕ) → get_or T i 0 ≤ blank) → tableRoom ≤ length T → (c from : ℕ) → c < nC p → from ≡ place-of (nC p) (nA p) 0 c 0
     → (present : ℕ) (entries : ℕ → ℕ)
-    → found (singleStep present p.abstraction.start (in_row p.abstraction.start (take (from + nA p - from) (drop from T)) (blank - 1)) entries) ≡ startCovered p T c
+    → found (singleStep present p.abstraction.start (inRow p.abstraction.start (take (from + nA p - from) (drop from T)) (blank - 1)) entries) ≡ startCovered p T c
 covered p T w small r c from h e =
-    start-found p T w small c from (from + nA p) (place_at p w _ 0 c 0 e (omega arith) h (omega arith)) refl (row_fits p w _ 0 c _ e (omega arith) h r)
+    start-found p T w small c from (from + nA p) (place-at p w _ 0 c 0 e (omega arith) h (omega arith)) refl (row-fits p w _ 0 c _ e (omega arith) h r)
 
 pub loop-c-init : goal.loop-c-init
 loop-c-init c = below_none _

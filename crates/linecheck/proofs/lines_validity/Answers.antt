@@ -12,41 +12,41 @@ use mir.Val.{Fits}
 use borrow.Author.Count.{below_more, below_none}
 use borrow.Author.Rules.{rules}
 use borrow.Author.Tests.{not-true, not-false}
-use Rattle.mask.specs.BitsLaws.{rest_lt}
+use Rattle.mask.specs.BitsLaws.{rest-lt}
 use Rattle.mask.specs.Bounded.{everyIn}
-use Rattle.mask.specs.BoundedLaws.{every-at, every_of, everyIn-zero}
+use Rattle.mask.specs.BoundedLaws.{every-at, every-of, everyIn-zero}
 use Rattle.mask.specs.WalkLaws.{everyIn-hit, everyIn-miss}
 use Rattle.machine.specs.declared.Pair.{Pair}
-use Rattle.machine.specs.Refusals.{refused, tested_of}
+use Rattle.machine.specs.Refusals.{refused, testedOf}
 use Rattle.machine.specs.Machines.{nC, nA, setsA}
-use Rattle.machine.specs.WellFormedLaws.{WellPair, well-pair, pairs_small, ranks-small}
-use Rattle.machine.specs.Step.{singleStep, in_row, found}
+use Rattle.machine.specs.WellFormedLaws.{WellPair, well-pair, pairs-small, ranks-small}
+use Rattle.machine.specs.Step.{singleStep, inRow, found}
 use Rattle.machine.specs.StepLaws.{next-lt}
 use Rattle.machine.specs.Table.{entryIndex}
-use Rattle.machine.specs.RowLaws.{row_room, entry-room}
+use Rattle.machine.specs.RowLaws.{row-room, entry-room}
 use Rattle.machine.specs.Lines.{passes, linesValidity}
-use Rattle.machine.specs.LinesLaws.{lines-fail, lines-valid, each_of}
-use Rattle.linecheck.specs.BoundsLaws.{place_at, serves, line-section, moves-small, passes-if-blank, passes-if, fails-if, taken-lt, step-found}
+use Rattle.machine.specs.LinesLaws.{lines-fail, lines-valid, each-of}
+use Rattle.linecheck.specs.BoundsLaws.{place-at, serves, line-section, moves-small, passes-if-blank, passes-if, fails-if, taken-lt, step-found}
 use Rattle.linecheck.proofs.lines_validity.Goals as goal
 use Rattle.linecheck.proofs.lines_validity.Goals.{After-entry_index-at, After-entry_index-from, After-line_of-line, else-e, then-e+else-not-line+else-loop-rest-test}
 
 -- the entry's place
-place_of : (c : After-entry_index-at)
+place-of : (c : After-entry_index-at)
     → let p = c.args.p in
     c.entry_index-at.result ≡ entryIndex (nC p) (nA p) c.lines.j c.loop-c.c c.loop-a.a
-place_of c =
+place-of c =
     let p = c.args.p in
     let w = well-pair p c.requires.0 in
-    place_at p w _ c.lines.j c.loop-c.c c.loop-a.a c.entry_index-at.ensures (omega (arith, w.abstraction.sets-high)) c.loop-c-test.true (omega (arith, w.abstraction.states-high))
+    place-at p w _ c.lines.j c.loop-c.c c.loop-a.a c.entry_index-at.ensures (omega (arith, w.abstraction.sets-high)) c.loop-c-test.true (omega (arith, w.abstraction.states-high))
 
 -- is within the table
-place_in : (c : After-entry_index-at) → c.entry_index-at.result < length c.args.table.now
-place_in c =
+place-in : (c : After-entry_index-at) → c.entry_index-at.result < length c.args.table.now
+place-in c =
     let p = c.args.p in
     let w = well-pair p c.requires.0 in
     omega (
       arith,
-      place_of c,
+      place-of c,
       c.requires.1.1,
       entry-room (nC p) (nA p) c.lines.j c.loop-c.c (omega (arith, w.abstraction.sets-high)) w.concrete.states-high w.abstraction.states-high c.loop-a.a c.loop-c-test.true c.loop-a-test.true,
     )
@@ -59,8 +59,8 @@ section-small c =
     omega (arith, (well-pair c.args.p c.requires.0).abstraction.sets-high, line-section _ _ _ _ _ _ _ _ _ _ n c.line_of-line.result c.line_of-line.ensures c.lines-test.true k)
 
 -- the state that the walk has taken is one of the concrete machine's
-taken_in : (c : After-entry_index-from) → c.lowest-d.result < nC c.args.p
-taken_in c =
+taken-in : (c : After-entry_index-from) → c.lowest-d.result < nC c.args.p
+taken-in c =
     taken-lt (nC c.args.p) c.loop-rest.rest c.lowest-d.result (well-pair c.args.p c.requires.0).concrete.states-high (omega arith) c.loop-rest.invariant.0 c.lowest-d.ensures
 
 -- a mask of states has 64 bits
@@ -68,23 +68,23 @@ rest-fits : (p : Pair) (rest : ℕ) → WellPair p → rest < 2 ^ nC p → rest 
 rest-fits p rest w h = omega (arith, pow_mono {i = nC p} {j = 64} w.concrete.states-high)
 
 -- the row that is looked in
-row_of : (c : After-entry_index-from)
+row-of : (c : After-entry_index-from)
     → let p = c.args.p in
     c.entry_index-from.result ≡ entryIndex (nC p) (nA p) c.line_of-line.result.section c.lowest-d.result 0
-row_of c =
+row-of c =
     let p = c.args.p in
-    place_at p (well-pair p c.requires.0) _ c.line_of-line.result.section c.lowest-d.result 0 c.entry_index-from.ensures (section-small c) (taken_in c) (omega arith)
+    place-at p (well-pair p c.requires.0) _ c.line_of-line.result.section c.lowest-d.result 0 c.entry_index-from.ensures (section-small c) (taken-in c) (omega arith)
 
 -- lies within the table
-row_in : (c : After-entry_index-from) → c.entry_index-from.result + nA c.args.p ≤ length c.args.table.now
-row_in c =
+row-in : (c : After-entry_index-from) → c.entry_index-from.result + nA c.args.p ≤ length c.args.table.now
+row-in c =
     let p = c.args.p in
     let w = well-pair p c.requires.0 in
     omega (
       arith,
-      row_of c,
+      row-of c,
       c.requires.1.1,
-      row_room (nC p) (nA p) c.line_of-line.result.section c.lowest-d.result (section-small c) w.concrete.states-high w.abstraction.states-high (taken_in c),
+      row-room (nC p) (nA p) c.line_of-line.result.section c.lowest-d.result (section-small c) w.concrete.states-high w.abstraction.states-high (taken-in c),
     )
 
 -- what the single step says of the taken state, whatever the present one
@@ -95,13 +95,13 @@ told : (c : After-entry_index-from)
     let moves = get_or p.abstraction.successors c.loop-a.a 0 in
     let L = c.line_of-line.result in
     (present : ℕ) (entries : ℕ → ℕ)
-    → found (singleStep present moves (in_row (get_or c.args.matched c.lowest-d.result 0) (take (from + nA p - from) (drop from T)) L.bound) entries)
+    → found (singleStep present moves (inRow (get_or c.args.matched c.lowest-d.result 0) (take (from + nA p - from) (drop from T)) L.bound) entries)
     ≡ serves p T moves L.section L.bound c.lowest-d.result
 told c present entries =
     let p = c.args.p in
     let from = c.entry_index-from.result in
     let L = c.line_of-line.result in
-    step-found p c.args.table.now (well-pair p c.requires.0) c.args.matched c.requires.1.0 L.section c.lowest-d.result from (from + nA p) (row_of c) refl (row_in c) (taken_in c) present
+    step-found p c.args.table.now (well-pair p c.requires.0) c.args.matched c.requires.1.0 L.section c.lowest-d.result from (from + nA p) (row-of c) refl (row-in c) (taken-in c) present
     (get_or p.abstraction.successors c.loop-a.a 0) L.bound entries
 
 -- the first entry that fails is where the loops are left, with its spot
@@ -114,7 +114,7 @@ stopped c e =
     c.lines.invariant.0 c.loop-c.invariant.0 c.loop-a.invariant.0))
 
 pub overflow_mul-most : goal.overflow_mul-most
-overflow_mul-most c = omega (arith, pairs_small c.args.p (well-pair c.args.p c.requires.0))
+overflow_mul-most c = omega (arith, pairs-small c.args.p (well-pair c.args.p c.requires.0))
 
 pub overflow_mul-most-2 : goal.overflow_mul-most-2
 overflow_mul-most-2 c = omega (arith, ranks-small c.args.p (well-pair c.args.p c.requires.0))
@@ -129,10 +129,10 @@ pub loop-a-init : goal.loop-a-init
 loop-a-init c = (below_none _, refl)
 
 pub offset_bounds-table-at : goal.offset_bounds-table-at
-offset_bounds-table-at c = omega (arith, place_in (goal.at.offset_bounds-table-at c).After-entry_index-at)
+offset_bounds-table-at c = omega (arith, place-in (goal.at.offset_bounds-table-at c).After-entry_index-at)
 
 pub bounds-table-at : goal.bounds-table-at
-bounds-table-at c = place_in (goal.at.bounds-table-at c).After-entry_index-at
+bounds-table-at c = place-in (goal.at.bounds-table-at c).After-entry_index-at
 
 pub overflow_add-j : goal.overflow_add-j
 overflow_add-j c = omega (arith, (well-pair c.args.p c.requires.0).abstraction.sets-high)
@@ -170,29 +170,29 @@ loop-rest-init c =
     let w = well-pair x.p c.requires.0 in
     let fit : Fits w64 (get_or x.p.concrete.successors c.loop-c.c 0) = search rules in (
       moves-small x.p w c.loop-c.c c.loop-c-test.true fit.fits,
-      passes-if x.p x.table.now w (λ i. omega (arith, c.type_inv.table i)) c.lines.j c.loop-c.c c.loop-a.a c.entry_index-at.result (place_of (goal.at.loop-rest-init c).After-entry_index-at) x.matched
+      passes-if x.p x.table.now w (λ i. omega (arith, c.type_inv.table i)) c.lines.j c.loop-c.c c.loop-a.a c.entry_index-at.result (place-of (goal.at.loop-rest-init c).After-entry_index-at) x.matched
           c.next_section-next.result c.line_of-line.result c.requires.1.0 c.next_section-next.ensures c.loop-c-test.true c.loop-a-test.true c.if-e.true c.line_of-line.ensures
           (not-false _ c.if-not-line.false) fit.fits,
       refl,
     )
 
 pub overflow_add-to : goal.overflow_add-to
-overflow_add-to c = omega (arith, row_in (goal.at.overflow_add-to c).After-entry_index-from)
+overflow_add-to c = omega (arith, row-in (goal.at.overflow_add-to c).After-entry_index-from)
 
 pub offset_bounds-matched-d : goal.offset_bounds-matched-d
-offset_bounds-matched-d c = omega (arith, taken_in (goal.at.offset_bounds-matched-d c).After-entry_index-from, (well-pair c.args.p c.requires.0).concrete.states-high)
+offset_bounds-matched-d c = omega (arith, taken-in (goal.at.offset_bounds-matched-d c).After-entry_index-from, (well-pair c.args.p c.requires.0).concrete.states-high)
 
 pub bounds-matched-d : goal.bounds-matched-d
-bounds-matched-d c = omega (arith, taken_in (goal.at.bounds-matched-d c).After-entry_index-from, (well-pair c.args.p c.requires.0).concrete.states-high)
+bounds-matched-d c = omega (arith, taken-in (goal.at.bounds-matched-d c).After-entry_index-from, (well-pair c.args.p c.requires.0).concrete.states-high)
 
 pub offset_bounds-table-from : goal.offset_bounds-table-from
-offset_bounds-table-from c = omega (arith, row_in (goal.at.offset_bounds-table-from c).After-entry_index-from)
+offset_bounds-table-from c = omega (arith, row-in (goal.at.offset_bounds-table-from c).After-entry_index-from)
 
 pub slice_bounds-has_partner-end : goal.slice_bounds-has_partner-end
-slice_bounds-has_partner-end c = row_in (goal.at.slice_bounds-has_partner-end c).After-entry_index-from
+slice_bounds-has_partner-end c = row-in (goal.at.slice_bounds-has_partner-end c).After-entry_index-from
 
 pub loop-rest-smaller : goal.loop-rest-smaller
-loop-rest-smaller c = omega (arith, c.rest-rest.ensures, rest_lt c.loop-rest.rest (omega arith))
+loop-rest-smaller c = omega (arith, c.rest-rest.ensures, rest-lt c.loop-rest.rest (omega arith))
 
 pub loop-rest-preserved : goal.loop-rest-preserved
 loop-rest-preserved c =
@@ -201,7 +201,7 @@ loop-rest-preserved c =
     let L = c.line_of-line.result in
     let t = c.loop-rest in
     let q = serves p T (get_or p.abstraction.successors c.loop-a.a 0) L.section L.bound in (
-      omega (arith, c.rest-rest.ensures, t.invariant.0, rest_lt t.rest (omega arith)),
+      omega (arith, c.rest-rest.ensures, t.invariant.0, rest-lt t.rest (omega arith)),
       t.invariant.1
           ∙ everyIn-hit 64 t.rest q c.lowest-d.result (omega arith) (rest-fits p t.rest (well-pair p c.requires.0) t.invariant.0) c.lowest-d.ensures
           (sym (c.has_partner.ensures 0 ∙ told (goal.at.loop-rest-preserved c).After-entry_index-from 0 _) ∙ c.if-not-has_partner.false)
@@ -216,7 +216,7 @@ loop-a-preserved c =
         | then-e+else-not-line+else-loop-rest-test w ↦ w.loop-rest.invariant.1 ∙ rw w.loop-rest-test.false (everyIn-zero 64 _)
         | else-e w ↦
             passes-if-blank x.p x.table.now (well-pair x.p c.requires.0) (λ i. omega (arith, c.type_inv.table i)) c.lines.j c.loop-c.c c.loop-a.a c.entry_index-at.result
-            (place_of (goal.at.loop-a-preserved c).After-entry_index-at) w.if-e.false
+            (place-of (goal.at.loop-a-preserved c).After-entry_index-at) w.if-e.false
       ]),
       elim c.if-e.branch [
         | then-e+else-not-line+else-loop-rest-test w ↦ w.answer-is ∙ w.loop-rest.invariant.2
@@ -226,35 +226,35 @@ loop-a-preserved c =
 
 pub loop-c-preserved : goal.loop-c-preserved
 loop-c-preserved c = (
-  below_more _ _ c.loop-c.invariant.0 (every_of _ _ (λ i h. c.loop-a.invariant.0 i (omega arith))),
+  below_more _ _ c.loop-c.invariant.0 (every-of _ _ (λ i h. c.loop-a.invariant.0 i (omega arith))),
   c.loop-a.invariant.1 ∙ c.loop-c.invariant.1,
 )
 
 pub lines-preserved : goal.lines-preserved
 lines-preserved c = (
-  below_more _ _ c.lines.invariant.0 (every_of _ _ (λ i h. c.loop-c.invariant.0 i (omega arith))),
+  below_more _ _ c.lines.invariant.0 (every-of _ _ (λ i h. c.loop-c.invariant.0 i (omega arith))),
   c.loop-c.invariant.1 ∙ c.lines.invariant.1,
 )
 
 pub returns-after-lines : goal.returns-after-lines
-unfolding tested_of
+unfolding testedOf
 returns-after-lines c =
     let x = c.args in
     let i = c.lines.invariant in
-    ap tested_of i.1
-    ∙ sym (lines-valid x.p x.table.now (each_of x.p x.table.now (λ j k a hj hk ha. every-at _ _ (every-at _ _ (i.0 j (omega arith)) k hk) a ha)))
+    ap testedOf i.1
+    ∙ sym (lines-valid x.p x.table.now (each-of x.p x.table.now (λ j k a hj hk ha. every-at _ _ (every-at _ _ (i.0 j (omega arith)) k hk) a ha)))
 
 pub returns-then-not-line : goal.returns-then-not-line
-unfolding tested_of
+unfolding testedOf
 returns-then-not-line c =
     let x = c.args in
     stopped (goal.at.returns-then-not-line c).After-line_of-line
     (fails-if x.p x.table.now (well-pair x.p c.requires.0) (λ i. omega (arith, c.type_inv.table i)) c.lines.j c.loop-c.c c.loop-a.a c.entry_index-at.result
-    (place_of (goal.at.returns-then-not-line c).After-entry_index-at) x.matched c.next_section-next.result c.line_of-line.result c.requires.1.0 c.next_section-next.ensures c.loop-c-test.true
+    (place-of (goal.at.returns-then-not-line c).After-entry_index-at) x.matched c.next_section-next.result c.line_of-line.result c.requires.1.0 c.next_section-next.ensures c.loop-c-test.true
     c.loop-a-test.true c.if-e.true c.line_of-line.ensures (not-true _ c.if-not-line.true))
 
 pub returns-then-not-has_partner : goal.returns-then-not-has_partner
-unfolding tested_of
+unfolding testedOf
 returns-then-not-has_partner c =
     let p = c.args.p in
     let L = c.line_of-line.result in

@@ -2,7 +2,7 @@
 -- test.
 use mathlib.Core.Path.{sym, ap}
 use native.Mathlib.Omega.{arith}
-use Rattle.machine.specs.WellFormedLaws.{well-pair, pairs_small, entries-small}
+use Rattle.machine.specs.WellFormedLaws.{well-pair, pairs-small, entries-small}
 use Rattle.machine.specs.Refusals.{answer}
 use Rattle.machine.specs.Table.{coveredCount}
 use Rattle.machine.specs.VerdictLaws.{start-lacking, start-carried}
@@ -10,7 +10,7 @@ use Rattle.linecheck.specs.Answers.{verdictOf, emptySetOf}
 use Rattle.linecheck.proofs.verdict_of_starts.Goals as goal
 
 pub overflow_mul-nc : goal.overflow_mul-nc
-overflow_mul-nc c = let x = c.args in omega (arith, pairs_small x.p (well-pair x.p c.requires.0))
+overflow_mul-nc c = let x = c.args in omega (arith, pairs-small x.p (well-pair x.p c.requires.0))
 
 pub overflow_mul-n : goal.overflow_mul-n
 overflow_mul-n c = let x = c.args in omega (arith, entries-small x.p (well-pair x.p c.requires.0))

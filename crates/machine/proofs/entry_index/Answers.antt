@@ -5,7 +5,7 @@ use mir.Syntax.{w64}
 use mir.Val.{Fits}
 use native.Mathlib.Omega.{arith}
 use Rattle.machine.specs.WellFormedLaws.{mul-bound}
-use Rattle.machine.specs.Table.{entryIndex, place_of}
+use Rattle.machine.specs.Table.{entryIndex, place-of}
 use Rattle.machine.proofs.entry_index.Goals as goal
 
 rest : (x : ℕ) → x % 256 ≤ 255
@@ -23,8 +23,8 @@ section-fits x y = omega (arith, section x y)
 state-fits : (x y z : ℕ) → Fits w64 (x % 256 * (y % 256) + z % 256)
 state-fits x y z = omega (arith, section x y, rest z)
 
-row_fits : (x y z u : ℕ) → Fits w64 ((x % 256 * (y % 256) + z % 256) * (u % 256))
-row_fits x y z u = omega (arith, row x y z u)
+row-fits : (x y z u : ℕ) → Fits w64 ((x % 256 * (y % 256) + z % 256) * (u % 256))
+row-fits x y z u = omega (arith, row x y z u)
 
 place-fits : (x y z u v : ℕ) → Fits w64 ((x % 256 * (y % 256) + z % 256) * (u % 256) + v % 256)
 place-fits x y z u v = omega (arith, row x y z u, rest v)
@@ -36,11 +36,11 @@ pub overflow_add-result : goal.overflow_add-result
 overflow_add-result c = state-fits _ _ _
 
 pub overflow_mul-result-2 : goal.overflow_mul-result-2
-overflow_mul-result-2 c = row_fits _ _ _ _
+overflow_mul-result-2 c = row-fits _ _ _ _
 
 pub overflow_add-result-2 : goal.overflow_add-result-2
 overflow_add-result-2 c = place-fits _ _ _ _ _
 
 pub returns : goal.returns
-unfolding place_of entryIndex
+unfolding place-of entryIndex
 returns c = refl

@@ -4,7 +4,7 @@ use Prim.Native.Nat.{ℕ}
 use native.Mathlib.Omega.{arith}
 use lib.Bits.{and_le_l}
 use lib.ListN.{get_or}
-use Rattle.mask.specs.BitsLaws.{rest_lt}
+use Rattle.mask.specs.BitsLaws.{rest-lt}
 use Rattle.mask.specs.Bounded.{someIn}
 use Rattle.mask.specs.BoundedLaws.{someIn-zero}
 use Rattle.mask.specs.WalkLaws.{someIn-hit, someIn-miss}
@@ -29,14 +29,14 @@ returns-then-row-a c =
     (within-hit x.row.now x.bound a.result (omega arith) (omega arith)))
 
 pub loop-m-smaller : goal.loop-m-smaller
-loop-m-smaller c = omega (arith, c.rest-m.ensures, rest_lt c.loop-m.m (omega arith))
+loop-m-smaller c = omega (arith, c.rest-m.ensures, rest-lt c.loop-m.m (omega arith))
 
 pub loop-m-preserved : goal.loop-m-preserved
 loop-m-preserved c =
     let l = c.loop-m in
     let x = c.args in
     let a = c.lowest-a in (
-      omega (arith, c.rest-m.ensures, rest_lt l.m (omega arith)),
+      omega (arith, c.rest-m.ensures, rest-lt l.m (omega arith)),
       λ present. l.invariant.1 present ∙ someIn-miss 64 l.m (within x.row.now x.bound) a.result (omega arith) l.invariant.0 a.ensures
           (within-miss x.row.now x.bound a.result (λ h. elim c.if-a-row.branch [ then-a-row+else-row-a w ↦ omega arith | else-a-row w ↦ omega arith ]))
           ∙ ap (λ (m : ℕ). someIn 64 m (within x.row.now x.bound)) (sym c.rest-m.ensures),

@@ -4,18 +4,18 @@ use Prim.Native.Nat.{◌<◌}
 use native.Mathlib.Omega.{arith}
 use lib.Bits.{bit_and, and_le_l}
 use lib.ListN.{get_or}
-use Rattle.mask.specs.BitsLaws.{rest_lt}
-use Rattle.machine.specs.PartnerLaws.{walked_start, walked-take, walked-keep, walked-done, partner-row}
+use Rattle.mask.specs.BitsLaws.{rest-lt}
+use Rattle.machine.specs.PartnerLaws.{walked-start, walked-take, walked-keep, walked-done, partner-row}
 use Rattle.machine.proofs.least_within.Goals as goal
 use Rattle.machine.proofs.least_within.Goals.{else-a-row, then-a-row+else-e-limit, then-a-row+then-e-limit}
 
 pub loop-m-init : goal.loop-m-init
 loop-m-init c =
     let x = c.args in
-    walked_start x.row.now x.bound (bit_and x.moves x.matched) (omega (arith, and_le_l x.moves x.matched))
+    walked-start x.row.now x.bound (bit_and x.moves x.matched) (omega (arith, and_le_l x.moves x.matched))
 
 pub loop-m-smaller : goal.loop-m-smaller
-loop-m-smaller c = omega (arith, c.rest-m.ensures, rest_lt c.loop-m.m (omega arith))
+loop-m-smaller c = omega (arith, c.rest-m.ensures, rest-lt c.loop-m.m (omega arith))
 
 pub loop-m-preserved : goal.loop-m-preserved
 loop-m-preserved c =

@@ -12,6 +12,6 @@ pub returns-then-m-eq0 : goal.returns-then-m-eq0
 returns-then-m-eq0 c = let s = c.args in sym (mask-nobody s.present s.moves s.row (omega arith) c.if-m-eq0.true)
 
 pub returns-else-m-eq0 : goal.returns-else-m-eq0
-returns-else-m-eq0 c = 
+returns-else-m-eq0 c =
     let s = c.args in
     ap State c.lowest.ensures ∙ sym (mask-lowest s.present s.moves s.row (omega arith) c.if-m-eq0.false (sym c.has.ensures ∙ c.if-has.false))

@@ -4,11 +4,11 @@ use mathlib.Core.Path.{◌≡◌, sym, ◌∙◌}
 use Prim.Native.Nat.{ℕ, ◌≤◌, ◌<◌}
 use native.Mathlib.Omega.{arith}
 use lib.ListN.{length, get_or}
-use Rattle.mask.specs.LogicLaws.{and_l, and_r, and_i, clash}
+use Rattle.mask.specs.LogicLaws.{and-l, and-r, and-i, clash}
 use Rattle.mask.specs.BitsLaws.{has-and, has-lt}
 use Rattle.machine.specs.declared.Partner.{Partner}
 use Rattle.machine.specs.declared.Partner.TheVariants.{State}
-use Rattle.machine.specs.Step.{singleStep, in_row}
+use Rattle.machine.specs.Step.{singleStep, inRow}
 use Rattle.machine.specs.SingleStep.{Best}
 use Rattle.machine.specs.PartnerLaws.{partner-at}
 use Rattle.machine.specs.RowLaws.{inRow-at, inRow-of}
@@ -24,12 +24,12 @@ abbrev lowest : After-has → ℕ
 lowest c = c.in-State.best
 
 abbrev named : After-has → Partner
-named c = let x = c.args in singleStep x.present x.moves (in_row x.matched x.row.now x.bound) (key c)
+named c = let x = c.args in singleStep x.present x.moves (inRow x.matched x.row.now x.bound) (key c)
 
-best : (c : After-has) → let x = c.args in Best x.moves (in_row x.matched x.row.now x.bound) (key c) (lowest c)
+best : (c : After-has) → let x = c.args in Best x.moves (inRow x.matched x.row.now x.bound) (key c) (lowest c)
 best c =
     let x = c.args in
-    partner-at x.moves (in_row x.matched x.row.now x.bound) (key c) (lowest c)
+    partner-at x.moves (inRow x.matched x.row.now x.bound) (key c) (lowest c)
     (sym c.least_within-found.ensures ∙ c.in-State.is)
 
 lowest-row : (c : After-has) → (lowest c < length c.args.row.now) × (key c (lowest c) ≤ c.args.bound)
@@ -42,9 +42,9 @@ stays c t h l =
     let x = c.args in
     let bits = sym (has-and x.present _ _) ∙ sym c.has.ensures ∙ t in
     sym (single-stays x.present (key c) x.moves _ (record {
-      below = has-lt 64 x.moves x.present (omega arith) (and_l _ _ bits);
-      moved = and_l _ _ bits;
-      inside = inRow-of x.matched x.row.now x.bound x.present (and_r _ _ bits) h (omega (arith, (lowest-row c).1));
+      below = has-lt 64 x.moves x.present (omega arith) (and-l _ _ bits);
+      moved = and-l _ _ bits;
+      inside = inRow-of x.matched x.row.now x.bound x.present (and-r _ _ bits) h (omega (arith, (lowest-row c).1));
     }) (λ i k. omega (arith, l, (best c).least i k)))
 
 -- it is not
@@ -54,7 +54,7 @@ leaves c worse =
     let x = c.args in
     sym (single-leaves x.present (key c) x.moves _ (lowest c) (best c) (λ k.
     let r = inRow-at x.matched x.row.now x.bound x.present k.inside in
-    worse (c.has.ensures ∙ has-and x.present x.moves x.matched ∙ and_i k.moved r.0) r.1))
+    worse (c.has.ensures ∙ has-and x.present x.moves x.matched ∙ and-i k.moved r.0) r.1))
 
 pub returns-in_default : goal.returns-in_default
 returns-in_default c =
@@ -68,7 +68,7 @@ pub bounds-row-best : goal.bounds-row-best
 bounds-row-best c = (lowest-row (goal.at.bounds-row-best c).After-has).0
 
 pub returns-then-row-present : goal.returns-then-row-present
-returns-then-row-present c =  stays (goal.at.returns-then-row-present c).After-has c.if-has.true c.if-present-row.true (omega (arith, c.if-row-present.true))
+returns-then-row-present c = stays (goal.at.returns-then-row-present c).After-has c.if-has.true c.if-present-row.true (omega (arith, c.if-row-present.true))
 
 pub returns-else-row-present : goal.returns-else-row-present
 returns-else-row-present c = leaves (goal.at.returns-else-row-present c).After-has (λ t h. omega (arith, c.if-row-present.false))

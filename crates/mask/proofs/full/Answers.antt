@@ -1,7 +1,7 @@
 -- One shifted by a width below 64 is that power of two; from 64 on the width that counts is 64.
 use Rattle.std.proofs.Common.{ℕ, ◌-◌, ◌<◌, ◌≤◌, ◌≡◌, ◌∙◌, min, arith, sym, ap}
 use Rattle.mask.specs.Bits.{fullMask}
-use Rattle.mask.specs.BitsLaws.{one_shl}
+use Rattle.mask.specs.BitsLaws.{one-shl}
 use Rattle.mask.proofs.full.Goals as goal
 
 low : (n : ℕ) → n < 64 → min n 64 ≡ n
@@ -12,7 +12,7 @@ high n h = omega arith
 
 pub returns-then-width-lt64 : goal.returns-then-width-lt64
 unfolding fullMask
-returns-then-width-lt64 c = ap (λ (x : ℕ). x - 1) (one_shl c.args.width (omega arith)) ∙ sym (ap fullMask (low c.args.width (omega arith)))
+returns-then-width-lt64 c = ap (λ (x : ℕ). x - 1) (one-shl c.args.width (omega arith)) ∙ sym (ap fullMask (low c.args.width (omega arith)))
 
 pub returns-else-width-lt64 : goal.returns-else-width-lt64
 unfolding fullMask

@@ -3,12 +3,12 @@ use mathlib.Core.Path.{◌≡◌, sym, ap, ◌∙◌}
 use Rattle.machine.specs.Lassos.{given}
 use Rattle.machine.specs.Refusals.{answer, refused, passOn}
 use Rattle.codec.specs.declared.Reading.TheVariants.{Taken}
-use Rattle.codec.specs.AnswersLaws.{read_taken, read-refused, refusal-of}
+use Rattle.codec.specs.AnswersLaws.{read-taken, read-refused, refusal-of}
 use Rattle.codec.specs.Outcomes.{says}
 use Rattle.player.specs.declared.Played.{Played}
 use Rattle.player.specs.Answers.{playedOf}
 use Rattle.playback.specs.Playing.{fileRun, fileRunBuffer, runOutcomeOf}
-use Rattle.playback.specs.PlayingLaws.{run_short, run-refused, run-bare, run-played}
+use Rattle.playback.specs.PlayingLaws.{run-short, run-refused, run-bare, run-played}
 use Rattle.playback.proofs.play_bytes.Goals as goal
 use Rattle.playback.proofs.play_bytes.Goals.{After-play}
 
@@ -16,8 +16,8 @@ pub returns-then-run-lt-RUN_ROOM : goal.returns-then-run-lt-RUN_ROOM
 unfolding runOutcomeOf
 returns-then-run-lt-RUN_ROOM c =
     let x = c.args in
-    let both = run_short x.bytes.now (given x.stem.now x.cycle.now) x.run.now c.if-run-lt-RUN_ROOM.true in
-    record { result_value = ap refused c.refuse.ensures ∙ sym both.0; run_after = sym both.1 }
+    let both = run-short x.bytes.now (given x.stem.now x.cycle.now) x.run.now c.if-run-lt-RUN_ROOM.true in
+    record { answer = ap refused c.refuse.ensures ∙ sym both.0; content = sym both.1 }
 
 pub returns-in_default : goal.returns-in_default
 unfolding runOutcomeOf
@@ -25,15 +25,15 @@ returns-in_default c =
     let told = c.in_default.is in
     let x = c.args in
     let both = run-refused x.bytes.now (given x.stem.now x.cycle.now) x.run.now c.if-run-lt-RUN_ROOM.false (read-refused _ c.read_file-show.ensures.answer told) in
-    record { result_value = ap refused (c.refusal_of.ensures ∙ refusal-of told) ∙ sym both.0; run_after = sym both.1 }
+    record { answer = ap refused (c.refusal_of.ensures ∙ refusal-of told) ∙ sym both.0; content = sym both.1 }
 
 pub returns-then-not-note : goal.returns-then-not-note
 unfolding runOutcomeOf
 returns-then-not-note c =
     let told = c.in-Taken.is ∙ ap Taken c.if-not-note.true in
     let x = c.args in
-    let both = run-bare x.bytes.now (given x.stem.now x.cycle.now) x.run.now c.if-run-lt-RUN_ROOM.false (read_taken _ c.read_file-show.ensures.answer told) in
-    record { result_value = sym both.0; run_after = sym both.1 }
+    let both = run-bare x.bytes.now (given x.stem.now x.cycle.now) x.run.now c.if-run-lt-RUN_ROOM.false (read-taken _ c.read_file-show.ensures.answer told) in
+    record { answer = sym both.0; content = sym both.1 }
 
 -- what the player says of the table is said of the file, and the buffer is as the player left it
 played : (c : After-play) (v : Played) → c.play.result ≡ v →
@@ -46,16 +46,16 @@ played c v is =
     let told = c.in-Taken.is ∙ ap Taken c.if-not-note.false in
     let x = c.args in
     run-played x.bytes.now (given x.stem.now x.cycle.now) x.run.now c.if-run-lt-RUN_ROOM.false
-    (read_taken _ read.answer told) read.content c.play.ensures.answer c.play.ensures.buffer is
+    (read-taken _ read.answer told) read.content c.play.ensures.answer c.play.ensures.buffer is
 
 pub returns-in-Run : goal.returns-in-Run
 unfolding runOutcomeOf playedOf passOn
 returns-in-Run c =
     let both = played (goal.at.returns-in-Run c).After-play _ c.in-Run.is in
-    record { result_value = both.0; run_after = both.1 }
+    record { answer = both.0; content = both.1 }
 
 pub returns-in-Refused : goal.returns-in-Refused
 unfolding runOutcomeOf playedOf passOn
 returns-in-Refused c =
     let both = played (goal.at.returns-in-Refused c).After-play _ c.in-Refused.is in
-    record { result_value = both.0; run_after = both.1 }
+    record { answer = both.0; content = both.1 }

@@ -11,38 +11,38 @@ use Rattle.playback.proofs.play_file.Goals as goal
 
 -- the run's lengths are those of a run that fits its buffer
 pub overflow_mul-result : goal.overflow_mul-result
-overflow_mul-result c = omega (arith, told-small _ _ _ c.play_bytes.ensures.result_value c.in-Run.is)
+overflow_mul-result c = omega (arith, told-small _ _ _ c.play_bytes.ensures.answer c.in-Run.is)
 
 pub overflow_add-result : goal.overflow_add-result
-overflow_add-result c = omega (arith, told-small _ _ _ c.play_bytes.ensures.result_value c.in-Run.is)
+overflow_add-result c = omega (arith, told-small _ _ _ c.play_bytes.ensures.answer c.in-Run.is)
 
 pub returns-in-Run : goal.returns-in-Run
 unfolding runNumber
 returns-in-Run c =
     let said = c.play_bytes.ensures in
-    let told = told-run _ _ _ said.result_value c.in-Run.is in
-    record { value = sym (ap runNumber told); run_after = said.run_after; spot_after = sym (spot-kept _ told) }
+    let told = told-run _ _ _ said.answer c.in-Run.is in
+    record { value = sym (ap runNumber told); content = said.content; numbers = sym (spot-kept _ told) }
 
 pub returns-in-NoTable : goal.returns-in-NoTable
 unfolding runNumber
 returns-in-NoTable c =
     let said = c.play_bytes.ensures in
-    let told = told-bare _ _ _ said.result_value c.in-NoTable.is in
+    let told = told-bare _ _ _ said.answer c.in-NoTable.is in
     let spot = c.args.spot.now in
     let put = ap (λ (r : Refusal). sets spot 0 (fourNumbers r)) c.refuse.ensures in
     record {
       value = sym (ap runNumber told);
-      run_after = said.run_after;
-      spot_after = c.put_refusal.ensures ∙ put ∙ sym (spot-put spot told);
+      content = said.content;
+      numbers = c.put_refusal.ensures ∙ put ∙ sym (spot-put spot told);
     }
 
 pub returns-in-Refused : goal.returns-in-Refused
 unfolding runNumber
 returns-in-Refused c =
     let said = c.play_bytes.ensures in
-    let told = told-refused _ _ _ said.result_value c.in-Refused.is in
+    let told = told-refused _ _ _ said.answer c.in-Refused.is in
     record {
       value = sym (ap runNumber told);
-      run_after = said.run_after;
-      spot_after = c.put_refusal-in-Refused.ensures ∙ sym (spot-put _ told);
+      content = said.content;
+      numbers = c.put_refusal-in-Refused.ensures ∙ sym (spot-put _ told);
     }

@@ -4,7 +4,7 @@ use mathlib.Core.Path.{sym, ap, ◌∙◌}
 use native.Mathlib.Omega.{arith}
 use Rattle.machine.specs.Lassos.{given}
 use Rattle.machine.specs.Machines.{starts}
-use Rattle.machine.specs.PlayerLaws.{Entered, bad-state, bad-start, good_start, bad-entry, good-entry, good-before, closing}
+use Rattle.machine.specs.PlayerLaws.{Entered, bad-state, bad-start, good-start, bad-entry, good-entry, good-before, closing}
 use Rattle.player.specs.LassoLaws.{moment-closing}
 use Rattle.player.proofs.bad_step.Goals as goal
 use Rattle.player.proofs.bad_step.Goals.{After-moves_to-closes, else-i-eq0+else-not-moves_to, then-i-eq0+else-not-has}
@@ -25,7 +25,7 @@ returns-then-not-moves_to c =
 entered : (c : After-moves_to-closes) → let x = c.args in Entered x.m (given x.stem.now x.cycle.now) x.i
 unfolding starts
 entered c = elim c.if-i-eq0.branch [
-  | then-i-eq0+else-not-has w ↦ good_start _ _ _ _ c.state_at-s.ensures w.if-i-eq0.true _ w.has.ensures (ap not w.if-not-has.false)
+  | then-i-eq0+else-not-has w ↦ good-start _ _ _ _ c.state_at-s.ensures w.if-i-eq0.true _ w.has.ensures (ap not w.if-not-has.false)
   | else-i-eq0+else-not-moves_to w ↦ good-entry _ _ _ _ c.state_at-s.ensures w.if-i-eq0.false _ w.state_at.ensures _ w.moves_to.ensures (ap not w.if-not-moves_to.false)
 ]
 

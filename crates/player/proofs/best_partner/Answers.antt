@@ -4,7 +4,7 @@ use Prim.Native.Nat.{◌+◌, ◌≤◌}
 use native.Mathlib.Omega.{arith}
 use Rattle.machine.specs.Machines.{nC, nA}
 use Rattle.machine.specs.Table.{tableRoom, entryIndex}
-use Rattle.player.specs.RowLaws.{index_is, row-end, row-partner}
+use Rattle.player.specs.RowLaws.{index-is, row-end, row-partner}
 use Rattle.player.proofs.best_partner.Goals as goal
 use Rattle.player.proofs.best_partner.Goals.{After-entry_index-from}
 
@@ -13,23 +13,23 @@ from : (c : After-entry_index-from) → let x = c.args in c.entry_index-from.res
 from c =
     let x = c.args in
     let r = c.requires in
-    index_is x.p r.tabled.well _ x.j x.d r.j_bound.0 r.j_bound.1 0 c.entry_index-from.ensures (omega arith)
+    index-is x.p r.tabled.well _ x.j x.d r.j_bound.0 r.j_bound.1 0 c.entry_index-from.ensures (omega arith)
 
 -- lies within the table
-row_low : (c : After-entry_index-from) → c.entry_index-from.result + nA c.args.p ≤ tableRoom
-row_low c =
+row-low : (c : After-entry_index-from) → c.entry_index-from.result + nA c.args.p ≤ tableRoom
+row-low c =
     let x = c.args in
     let r = c.requires in
     row-end x.p r.tabled.well _ x.j x.d r.j_bound.0 r.j_bound.1 (from c)
 
 pub overflow_add-to : goal.overflow_add-to
-overflow_add-to c = omega (arith, row_low (goal.at.overflow_add-to c).After-entry_index-from)
+overflow_add-to c = omega (arith, row-low (goal.at.overflow_add-to c).After-entry_index-from)
 
 pub offset_bounds-table-from : goal.offset_bounds-table-from
-offset_bounds-table-from c = omega (arith, row_low (goal.at.offset_bounds-table-from c).After-entry_index-from)
+offset_bounds-table-from c = omega (arith, row-low (goal.at.offset_bounds-table-from c).After-entry_index-from)
 
 pub slice_bounds-partner_within-end : goal.slice_bounds-partner_within-end
-slice_bounds-partner_within-end c = omega (arith, row_low (goal.at.slice_bounds-partner_within-end c).After-entry_index-from, c.requires.tabled.long)
+slice_bounds-partner_within-end c = omega (arith, row-low (goal.at.slice_bounds-partner_within-end c).After-entry_index-from, c.requires.tabled.long)
 
 pub returns : goal.returns
 returns c =
@@ -37,4 +37,4 @@ returns c =
     let r = c.requires in
     let e : After-entry_index-from = (goal.at.returns c).After-entry_index-from in
     c.partner_within.ensures ∙ rw r.tabled.masks (row-partner x.p x.table.now r.tabled.well (λ i. omega (arith, c.type_inv.table i)) x.j x.d
-    c.entry_index-from.result (c.entry_index-from.result + nA x.p) r.j_bound.1 (from e) refl (omega (arith, row_low e, r.tabled.long)) x.present x.moves r.by_index)
+    c.entry_index-from.result (c.entry_index-from.result + nA x.p) r.j_bound.1 (from e) refl (omega (arith, row-low e, r.tabled.long)) x.present x.moves r.appended)

@@ -10,7 +10,7 @@ use Rattle.machine.specs.RefusalsLaws.{tested-valid, tested-refused}
 use Rattle.machine.specs.Machines.{starts}
 use Rattle.machine.specs.WellFormedLaws.{well-valid}
 use Rattle.machine.specs.Lassos.{moment, given}
-use Rattle.machine.specs.Step.{state_of}
+use Rattle.machine.specs.Step.{stateOf}
 use Rattle.machine.specs.Verdict.{Verdict, checkVerdict, carried, notCarried}
 use Rattle.machine.specs.Player.{lassoValidity, startPartner}
 use Rattle.machine.specs.PlayerLaws.{start-single, play-valid}
@@ -19,7 +19,7 @@ use Rattle.linecheck.specs.declared.Checked.TheVariants.{Carried, NotCarried, Re
 use Rattle.linecheck.specs.Answers.{verdictOf}
 use Rattle.soundness.specs.PlayerLaws.{good-lasso, playable}
 use Rattle.player.specs.Answers.{playedOf}
-use Rattle.player.specs.AnswerLaws.{Passes, check-tells, stopped_by, short-run, check-stops, lasso-stops, start-stops, run-answer, run-buffer}
+use Rattle.player.specs.AnswerLaws.{Passes, check-tells, stopped-by, short-run, check-stops, lasso-stops, start-stops, run-answer, run-buffer}
 use Rattle.player.proofs.play.Goals as goal
 use Rattle.player.proofs.play.Goals.{After-best_partner-first}
 
@@ -37,7 +37,7 @@ pub returns-then-run-lt-RUN_ROOM : goal.returns-then-run-lt-RUN_ROOM
 returns-then-run-lt-RUN_ROOM c =
     let x = c.args in
     let l = given x.stem.now x.cycle.now in
-    let s = stopped_by x.p x.table.now l x.run.now c.refuse.result
+    let s = stopped-by x.p x.table.now l x.run.now c.refuse.result
     (short-run x.p x.table.now l x.run.now c.if-run-lt-RUN_ROOM.true ∙ ap refused (sym c.refuse.ensures)) in
     record { answer = s.0; buffer = s.1 }
 
@@ -46,7 +46,7 @@ unfolding verdictOf
 returns-in-Refused c =
     let x = c.args in
     let l = given x.stem.now x.cycle.now in
-    let s = stopped_by x.p x.table.now l x.run.now _
+    let s = stopped-by x.p x.table.now l x.run.now _
     (check-stops x.p x.table.now l x.run.now c.if-run-lt-RUN_ROOM.false _ (sym c.check_table-checked.ensures.verdict ∙ ap verdictOf c.in-Refused.is)) in
     record { answer = s.0; buffer = s.1 }
 
@@ -58,7 +58,7 @@ pub returns-in-Refused-tested : goal.returns-in-Refused-tested
 returns-in-Refused-tested c =
     let x = c.args in
     let l = given x.stem.now x.cycle.now in
-    let s = stopped_by x.p x.table.now l x.run.now _
+    let s = stopped-by x.p x.table.now l x.run.now _
     (lasso-stops x.p x.table.now l x.run.now c.if-run-lt-RUN_ROOM.false (passes x.p x.table.now _ c.check_table-checked.ensures.verdict c.in_default.not-Refused) _
     (tested-refused c.lasso_validity-tested.ensures c.in-Refused-tested.is)) in
     record { answer = s.0; buffer = s.1 }
@@ -79,7 +79,7 @@ best_partner-first-requires c =
     record {
       tabled = record { well = w; masks = c.matched_masks-matched.ensures; long = h.long };
       j_bound = (w.abstraction.sets-low, omega (arith, c.state_at-c.ensures, (good.right 0 (omega (arith, good.some-loop))).bound));
-      by_index = λ i h t. w.abstraction.start-bits i h t;
+      appended = λ i h t. w.abstraction.start-bits i h t;
     }
 
 -- where neither refuses
@@ -102,14 +102,14 @@ returns-in_default-first c =
     let b : After-best_partner-first = (goal.at.returns-in_default-first c).After-best_partner-first in
     let x = c.args in
     let l = given x.stem.now x.cycle.now in
-    let s = stopped_by x.p x.table.now l x.run.now c.refuse-in_default-first.result
+    let s = stopped-by x.p x.table.now l x.run.now c.refuse-in_default-first.result
     (start-stops x.p x.table.now l x.run.now c.if-run-lt-RUN_ROOM.false (passing b) (tested b) (sym (first-is b) ∙ c.in_default-first.is)
     ∙ ap refused (sym c.refuse-in_default-first.ensures)) in
     record { answer = s.0; buffer = s.1 }
 
 -- nothing is refused
 pub write_run-requires : goal.write_run-requires
-unfolding state_of
+unfolding stateOf
 write_run-requires c =
     let b : After-best_partner-first = (goal.at.write_run-requires c).After-best_partner-first in
     let x = c.args in
@@ -120,7 +120,7 @@ write_run-requires c =
       playable =
           playable x.p x.table.now (given x.stem.now x.cycle.now)
           (play-valid x.p x.table.now (given x.stem.now x.cycle.now) h.pair h.lines (tested b) c.in-State.a named);
-      first_value = sym (ap state_of named);
+      first_value = sym (ap stateOf named);
       run_room_in_bounds = c.if-run-lt-RUN_ROOM.false;
     }
 

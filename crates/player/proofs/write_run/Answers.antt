@@ -36,8 +36,8 @@ step-next-requires c = record {
 }
 
 -- ---- a loop start: the number of its a and j, and the mark there
-number_small : (c : After-number_of-number) → c.number_of-number.result < 448
-number_small c = let at = c.loop-place.place in omega (arith, c.number_of-number.ensures, number-low at.a at.j)
+number-small : (c : After-number_of-number) → c.number_of-number.result < 448
+number-small c = let at = c.loop-place.place in omega (arith, c.number_of-number.ensures, number-low at.a at.j)
 
 -- a mark that is met: the rule's end
 pub returns-then-seen-ne0 : goal.returns-then-seen-ne0
@@ -74,13 +74,13 @@ pub overflow_add-after : goal.overflow_add-after
 overflow_add-after c = omega (arith, now-low c.requires.playable c.loop-place.invariant)
 
 pub offset_bounds-marks-number : goal.offset_bounds-marks-number
-offset_bounds-marks-number c = omega (arith, number_small (goal.at.offset_bounds-marks-number c).After-number_of-number)
+offset_bounds-marks-number c = omega (arith, number-small (goal.at.offset_bounds-marks-number c).After-number_of-number)
 
 pub bounds-marks-number : goal.bounds-marks-number
-bounds-marks-number c = number_small (goal.at.bounds-marks-number c).After-number_of-number
+bounds-marks-number c = number-small (goal.at.bounds-marks-number c).After-number_of-number
 
 pub overflow_cast-seen : goal.overflow_cast-seen
-overflow_cast-seen c = omega (arith, marks-low c.requires.playable c.loop-place.invariant c.number_of-number.result (number_small (goal.at.overflow_cast-seen c).After-number_of-number))
+overflow_cast-seen c = omega (arith, marks-low c.requires.playable c.loop-place.invariant c.number_of-number.result (number-small (goal.at.overflow_cast-seen c).After-number_of-number))
 
 -- the earlier round is before this one, and rounds are few
 abbrev earlier : Then-seen-ne0 → ℕ
@@ -120,19 +120,19 @@ pub overflow_cast-marks : goal.overflow_cast-marks
 overflow_cast-marks c = omega (arith, round-small (goal.at.overflow_cast-marks c).At-loop-place)
 
 pub offset_bounds-marks-number-then-place-start : goal.offset_bounds-marks-number-then-place-start
-offset_bounds-marks-number-then-place-start c = omega (arith, number_small (goal.at.offset_bounds-marks-number-then-place-start c).After-number_of-number)
+offset_bounds-marks-number-then-place-start c = omega (arith, number-small (goal.at.offset_bounds-marks-number-then-place-start c).After-number_of-number)
 
 pub bounds-marks-number-then-place-start : goal.bounds-marks-number-then-place-start
-bounds-marks-number-then-place-start c = number_small (goal.at.bounds-marks-number-then-place-start c).After-number_of-number
+bounds-marks-number-then-place-start c = number-small (goal.at.bounds-marks-number-then-place-start c).After-number_of-number
 
-has_room : (c : Joined) → c.loop-place.t < runRoom
-has_room c = room c.requires.playable c.loop-place.invariant (not-ended c)
+has-room : (c : Joined) → c.loop-place.t < runRoom
+has-room c = room c.requires.playable c.loop-place.invariant (not-ended c)
 
 pub overflow_cast-run : goal.overflow_cast-run
 overflow_cast-run c = omega (arith, state-lt c.requires.playable c.loop-place.invariant.on, c.requires.tabled.well.abstraction.states-high)
 
 pub bounds-run-t : goal.bounds-run-t
-bounds-run-t c = omega (arith, has_room c, c.loop-place.invariant.long, c.requires.run_room_in_bounds)
+bounds-run-t c = omega (arith, has-room c, c.loop-place.invariant.long, c.requires.run_room_in_bounds)
 
 pub loop-place-smaller : goal.loop-place-smaller
-loop-place-smaller c = omega (arith, has_room c)
+loop-place-smaller c = omega (arith, has-room c)

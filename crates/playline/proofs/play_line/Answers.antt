@@ -10,7 +10,7 @@ use Rattle.machine.specs.Player.{runRoom}
 use Rattle.playback.specs.PlayingLaws.{told-small}
 use Rattle.playline.specs.Lasso.{readable}
 use Rattle.playline.specs.LassoLaws.{readable-stroke}
-use Rattle.playline.specs.LineLaws.{same_line, play-usage, play-said}
+use Rattle.playline.specs.LineLaws.{same-line, play-usage, play-said}
 use Rattle.playline.proofs.play_line.Goals as goal
 use Rattle.playline.proofs.play_line.Goals.{Else-not-is_readable}
 
@@ -18,7 +18,7 @@ pub returns-then-not-is_readable : goal.returns-then-not-is_readable
 returns-then-not-is_readable c =
     let no = sym c.is_readable.ensures ∙ c.if-not-is_readable.true in
     let put = c.put_line.ensures in
-    let line = same_line c.args.out.now (play-usage c.args.bytes.now _ no) put.length (omega (arith, put.length)) put.bytes in
+    let line = same-line c.args.out.now (play-usage c.args.bytes.now _ no) put.length (omega (arith, put.length)) put.bytes in
     record { length = line.0; room = line.1.0; bytes = line.1.1 }
 
 ready : (c : Else-not-is_readable) → readable c.args.text.now ≡ true
@@ -50,15 +50,15 @@ pub put_outcome-requires : goal.put_outcome-requires
 put_outcome-requires c =
     let play = c.play_bytes-said in
     let long : length play.new.run ≡ runRoom = play.auto.run ∙ length-replicate {A = ℕ} runRoom 0 in
-    (omega arith, (search rules, λ s q e. omega (arith, told-small _ _ _ play.ensures.result_value e)))
+    (omega arith, (search rules, λ s q e. omega (arith, told-small _ _ _ play.ensures.answer e)))
 
 pub returns : goal.returns
 returns c =
     let play = c.play_bytes-said.ensures in
     let put = c.put_outcome.ensures in
     let line =
-    same_line c.args.out.now
+    same-line c.args.out.now
     (play-said c.args.bytes.now c.args.text.now _ _ _ _ _ (ready (goal.at.returns c).Else-not-is_readable) c.stroke_at-stroke.ensures
-    c.numbers_in-stem.ensures.1 c.numbers_in-cycle.ensures.1 play.result_value play.run_after)
+    c.numbers_in-stem.ensures.1 c.numbers_in-cycle.ensures.1 play.answer play.content)
     put.length put.room put.bytes in
     record { length = line.0; room = line.1.0; bytes = line.1.1 }

@@ -5,7 +5,7 @@ use lib.ListN.{take, length-take}
 use lib.Seq.{length-take-le}
 use Rattle.report.specs.declared.Line.{Line}
 use Rattle.report.specs.LineLaws.{line-within, line-text}
-use Rattle.playline.specs.LineLaws.{same_line}
+use Rattle.playline.specs.LineLaws.{same-line}
 use Rattle.playline.proofs.put_refused.Goals as goal
 
 pub slice_bounds-text-end : goal.slice_bounds-text-end
@@ -19,6 +19,6 @@ returns c =
     let line = c.refusal_line-line in
     let put = c.put_line in
     let same = ap (λ (l : Line). take l.length l.text) line.ensures.value ∙ line-text _ in
-    let whole = same_line c.args.out.now same put.ensures.length
-    (omega (arith, put.ensures.length, line.ensures.length_bound, length-take line.result.length line.result.text)) put.ensures.bytes in
+    let whole = same-line c.args.out.now same put.ensures.length
+    (omega (arith, put.ensures.length, line.ensures.room, length-take line.result.length line.result.text)) put.ensures.bytes in
     record { length = whole.0; room = whole.1.0; bytes = whole.1.1 }

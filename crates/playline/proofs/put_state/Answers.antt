@@ -3,7 +3,7 @@ use native.Mathlib.Omega.{arith}
 use lib.ListN.{length-set}
 use Rattle.text.specs.Decimal.{decimal}
 use Rattle.text.specs.DecimalLaws.{decimal-most, decimal-short}
-use Rattle.text.specs.PutLaws.{byte_word}
+use Rattle.text.specs.PutLaws.{byte-word}
 use Rattle.playline.proofs.put_state.Goals as goal
 
 pub overflow_add-result : goal.overflow_add-result
@@ -20,5 +20,5 @@ returns c =
     record {
       place = omega (arith, put.count);
       room = omega (arith, put.count);
-      bytes = byte_word x.out.now _ (decimal x.s) x.at 32 put.bytes;
+      bytes = byte-word x.out.now _ (decimal x.s) x.at 32 put.bytes;
     }

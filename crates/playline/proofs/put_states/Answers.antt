@@ -1,11 +1,11 @@
 -- The invariant: the states left, written at the place, give the answer.
 use native.Mathlib.Omega.{arith}
 use borrow.Author.Rules.{rules}
-use Rattle.playline.specs.LineLaws.{written_none, written-more, written_all, written-end}
+use Rattle.playline.specs.LineLaws.{written-none, written-more, written-all, written-end}
 use Rattle.playline.proofs.put_states.Goals as goal
 
 pub loop-i-init : goal.loop-i-init
-loop-i-init c = (search rules, written_none _ _ _)
+loop-i-init c = (search rules, written-none _ _ _)
 
 pub loop-i-preserved : goal.loop-i-preserved
 loop-i-preserved c =
@@ -22,5 +22,5 @@ returns c =
     record {
       place = written-end l.invariant.1 (omega arith);
       room = omega (arith, l.invariant.1.room);
-      bytes = written_all l.invariant.1 (omega arith);
+      bytes = written-all l.invariant.1 (omega arith);
     }

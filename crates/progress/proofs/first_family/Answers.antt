@@ -1,6 +1,6 @@
 -- Zeros beside a refusal, and else the matched pairs.
 use mathlib.Core.Path.{sym, ◌∙◌}
-use Rattle.machine.specs.Refusals.{tested_of}
+use Rattle.machine.specs.Refusals.{testedOf}
 use Rattle.machine.specs.RefusalsLaws.{tested-valid, tested-refused}
 use Rattle.machine.specs.WellFormedLaws.{valid-is-well}
 use Rattle.machine.specs.EmptySetsLaws.{nonempty-at}
@@ -13,13 +13,13 @@ first_rows-requires c =
     valid-is-well p (nonempty-at p (tested-valid c.pair_validity-valid.ensures c.in-Valid.is)).0
 
 pub returns-in-Refused : goal.returns-in-Refused
-unfolding tested_of
+unfolding testedOf
 returns-in-Refused c =
     let e = tested-refused c.pair_validity-valid.ensures c.in-Refused.is in
-    record { validity_value = sym e; family_value = first-refused c.args.p e }
+    record { validity = sym e; family = first-refused c.args.p e }
 
 pub returns-in-Valid : goal.returns-in-Valid
-unfolding tested_of
+unfolding testedOf
 returns-in-Valid c =
     let e = tested-valid c.pair_validity-valid.ensures c.in-Valid.is in
-    record { validity_value = sym e; family_value = c.first_rows.ensures ∙ first-given c.args.p e }
+    record { validity = sym e; family = c.first_rows.ensures ∙ first-given c.args.p e }

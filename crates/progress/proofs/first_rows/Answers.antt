@@ -3,7 +3,7 @@ use mathlib.Core.Path.{refl}
 use native.Mathlib.Omega.{arith}
 use Rattle.mask.specs.FrontLaws.{front-none, front-turn}
 use Rattle.machine.specs.WellFormedLaws.{well-pair}
-use Rattle.progress.specs.TurnsLaws.{first_made}
+use Rattle.progress.specs.TurnsLaws.{first-made}
 use Rattle.progress.proofs.first_rows.Goals as goal
 
 pub overflow_mul-e-end : goal.overflow_mul-e-end
@@ -18,4 +18,4 @@ loop-e-preserved c = let l = c.loop-e in ((omega arith, l.invariant.0.1), front-
 pub returns : goal.returns
 returns c =
     let l = c.loop-e in
-    first_made c.args.p (well-pair c.args.p c.requires) c.matched_masks-matched.ensures (omega (arith, l.invariant.0.0)) l.invariant.1
+    first-made c.args.p (well-pair c.args.p c.requires) c.matched_masks-matched.ensures (omega (arith, l.invariant.0.0)) l.invariant.1

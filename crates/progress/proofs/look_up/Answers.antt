@@ -4,31 +4,31 @@ use mathlib.Core.Path.{◌≡◌, sym, ap, ap₂, ◌∙◌}
 use Prim.Native.Nat.{◌-◌, ◌≤◌, ◌<◌}
 use native.Mathlib.Omega.{arith}
 use Rattle.machine.specs.Machines.{nC, nA, setsA}
-use Rattle.machine.specs.Refusals.{Tested, tested_of, and_then, answer}
+use Rattle.machine.specs.Refusals.{Tested, testedOf, andThen, answer}
 use Rattle.machine.specs.RefusalsLaws.{then-answer}
 use Rattle.machine.specs.WellFormed.{wellFormed}
 use Rattle.machine.specs.WellFormedLaws.{valid-is-well}
 use Rattle.machine.specs.EmptySetsLaws.{nonempty-at}
 use Rattle.progress.specs.Answers.{lookedUpOf}
 use Rattle.progress.specs.Turns.{stillIn, lookUpAnswer}
-use Rattle.progress.specs.TurnsLaws.{range_at, looked-refused, looked-up}
+use Rattle.progress.specs.TurnsLaws.{range-at, looked-refused, looked-up}
 use Rattle.progress.proofs.look_up.Goals as goal
 use Rattle.progress.proofs.look_up.Goals.{After-still_in, In_default}
 
-tests-told : {a b t x y : Tested} → a ≡ x → b ≡ y → t ≡ and_then a b → and_then x y ≡ t
-tests-told e f g = ap₂ and_then (sym e) (sym f) ∙ sym g
+tests-told : {a b t x y : Tested} → a ≡ x → b ≡ y → t ≡ andThen a b → andThen x y ≡ t
+tests-told e f g = ap₂ andThen (sym e) (sym f) ∙ sym g
 
 -- behind them the machines are well formed, and the section and the states are in range
 passed : (c : In_default) → let x = c.args in
     (wellFormed x.p ≡ true) × (((1 ≤ x.section) × (x.section ≤ setsA x.p)) × ((x.c < nC x.p) × (x.a < nA x.p)))
-unfolding tested_of
+unfolding testedOf
 passed c =
     let x = c.args in
     let t = then-answer _ _ (tests-told c.pair_validity-machines.ensures c.range_validity-range.ensures c.first_refusal-tests.ensures ∙ rw c.in_default.is) in
-    (valid-is-well x.p (nonempty-at x.p t.0).0, range_at x.p x.section x.c x.a t.1)
+    (valid-is-well x.p (nonempty-at x.p t.0).0, range-at x.p x.section x.c x.a t.1)
 
 pub returns-in-Refused : goal.returns-in-Refused
-unfolding lookedUpOf tested_of
+unfolding lookedUpOf testedOf
 returns-in-Refused c =
     let x = c.args in
     sym (looked-refused x.p x.section x.c x.a x.family (tests-told c.pair_validity-machines.ensures c.range_validity-range.ensures c.first_refusal-tests.ensures ∙ rw c.in-Refused.is))
@@ -44,7 +44,7 @@ found : (c : After-still_in) → let x = c.args in c.still_in.result ≡ stillIn
 found c = c.still_in.ensures
 
 told : (c : After-still_in) → let x = c.args in answer c.still_in.result ≡ lookUpAnswer x.p x.family x.section x.c x.a
-unfolding tested_of
+unfolding testedOf
 told c =
     let x = c.args in
     ap answer (found c) ∙ sym (looked-up x.p x.section x.c x.a x.family (tests-told c.pair_validity-machines.ensures c.range_validity-range.ensures c.first_refusal-tests.ensures ∙ rw c.in_default.is))

@@ -12,7 +12,7 @@ use Rattle.machine.specs.Table.{tableRoom, entries}
 use Rattle.solver.specs.SolverLaws.{solve-short}
 use Rattle.progress.specs.Answers.{turnedOf}
 use Rattle.progress.specs.Turns.{turnAnswer, turnFamily, turnTable}
-use Rattle.progress.specs.TurnsLaws.{turn-refused, turn_stopped, turn-well, turn-made, copied-small}
+use Rattle.progress.specs.TurnsLaws.{turn-refused, turn-stopped, turn-well, turn-made, copied-small}
 use Rattle.progress.proofs.turn.Goals as goal
 use Rattle.progress.proofs.turn.Goals.{After-copy_entries, else-finished, then-finished}
 
@@ -22,14 +22,14 @@ returns-then-table-lt-TABLE_ROOM c =
     let x = c.args in
     let short = buffer-short _ (length x.table.now) c.if-table-lt-TABLE_ROOM.true in
     let k = turn-refused x.p x.family x.table.now (solve-short x.p (length x.table.now) short) in
-    record { said_value = ap refused c.refuse.ensures ∙ sym k.0; family_value = sym k.1; table_after = sym k.2 }
+    record { answer = ap refused c.refuse.ensures ∙ sym k.0; family = sym k.1; content = sym k.2 }
 
 pub returns-in-Refused : goal.returns-in-Refused
 unfolding turnedOf
 returns-in-Refused c =
     let x = c.args in
-    let k = turn_stopped x.p x.family x.table.now c.if-table-lt-TABLE_ROOM.false c.turn_family-made.ensures.validity_value c.turn_family-made.ensures.family_value c.in-Refused.is in
-    record { said_value = k.0; family_value = k.1.0; table_after = k.1.1 }
+    let k = turn-stopped x.p x.family x.table.now c.if-table-lt-TABLE_ROOM.false c.turn_family-made.ensures.validity c.turn_family-made.ensures.family c.in-Refused.is in
+    record { answer = k.0; family = k.1.0; content = k.1.1 }
 
 -- all that a turn says and leaves; it copies all entries or none
 made : (c : After-copy_entries) →
@@ -42,19 +42,19 @@ made c =
       | then-finished w ↦ inl (w.if-finished.true, w.written-is ∙ w.entries_of-written.ensures)
       | else-finished w ↦ inr (w.if-finished.false, w.written-is)
     ] in
-    turn-made x.p x.family x.table.now c.if-table-lt-TABLE_ROOM.false c.turn_family-made.ensures.validity_value c.turn_family-made.ensures.family_value c.in_default.is c.turn_family-made.ensures.table_after
+    turn-made x.p x.family x.table.now c.if-table-lt-TABLE_ROOM.false c.turn_family-made.ensures.validity c.turn_family-made.ensures.family c.in_default.is c.turn_family-made.ensures.content
     c.same_family-finished.ensures due c.copy_entries.ensures
 
 pub entries_of-written-requires : goal.entries_of-written-requires
 entries_of-written-requires c =
     let x = c.args in
-    turn-well x.p x.family x.table.now c.if-table-lt-TABLE_ROOM.false c.turn_family-made.ensures.validity_value c.turn_family-made.ensures.family_value c.in_default.is
+    turn-well x.p x.family x.table.now c.if-table-lt-TABLE_ROOM.false c.turn_family-made.ensures.validity c.turn_family-made.ensures.family c.in_default.is
 
 pub copy_entries-requires : goal.copy_entries-requires
 copy_entries-requires c =
     let x = c.args in
     let small : c.if-finished.written ≤ tableRoom = elim c.if-finished.branch [
-      | then-finished w ↦ copied-small x.p x.family x.table.now c.if-table-lt-TABLE_ROOM.false c.turn_family-made.ensures.validity_value c.turn_family-made.ensures.family_value c.in_default.is (inl (w.if-finished.true, w.written-is ∙ w.entries_of-written.ensures))
+      | then-finished w ↦ copied-small x.p x.family x.table.now c.if-table-lt-TABLE_ROOM.false c.turn_family-made.ensures.validity c.turn_family-made.ensures.family c.in_default.is (inl (w.if-finished.true, w.written-is ∙ w.entries_of-written.ensures))
       | else-finished w ↦ omega (arith, w.written-is)
     ] in
     (omega (arith, small, c.turn_family-made.auto.table ∙ length-replicate {A = ℕ} tableRoom 0), omega (arith, small, c.if-table-lt-TABLE_ROOM.false))
@@ -63,10 +63,10 @@ pub returns-then-finished-2 : goal.returns-then-finished-2
 unfolding turnedOf
 returns-then-finished-2 c =
     let m = made (goal.at.returns-then-finished-2 c).After-copy_entries in
-    record { said_value = ap answer (sym c.if-finished-2.true) ∙ m.0; family_value = m.1.0; table_after = m.1.1 }
+    record { answer = ap answer (sym c.if-finished-2.true) ∙ m.0; family = m.1.0; content = m.1.1 }
 
 pub returns-else-finished-2 : goal.returns-else-finished-2
 unfolding turnedOf
 returns-else-finished-2 c =
     let m = made (goal.at.returns-else-finished-2 c).After-copy_entries in
-    record { said_value = ap answer (sym c.if-finished-2.false) ∙ m.0; family_value = m.1.0; table_after = m.1.1 }
+    record { answer = ap answer (sym c.if-finished-2.false) ∙ m.0; family = m.1.0; content = m.1.1 }

@@ -20,6 +20,6 @@ returns c =
     let put = c.put_number.ensures in
     let most = decimal-most x.n in
     record {
-      by_index = λ s e. more-line x.line s _ (decimal x.n) _ x.after (omega arith) put.count e put.bytes;
-      length_bound = omega arith;
+      appended = λ s e. more-line x.line s _ (decimal x.n) _ x.after (omega arith) put.count e put.bytes;
+      room = omega arith;
     }

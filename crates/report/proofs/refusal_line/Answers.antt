@@ -1,17 +1,17 @@
 -- The word and four numbers, each put behind the line so far, are the parts of the definition.
 use mathlib.Core.Path.{ap, ◌∙◌}
 use native.Mathlib.Omega.{arith}
-use Rattle.report.specs.Answers.{line_of}
+use Rattle.report.specs.Answers.{lineOf}
 use Rattle.report.specs.TextLaws.{refusal-text}
 use Rattle.report.proofs.refusal_line.Goals as goal
 
 pub returns : goal.returns
 returns c =
     let word = c.started-word.ensures.value in
-    let number = c.numbered-number.ensures.by_index _ word in
-    let first = c.numbered-first.ensures.by_index _ number in
-    let second = c.numbered-second.ensures.by_index _ first in
+    let number = c.numbered-number.ensures.appended _ word in
+    let first = c.numbered-first.ensures.appended _ number in
+    let second = c.numbered-second.ensures.appended _ first in
     record {
-      value = c.numbered.ensures.by_index _ second ∙ ap line_of (refusal-text c.args.r);
-      length_bound = omega arith;
+      value = c.numbered.ensures.appended _ second ∙ ap lineOf (refusal-text c.args.r);
+      room = omega arith;
     }

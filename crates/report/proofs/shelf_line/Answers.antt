@@ -2,7 +2,7 @@
 use mathlib.Core.Path.{ap, ◌∙◌}
 use native.Mathlib.Omega.{arith}
 use lib.ListN.{length-take}
-use Rattle.report.specs.Answers.{line_of}
+use Rattle.report.specs.Answers.{lineOf}
 use Rattle.report.specs.TextLaws.{shelf-cut, shelf-whole}
 use Rattle.report.proofs.shelf_line.Goals as goal
 
@@ -11,12 +11,12 @@ slice_bounds-file_verdict-end c = simp length-take (omega arith)
 
 pub returns-then-bytes-gt-INPUT_ROOM : goal.returns-then-bytes-gt-INPUT_ROOM
 returns-then-bytes-gt-INPUT_ROOM c = record {
-  value = c.verdict_line.ensures.value ∙ ap line_of (shelf-cut _ _ c.file_verdict.ensures);
-  length_bound = c.verdict_line.ensures.length_bound;
+  value = c.verdict_line.ensures.value ∙ ap lineOf (shelf-cut _ _ c.file_verdict.ensures);
+  room = c.verdict_line.ensures.room;
 }
 
 pub returns-else-bytes-gt-INPUT_ROOM : goal.returns-else-bytes-gt-INPUT_ROOM
 returns-else-bytes-gt-INPUT_ROOM c = record {
-  value = c.verdict_line-else-bytes-gt-INPUT_ROOM.ensures.value ∙ ap line_of (shelf-whole _ _ (omega arith) c.file_verdict-else-bytes-gt-INPUT_ROOM.ensures);
-  length_bound = c.verdict_line-else-bytes-gt-INPUT_ROOM.ensures.length_bound;
+  value = c.verdict_line-else-bytes-gt-INPUT_ROOM.ensures.value ∙ ap lineOf (shelf-whole _ _ (omega arith) c.file_verdict-else-bytes-gt-INPUT_ROOM.ensures);
+  room = c.verdict_line-else-bytes-gt-INPUT_ROOM.ensures.room;
 }

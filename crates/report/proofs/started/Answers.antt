@@ -6,5 +6,5 @@ use Rattle.report.proofs.started.Goals as goal
 pub returns : goal.returns
 returns c = record {
   value = started-line c.args.word.now c.put.new.out c.requires c.put.ensures;
-  length_value = refl;
+  length = refl;
 }

@@ -12,7 +12,7 @@ unfolding sizedOf
 returns-then-out-lt-FILE_ROOM c =
     let x = c.args in
     let both = restore-short x.bytes.now x.out.now c.if-out-lt-FILE_ROOM.true in
-    record { result_value = ap refused c.refuse.ensures ∙ sym both.0; out_after = sym both.1 }
+    record { answer = ap refused c.refuse.ensures ∙ sym both.0; content = sym both.1 }
 
 pub returns-in_default : goal.returns-in_default
 unfolding sizedOf
@@ -21,7 +21,7 @@ returns-in_default c =
     let told = c.in_default.is in
     let x = c.args in
     let both = restore-refused x.bytes.now x.out.now c.if-out-lt-FILE_ROOM.false _ _ read.answer read.content _ told in
-    record { result_value = ap refused (c.refusal_of.ensures ∙ refusal-of told) ∙ sym both.0; out_after = sym both.1 }
+    record { answer = ap refused (c.refusal_of.ensures ∙ refusal-of told) ∙ sym both.0; content = sym both.1 }
 
 pub returns-in-Refused : goal.returns-in-Refused
 unfolding sizedOf
@@ -29,13 +29,13 @@ returns-in-Refused c =
     let read = c.read_file-show.ensures in
     let x = c.args in
     let both = restore-unsolved x.bytes.now x.out.now c.if-out-lt-FILE_ROOM.false _ _ read.answer read.content _ c.in-Taken.is _
-    (tested-refused c.solve-solved.ensures.result_value c.in-Refused.is) in
-    record { result_value = sym both.0; out_after = sym both.1 }
+    (tested-refused c.solve-solved.ensures.answer c.in-Refused.is) in
+    record { answer = sym both.0; content = sym both.1 }
 
 pub returns : goal.returns
 returns c =
     let read = c.read_file-show.ensures in
     let x = c.args in
     let both = restore-taken x.bytes.now x.out.now c.if-out-lt-FILE_ROOM.false _ _ read.answer read.content _ c.in-Taken.is _
-    (tested-valid c.solve-solved.ensures.result_value c.in_default-solved.is) c.solve-solved.ensures.table_after in
-    record { result_value = c.write_file.ensures.answer ∙ sym both.0; out_after = c.write_file.ensures.bytes ∙ sym both.1 }
+    (tested-valid c.solve-solved.ensures.answer c.in_default-solved.is) c.solve-solved.ensures.content in
+    record { answer = c.write_file.ensures.answer ∙ sym both.0; content = c.write_file.ensures.bytes ∙ sym both.1 }

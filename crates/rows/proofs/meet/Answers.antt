@@ -1,7 +1,7 @@
 -- The states met are those of the moves passed; each turn takes the lowest move that is left.
 use Prim.Native.Nat.{◌<◌}
 use native.Mathlib.Omega.{arith}
-use Rattle.mask.specs.BitsLaws.{rest_lt}
+use Rattle.mask.specs.BitsLaws.{rest-lt}
 use Rattle.rows.specs.RowsLaws.{meeting-start, meeting-turn, meeting-done, walk-index}
 use Rattle.rows.proofs.meet.Goals as goal
 use Rattle.rows.proofs.meet.Goals.{After-lowest-d}
@@ -19,7 +19,7 @@ pub bounds-rows-d : goal.bounds-rows-d
 bounds-rows-d c = omega (arith, index (goal.at.bounds-rows-d c).After-lowest-d)
 
 pub loop-left-smaller : goal.loop-left-smaller
-loop-left-smaller c = omega (arith, c.rest-left.ensures, rest_lt c.loop-left.left (omega arith))
+loop-left-smaller c = omega (arith, c.rest-left.ensures, rest-lt c.loop-left.left (omega arith))
 
 pub loop-left-preserved : goal.loop-left-preserved
 loop-left-preserved c =

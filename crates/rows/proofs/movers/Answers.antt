@@ -6,14 +6,14 @@ use native.Mathlib.Omega.{arith}
 use lib.ListN.{get_or}
 use borrow.Author.Rules.{rules}
 use Rattle.mask.specs.Bits.{hasBit, withBit}
-use Rattle.mask.specs.Tables.{mask_of}
+use Rattle.mask.specs.Tables.{maskOf}
 use Rattle.mask.specs.TablesLaws.{maskOf-hit, maskOf-miss}
 use Rattle.rows.specs.Rows.{moversOf}
 use Rattle.rows.proofs.movers.Goals as goal
 use Rattle.rows.proofs.movers.Goals.{else-has, then-has}
 
 pub loop-a-init : goal.loop-a-init
-unfolding mask_of
+unfolding maskOf
 loop-a-init c = (omega arith, c.width-end.ensures, refl)
 
 pub bounds-moves-a : goal.bounds-moves-a
@@ -38,4 +38,4 @@ unfolding moversOf
 returns c =
     let l = c.loop-a in
     let x = c.args in
-    l.invariant.2 ∙ ap (λ (a : ℕ). mask_of a (λ i. hasBit (get_or x.moves.now i 0) x.b)) (omega (arith, l.invariant.1))
+    l.invariant.2 ∙ ap (λ (a : ℕ). maskOf a (λ i. hasBit (get_or x.moves.now i 0) x.b)) (omega (arith, l.invariant.1))

@@ -1,7 +1,7 @@
 -- The states joined are those of the row's states passed; each turn takes the lowest state that is left.
 use Prim.Native.Nat.{◌<◌}
 use native.Mathlib.Omega.{arith}
-use Rattle.mask.specs.BitsLaws.{rest_lt}
+use Rattle.mask.specs.BitsLaws.{rest-lt}
 use Rattle.rows.specs.RowsLaws.{joining-start, joining-turn, joining-done, walk-index}
 use Rattle.rows.proofs.partners.Goals as goal
 use Rattle.rows.proofs.partners.Goals.{After-lowest-b}
@@ -19,7 +19,7 @@ pub bounds-predecessors-b : goal.bounds-predecessors-b
 bounds-predecessors-b c = omega (arith, index (goal.at.bounds-predecessors-b c).After-lowest-b)
 
 pub loop-left-smaller : goal.loop-left-smaller
-loop-left-smaller c = omega (arith, c.rest-left.ensures, rest_lt c.loop-left.left (omega arith))
+loop-left-smaller c = omega (arith, c.rest-left.ensures, rest-lt c.loop-left.left (omega arith))
 
 pub loop-left-preserved : goal.loop-left-preserved
 loop-left-preserved c =

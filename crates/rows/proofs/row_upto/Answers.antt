@@ -8,14 +8,14 @@ use lib.ListN.{get_or}
 use borrow.Author.Rules.{rules}
 use borrow.Author.Tests.{le-leb, lt-leb}
 use Rattle.mask.specs.Bits.{withBit}
-use Rattle.mask.specs.Tables.{mask_of}
+use Rattle.mask.specs.Tables.{maskOf}
 use Rattle.mask.specs.TablesLaws.{maskOf-hit, maskOf-miss}
 use Rattle.rows.specs.Entries.{rowUpto}
 use Rattle.rows.proofs.row_upto.Goals as goal
 use Rattle.rows.proofs.row_upto.Goals.{else-row-a, then-row-a}
 
 pub loop-a-init : goal.loop-a-init
-unfolding mask_of
+unfolding maskOf
 loop-a-init c = (omega arith, refl, refl)
 
 pub bounds-row-a : goal.bounds-row-a
@@ -39,4 +39,4 @@ unfolding rowUpto
 returns c =
     let l = c.loop-a in
     let x = c.args in
-    l.invariant.2 ∙ ap (λ (a : ℕ). mask_of a (λ i. leb (get_or x.row.now i 0) x.bound)) (omega (arith, l.invariant.1))
+    l.invariant.2 ∙ ap (λ (a : ℕ). maskOf a (λ i. leb (get_or x.row.now i 0) x.bound)) (omega (arith, l.invariant.1))

@@ -6,7 +6,7 @@ use lib.ListN.{length}
 use Rattle.mask.specs.FrontLaws.{front-none, front-turn}
 use Rattle.rows.specs.RowsLaws.{front-rows}
 use Rattle.rows.specs.Entries.{uptoRows, uptoOf}
-use Rattle.rows.specs.WriteLaws.{row_fits, row-part, cut-long, section-some, section-few}
+use Rattle.rows.specs.WriteLaws.{row-fits, row-part, cut-long, section-some, section-few}
 use Rattle.rows.proofs.upto.Goals as goal
 use Rattle.rows.proofs.upto.Goals.{In-loop-c}
 
@@ -20,7 +20,7 @@ known : (c : In-loop-c) →
 known c =
     let s = c.args in
     let q = section-some s.nc s.na (length s.part.now) c.loop-c.invariant.1 c.loop-c-test.true in
-    let f = row_fits {c = c.loop-c.c} q.1 q.2 (omega (arith, q.0, c.loop-c-test.true)) in
+    let f = row-fits {c = c.loop-c.c} q.1 q.2 (omega (arith, q.0, c.loop-c-test.true)) in
     (omega (arith, f.0, q.3), (omega (arith, f.1, q.3), (q.2, omega (arith, q.0, q.1, c.loop-c-test.true))))
 
 pub overflow_mul-from : goal.overflow_mul-from

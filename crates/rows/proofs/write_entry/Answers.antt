@@ -4,12 +4,12 @@ use Prim.Native.Nat.{ℕ, ◌+◌, ◌*◌, ◌-◌, ◌≤◌, ◌<◌}
 use native.Mathlib.Omega.{arith}
 use lib.ListN.{length, take, drop}
 use Rattle.rows.specs.Entries.{writeRow}
-use Rattle.rows.specs.WriteLaws.{written_start, written-turn, written-whole, row_fits, section-some}
+use Rattle.rows.specs.WriteLaws.{written-start, written-turn, written-whole, row-fits, section-some}
 use Rattle.rows.proofs.write_entry.Goals as goal
 use Rattle.rows.proofs.write_entry.Goals.{In-loop-c}
 
 pub loop-c-init : goal.loop-c-init
-loop-c-init c = (omega arith, c.row_count-end.ensures, written_start _ _ _ _ _)
+loop-c-init c = (omega arith, c.row_count-end.ensures, written-start _ _ _ _ _)
 
 -- there is a row, so that the entries are a section, and the row lies within it
 known : (c : In-loop-c) →
@@ -18,7 +18,7 @@ known : (c : In-loop-c) →
 known c =
     let s = c.args in
     let q = section-some s.nc s.na (length s.part.now) c.loop-c.invariant.1 c.loop-c-test.true in
-    let f = row_fits {c = c.loop-c.c} q.1 q.2 (omega (arith, q.0, c.loop-c-test.true)) in
+    let f = row-fits {c = c.loop-c.c} q.1 q.2 (omega (arith, q.0, c.loop-c-test.true)) in
     (omega (arith, f.0, q.3), (omega (arith, f.1, q.3), omega (arith, q.0, q.1, c.loop-c-test.true)))
 
 pub overflow_mul-from : goal.overflow_mul-from

@@ -1,12 +1,12 @@
 -- At the loop's head all states of the row but those left have the entry, where there is one; each turn takes the lowest.
 use native.Mathlib.Omega.{arith}
-use Rattle.mask.specs.BitsLaws.{lowest-le, rest_lt}
-use Rattle.rows.specs.WriteLaws.{writing_start, writing-skip, writing-turn, writing-done}
+use Rattle.mask.specs.BitsLaws.{lowest-le, rest-lt}
+use Rattle.rows.specs.WriteLaws.{writing-start, writing-skip, writing-turn, writing-done}
 use Rattle.rows.proofs.write_row.Goals as goal
 use Rattle.rows.proofs.write_row.Goals.{else-a-part, then-a-part}
 
 pub loop-left-init : goal.loop-left-init
-loop-left-init c = writing_start (omega arith)
+loop-left-init c = writing-start (omega arith)
 
 pub offset_bounds-part-a : goal.offset_bounds-part-a
 offset_bounds-part-a c = omega (arith, c.lowest-a.ensures, lowest-le 64 c.loop-left.left)
@@ -15,7 +15,7 @@ pub bounds-part-a : goal.bounds-part-a
 bounds-part-a c = omega (arith, c.if-a-part.true)
 
 pub loop-left-smaller : goal.loop-left-smaller
-loop-left-smaller c = omega (arith, c.rest-left.ensures, rest_lt c.loop-left.left (omega (arith, c.loop-left-test.true)))
+loop-left-smaller c = omega (arith, c.rest-left.ensures, rest-lt c.loop-left.left (omega (arith, c.loop-left-test.true)))
 
 pub loop-left-preserved : goal.loop-left-preserved
 loop-left-preserved c =

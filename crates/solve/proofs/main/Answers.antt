@@ -9,11 +9,11 @@ use Rattle.solve.proofs.main.Goals as goal
 
 pub slice_bounds-out-end : goal.slice_bounds-out-end
 slice_bounds-out-end c =
-    let small = restore-small _ _ (sized-bytes c.solve_bytes.ensures.result_value c.in-Bytes.is) in
+    let small = restore-small _ _ (sized-bytes c.solve_bytes.ensures.answer c.in-Bytes.is) in
     omega (arith, small, c.solve_bytes.auto.out ∙ length-replicate {A = ℕ} fileRoom 0)
 
 pub slice_bounds-write_all-end : goal.slice_bounds-write_all-end
 slice_bounds-write_all-end c =
-    let small = restore-small _ _ (sized-bytes c.solve_bytes.ensures.result_value c.in-Bytes.is) in
+    let small = restore-small _ _ (sized-bytes c.solve_bytes.ensures.answer c.in-Bytes.is) in
     let fits : c.in-Bytes.n ≤ length c.solve_bytes.new.out = omega (arith, small, c.solve_bytes.auto.out ∙ length-replicate {A = ℕ} fileRoom 0) in
     sym (length-take-le _ _ fits)

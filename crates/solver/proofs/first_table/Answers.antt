@@ -5,7 +5,7 @@ use native.Mathlib.Omega.{arith}
 use lib.ListN.{length}
 use Rattle.machine.specs.Machines.{pairs}
 use Rattle.machine.specs.Table.{tableRoom}
-use Rattle.machine.specs.WellFormedLaws.{well-pair, pairs_small, section-fits}
+use Rattle.machine.specs.WellFormedLaws.{well-pair, pairs-small, section-fits}
 use Rattle.rows.specs.WriteLaws.{cut-long}
 use Rattle.solver.specs.SweepLaws.{begun-start, begun-turn}
 use Rattle.solver.proofs.first_table.Goals as goal
@@ -18,7 +18,7 @@ fits : (c : In-loop-j) →
 fits c = section-fits c.args.p (well-pair c.args.p c.requires.0.0) c.loop-j.j c.loop-j-test.true
 
 pub overflow_mul-pairs : goal.overflow_mul-pairs
-overflow_mul-pairs c = omega (arith, pairs_small c.args.p (well-pair c.args.p c.requires.0.0))
+overflow_mul-pairs c = omega (arith, pairs-small c.args.p (well-pair c.args.p c.requires.0.0))
 
 pub loop-j-init : goal.loop-j-init
 loop-j-init c = (omega arith, begun-start)

@@ -5,17 +5,17 @@ use native.Mathlib.Omega.{arith}
 use lib.ListN.{length}
 use Rattle.machine.specs.Machines.{nC, nA}
 use Rattle.machine.specs.Game.{level, xOver}
-use Rattle.machine.specs.WellFormedLaws.{well-pair, pairs_small}
-use Rattle.rows.specs.Rows.{rows_of, pairsIn}
+use Rattle.machine.specs.WellFormedLaws.{well-pair, pairs-small}
+use Rattle.rows.specs.Rows.{rowsOf, pairsIn}
 use Rattle.rows.specs.Entries.{uptoRows}
-use Rattle.rows.specs.WriteLaws.{upto_is, upto-long, write-entry-is}
+use Rattle.rows.specs.WriteLaws.{upto-is, upto-long, write-entry-is}
 use Rattle.solver.specs.LevelLaws.{made-start, made-turn, made-done, x-is}
 use Rattle.solver.proofs.level.Goals as goal
 use Rattle.solver.proofs.level.Goals.{After-largest-x, Start}
 
 -- the level's number is small
 few : (c : Start) → c.args.l < 4096
-few c = omega (arith, c.requires.1.0, pairs_small c.args.p (well-pair c.args.p c.requires.0.0.well))
+few c = omega (arith, c.requires.1.0, pairs-small c.args.p (well-pair c.args.p c.requires.0.0.well))
 
 pub overflow_add-l : goal.overflow_add-l
 overflow_add-l c = omega (arith, few (goal.at.overflow_add-l c).Start)
@@ -34,22 +34,22 @@ pub bounds-sets-k : goal.bounds-sets-k
 bounds-sets-k c = omega (arith, c.loop-k-test.true, (well-pair c.args.p c.requires.0.0.well).concrete.sets-high)
 
 -- the pairs that the sets start from
-start_is : (c : After-largest-x) →
+start-is : (c : After-largest-x) →
     let x = c.args in
     c.upto-start.result ≡ uptoRows (nC x.p) (nA x.p) x.part.now c.level_bound-bound.result
-start_is c =
+start-is c =
     let w = well-pair c.args.p c.requires.0.0.well in
-    c.upto-start.ensures ∙ upto_is _ _ _ _ w.concrete.states-high w.abstraction.states-high c.requires.1.1.1.bounded.long
+    c.upto-start.ensures ∙ upto-is _ _ _ _ w.concrete.states-high w.abstraction.states-high c.requires.1.1.1.bounded.long
 
 -- what is made is X(l + 1, k + 1)
 made : (c : After-largest-x) →
     let p = c.args.p in
     let G = pairsIn p c.args.goals.now in
-    c.largest-x.result ≡ rows_of (xOver p G (level p G c.args.l) c.loop-k.k)
+    c.largest-x.result ≡ rowsOf (xOver p G (level p G c.args.l) c.loop-k.k)
 made c =
     x-is c.requires.0.0 c.requires.0.1 c.requires.1.0 c.requires.1.1.0 c.requires.1.1.1 c.loop-k.k c.loop-k-test.true
-    c.step_rows-steps.ensures c.join_rows-base.ensures c.level_bound-bound.ensures (start_is c)
-    (c.largest-x.ensures (record { few = (well-pair c.args.p c.requires.0.0.well).concrete.states-high; long = ap length (start_is c) ∙ upto-long _ _ _ _; dependents-are = c.requires.0.0.dependents-are; first-are = c.partner_rows-reached.ensures }))
+    c.step_rows-steps.ensures c.join_rows-base.ensures c.level_bound-bound.ensures (start-is c)
+    (c.largest-x.ensures (record { few = (well-pair c.args.p c.requires.0.0.well).concrete.states-high; long = ap length (start-is c) ∙ upto-long _ _ _ _; dependents-are = c.requires.0.0.dependents-are; first-are = c.partner_rows-reached.ensures }))
 
 pub rank_of-v-requires : goal.rank_of-v-requires
 rank_of-v-requires c =

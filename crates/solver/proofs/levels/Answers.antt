@@ -3,14 +3,14 @@ use mathlib.Core.Path.{◌≡◌, refl, sym, ap, ◌∙◌}
 use Prim.Native.Nat.{ℕ, ◌*◌}
 use native.Mathlib.Omega.{arith}
 use Rattle.machine.specs.Machines.{setsC, pairs}
-use Rattle.machine.specs.WellFormedLaws.{well-pair, pairs_small}
+use Rattle.machine.specs.WellFormedLaws.{well-pair, pairs-small}
 use Rattle.solver.specs.RankRowsLaws.{ranked-none}
 use Rattle.solver.specs.LevelLaws.{ranked-trans, ranked-self, ranked-at, levels-start, levels-stop, levels-out}
 use Rattle.solver.proofs.levels.Goals as goal
 use Rattle.solver.proofs.levels.Goals.{Start}
 
 pub overflow_mul-l-end : goal.overflow_mul-l-end
-overflow_mul-l-end c = omega (arith, pairs_small c.args.p (well-pair c.args.p c.requires.0.0.well))
+overflow_mul-l-end c = omega (arith, pairs-small c.args.p (well-pair c.args.p c.requires.0.0.well))
 
 pub loop-l-init : goal.loop-l-init
 loop-l-init c =
@@ -32,7 +32,7 @@ returns-then-same_rows c =
 
 pub overflow_step-l : goal.overflow_step-l
 overflow_step-l c =
-    omega (arith, c.loop-l.invariant.0.0, c.loop-l-test.true, pairs_small c.args.p (well-pair c.args.p c.requires.0.0.well))
+    omega (arith, c.loop-l.invariant.0.0, c.loop-l-test.true, pairs-small c.args.p (well-pair c.args.p c.requires.0.0.well))
 
 pub loop-l-smaller : goal.loop-l-smaller
 loop-l-smaller c = omega (arith, c.loop-l-test.true)

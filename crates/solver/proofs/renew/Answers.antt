@@ -5,16 +5,16 @@ use Prim.Native.Nat.{ℕ, ◌+◌, ◌*◌, ◌-◌, ◌≤◌, ◌<◌}
 use native.Mathlib.Omega.{arith}
 use lib.ListN.{take, drop}
 use Rattle.mask.specs.Logic.{not}
-use Rattle.mask.specs.LogicLaws.{not_is}
+use Rattle.mask.specs.LogicLaws.{not-is}
 use Rattle.machine.specs.declared.Pair.{Pair}
 use Rattle.machine.specs.Machines.{nC, nA, setsA, pairs}
 use Rattle.machine.specs.StepLaws.{next-lt}
 use Rattle.machine.specs.Table.{blank, tableRoom}
-use Rattle.machine.specs.WellFormedLaws.{WellPair, well-pair, pairs_small, section-fits}
-use Rattle.rows.specs.Rows.{rows_of, pairsIn}
+use Rattle.machine.specs.WellFormedLaws.{WellPair, well-pair, pairs-small, section-fits}
+use Rattle.rows.specs.Rows.{rowsOf, pairsIn}
 use Rattle.rows.specs.Entries.{uptoRows}
 use Rattle.solver.specs.Ranking.{Holds}
-use Rattle.solver.specs.Sweeps.{part_of, goalsIn}
+use Rattle.solver.specs.Sweeps.{partOf, goalsIn}
 use Rattle.solver.specs.SweepLaws.{cut-is, goals-rows, goals-held, renewed}
 use Rattle.solver.proofs.renew.Goals as goal
 use Rattle.solver.proofs.renew.Goals.{After-goals-g, Start}
@@ -24,7 +24,7 @@ fits : (p : Pair) → WellPair p → (j : ℕ) → j < setsA p → (j < 7) × (j
 fits p w j h = (omega (arith, h, w.abstraction.sets-high), section-fits p w j h)
 
 pub overflow_mul-pairs : goal.overflow_mul-pairs
-overflow_mul-pairs c = omega (arith, pairs_small c.args.p (well-pair c.args.p c.requires.0.well))
+overflow_mul-pairs c = omega (arith, pairs-small c.args.p (well-pair c.args.p c.requires.0.well))
 
 pub covered-ahead-requires : goal.covered-ahead-requires
 covered-ahead-requires c =
@@ -54,8 +54,8 @@ offset_bounds-table-from c = omega (arith, fits c.args.p (well-pair c.args.p c.r
 pub slice_bounds-section-end : goal.slice_bounds-section-end
 slice_bounds-section-end c = omega (arith, fits c.args.p (well-pair c.args.p c.requires.0.well) c.args.j c.requires.1.section, c.requires.1.room)
 
-goals-are : (c : After-goals-g) → c.goals-g.result ≡ rows_of (goalsIn c.args.p c.args.table.now c.args.j)
-unfolding part_of
+goals-are : (c : After-goals-g) → c.goals-g.result ≡ rowsOf (goalsIn c.args.p c.args.table.now c.args.j)
+unfolding partOf
 goals-are c =
     goals-rows c.args.p (well-pair c.args.p c.requires.0.well) c.requires.1 c.requires.0.matched-are c.requires.0.predecessors-are c.next_section-next.ensures c.covered-ahead.ensures c.goals-g.ensures
 
@@ -65,14 +65,14 @@ held : (c : After-goals-g) →
     (pairsIn x.p g ≡ goalsIn x.p x.table.now x.j) × Holds x.p g
 held c = goals-held c.args.p (well-pair c.args.p c.requires.0.well) c.requires.1 (goals-are c)
 
-old-is : (c : After-goals-g) → c.covered-old.result ≡ uptoRows (nC c.args.p) (nA c.args.p) (part_of c.args.p c.args.table.now c.args.j) (blank - 1)
-unfolding part_of
+old-is : (c : After-goals-g) → c.covered-old.result ≡ uptoRows (nC c.args.p) (nA c.args.p) (partOf c.args.p c.args.table.now c.args.j) (blank - 1)
+unfolding partOf
 old-is c = c.covered-old.ensures
 
 part-is : (c : After-goals-g) →
     let x = c.args in
     let a = x.j * pairs x.p in
-    take (a + pairs x.p - a) (drop a x.table.now) ≡ part_of x.p x.table.now x.j
+    take (a + pairs x.p - a) (drop a x.table.now) ≡ partOf x.p x.table.now x.j
 part-is c =
     let x = c.args in
     let a = x.j * pairs x.p in
@@ -93,4 +93,4 @@ returns c =
     let y = c.section-y.ensures in
     let a = x.j * pairs p in
     let e : a + pairs p - a ≡ pairs p = omega arith in
-    renewed p (well-pair c.args.p c.requires.0.well) c.requires.1 refl e (rw (held (goal.at.returns c).After-goals-g).0 at y.1) (old-is (goal.at.returns c).After-goals-g) (rw (held (goal.at.returns c).After-goals-g).0 at y.0) (sym (not_is _) ∙ ap not c.same_rows.ensures)
+    renewed p (well-pair c.args.p c.requires.0.well) c.requires.1 refl e (rw (held (goal.at.returns c).After-goals-g).0 at y.1) (old-is (goal.at.returns c).After-goals-g) (rw (held (goal.at.returns c).After-goals-g).0 at y.0) (sym (not-is _) ∙ ap not c.same_rows.ensures)

@@ -5,7 +5,7 @@ use Prim.Native.Nat.{◌^◌, ◌<◌, min}
 use native.Mathlib.Nat.{mul-le-mul_right}
 use native.Mathlib.Omega.{arith}
 use Rattle.mask.specs.Bits.{hasBit}
-use Rattle.mask.specs.BitsLaws.{lowest_set, rest_lt}
+use Rattle.mask.specs.BitsLaws.{lowest-set, rest-lt}
 use Rattle.machine.specs.Machines.{setsA}
 use Rattle.machine.specs.Table.{coveredCount}
 use Rattle.machine.specs.WellFormedLaws.{well-pair}
@@ -19,7 +19,7 @@ use Rattle.solver.proofs.sweeps.Goals.{After-lowest-i, After-with-due}
 low : (c : After-lowest-i) → c.lowest-i.result < setsA c.args.p
 low c =
     let d = c.loop-due.invariant in
-    d.low c.lowest-i.result (ap (hasBit c.loop-due.due) c.lowest-i.ensures ∙ lowest_set 64 c.loop-due.due (omega (arith, c.loop-due-test.true)) d.small)
+    d.low c.lowest-i.result (ap (hasBit c.loop-due.due) c.lowest-i.ensures ∙ lowest-set 64 c.loop-due.due (omega (arith, c.loop-due-test.true)) d.small)
 
 pub loop-due-init : goal.loop-due-init
 loop-due-init c =
@@ -53,7 +53,7 @@ loop-due-preserved-then-renew c = changed (goal.at.loop-due-preserved-then-renew
 pub loop-due-smaller : goal.loop-due-smaller
 loop-due-smaller c =
     let stays = mul-le-mul_right (2 ^ 64) (covered-stays c.args.p (well-pair c.args.p c.requires.0.well) c.loop-due.invariant (omega (arith, low (goal.at.loop-due-smaller c).After-lowest-i)) c.renew.ensures) in
-    omega (arith, stays, c.rest-due.ensures, rest_lt c.loop-due.due (omega (arith, c.loop-due-test.true)))
+    omega (arith, stays, c.rest-due.ensures, rest-lt c.loop-due.due (omega (arith, c.loop-due-test.true)))
 
 pub loop-due-preserved : goal.loop-due-preserved
 loop-due-preserved c =

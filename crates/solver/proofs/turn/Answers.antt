@@ -5,9 +5,9 @@ use native.Mathlib.Omega.{arith}
 use lib.ListN.{length}
 use Rattle.machine.specs.Machines.{setsA, pairs}
 use Rattle.machine.specs.Table.{tableRoom}
-use Rattle.machine.specs.WellFormedLaws.{well-pair, pairs_small, section-fits}
+use Rattle.machine.specs.WellFormedLaws.{well-pair, pairs-small, section-fits}
 use Rattle.rows.specs.WriteLaws.{cut-long}
-use Rattle.solver.specs.FamilyRowsLaws.{flat-length, flat-none, turn_more, turn-all}
+use Rattle.solver.specs.FamilyRowsLaws.{flat-length, flat-none, turn-more, turn-all}
 use Rattle.solver.specs.SweepLaws.{ranked-start, ranked-more, ranked-done}
 use Rattle.solver.proofs.turn.Goals as goal
 use Rattle.solver.proofs.turn.Goals.{In-loop-j, Start}
@@ -19,7 +19,7 @@ fits : (c : In-loop-j) →
 fits c = section-fits c.args.p (well-pair c.args.p c.requires.0.well) c.loop-j.j c.loop-j-test.true
 
 pub overflow_mul-pairs : goal.overflow_mul-pairs
-overflow_mul-pairs c = omega (arith, pairs_small c.args.p (well-pair c.args.p c.requires.0.well))
+overflow_mul-pairs c = omega (arith, pairs-small c.args.p (well-pair c.args.p c.requires.0.well))
 
 pub loop-j-init : goal.loop-j-init
 loop-j-init c = ((omega arith, ranked-start c.args.p (well-pair c.args.p c.requires.0.well)), flat-none _)
@@ -59,7 +59,7 @@ loop-j-preserved c =
     let e : a + P - a ≡ P = omega arith in
     let made = c.turn_section-next.ensures in (
       (omega (arith, c.loop-j-test.true), ranked-more x.p w c.requires.1 c.loop-j-test.true refl e made.1 c.loop-j.invariant.0.1),
-      made.0 ∙ turn_more x.p w x.family c.loop-j.j c.loop-j-test.true c.loop-j.invariant.1,
+      made.0 ∙ turn-more x.p w x.family c.loop-j.j c.loop-j-test.true c.loop-j.invariant.1,
     )
 
 pub shape_of-table : goal.shape_of-table

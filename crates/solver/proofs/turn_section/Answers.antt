@@ -7,13 +7,13 @@ use Rattle.machine.specs.Machines.{setsA}
 use Rattle.machine.specs.StepLaws.{next-lt}
 use Rattle.machine.specs.WellFormedLaws.{well-pair}
 use Rattle.machine.specs.Game.{goals, levels}
-use Rattle.rows.specs.Rows.{rows_of}
+use Rattle.rows.specs.Rows.{rowsOf}
 use Rattle.solver.specs.Families.{familyIn, putSection}
 use Rattle.solver.specs.FamilyRowsLaws.{goals-done, goals-hold, goals-back}
 use Rattle.solver.proofs.turn_section.Goals as goal
 use Rattle.solver.proofs.turn_section.Goals.{After-goals-g, Start}
 
-goals-are : (c : After-goals-g) → let x = c.args in c.goals-g.result ≡ rows_of (goals x.p (familyIn x.p x.family.now) x.j)
+goals-are : (c : After-goals-g) → let x = c.args in c.goals-g.result ≡ rowsOf (goals x.p (familyIn x.p x.family.now) x.j)
 goals-are c =
     goals-done c.args.p (well-pair c.args.p c.requires.0.well) c.args.family.now c.args.j c.requires.1.0 c.requires.0.matched-are c.requires.0.predecessors-are
     c.next_section.ensures c.section_rows-rows.ensures c.join_rows-next.ensures c.goals-g.ensures
@@ -34,4 +34,4 @@ returns c =
     let x = c.args in
     let made = c.afresh-set in
     let back = goals-back x.p (well-pair c.args.p c.requires.0.well) x.family.now x.j (goals-are (goal.at.returns c).After-goals-g) in
-    (c.put_section.ensures ∙ ap (putSection x.made.now x.j) (made.ensures.0 ∙ ap (λ (G : List ℕ). rows_of (levels x.p G)) back), rw back at made.ensures.1)
+    (c.put_section.ensures ∙ ap (putSection x.made.now x.j) (made.ensures.0 ∙ ap (λ (G : List ℕ). rowsOf (levels x.p G)) back), rw back at made.ensures.1)

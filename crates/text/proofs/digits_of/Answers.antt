@@ -1,6 +1,6 @@
 -- The invariant: the digits behind those of `rest` are stored behind `start`.
 use native.Mathlib.Omega.{arith}
-use Rattle.text.specs.DigitsLaws.{partly-start, partly-room, partly_more, partly-done}
+use Rattle.text.specs.DigitsLaws.{partly-start, partly-room, partly-more, partly-done}
 use Rattle.text.proofs.digits_of.Goals as goal
 
 pub loop-rest-init : goal.loop-rest-init
@@ -13,7 +13,7 @@ pub overflow_sub-start : goal.overflow_sub-start
 overflow_sub-start c = partly-room c.loop-rest.invariant (omega arith)
 
 pub loop-rest-preserved : goal.loop-rest-preserved
-loop-rest-preserved c = partly_more c.loop-rest.invariant (omega arith)
+loop-rest-preserved c = partly-more c.loop-rest.invariant (omega arith)
 
 pub bounds-bytes-start-2 : goal.bounds-bytes-start-2
 bounds-bytes-start-2 c = omega (arith, c.loop-rest.invariant.room)

@@ -18,5 +18,5 @@ returns c =
     let number = c.put_number-at.ensures in
     record {
       value = finished-line _ _ _ _ c.put.ensures number.bytes number.count;
-      length_bound = omega (arith, decimal-most c.args.t, number.count);
+      room = omega (arith, decimal-most c.args.t, number.count);
     }

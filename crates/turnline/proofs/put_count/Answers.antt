@@ -2,7 +2,7 @@
 use native.Mathlib.Omega.{arith}
 use Rattle.text.specs.Decimal.{decimal}
 use Rattle.text.specs.DecimalLaws.{decimal-most}
-use Rattle.text.specs.PutLaws.{byte_word}
+use Rattle.text.specs.PutLaws.{byte-word}
 use Rattle.turnline.proofs.put_count.Goals as goal
 
 pub overflow_add-result : goal.overflow_add-result
@@ -11,4 +11,4 @@ overflow_add-result c = omega (arith, decimal-most c.args.n)
 pub returns : goal.returns
 returns c =
     let x = c.args in
-    record { place = omega arith; bytes = byte_word x.out.now _ (decimal x.n) x.at 32 c.put_number.ensures.bytes }
+    record { place = omega arith; bytes = byte-word x.out.now _ (decimal x.n) x.at 32 c.put_number.ensures.bytes }

@@ -1,12 +1,12 @@
 -- The counts decide which of the two arms of the definition is the answer.
 use mathlib.Core.Bool.{true, false}
 use mathlib.Core.Path.{◌≡◌, sym, ap, ◌∙◌}
-use Rattle.machine.specs.Refusals.{refused, tested_of}
+use Rattle.machine.specs.Refusals.{refused, testedOf}
 use Rattle.machine.specs.WellFormed.{countsOk, machineValidity}
 use Rattle.validity.proofs.machine_validity.Goals as goal
 
 pub returns-then-not-counts_ok : goal.returns-then-not-counts_ok
-unfolding machineValidity tested_of
+unfolding machineValidity testedOf
 returns-then-not-counts_ok c =
     let m = c.args.m in
     let limit = c.args.limit in

@@ -3,16 +3,16 @@
 use mathlib.Core.Path.{◌≡◌, sym, ap, ◌∙◌}
 use Rattle.machine.specs.WellFormed.{contentTests}
 use Rattle.machine.specs.WellFormedLaws.{bad-concrete-counts, bad-abstract-counts, bad-concrete, good-concrete}
-use Rattle.machine.specs.Refusals.{valid, refused, tested_of}
+use Rattle.machine.specs.Refusals.{valid, refused, testedOf}
 use Rattle.machine.specs.RefusalsLaws.{tested-valid, tested-refused}
 use Rattle.validity.proofs.pair_validity.Goals as goal
 
 pub returns-then-not-counts_ok : goal.returns-then-not-counts_ok
-unfolding tested_of
+unfolding testedOf
 returns-then-not-counts_ok c = ap refused c.refuse.ensures ∙ sym (bad-concrete-counts _ _ (sym c.counts_ok.ensures ∙ c.if-not-counts_ok.true))
 
 pub returns-then-not-counts_ok-2 : goal.returns-then-not-counts_ok-2
-unfolding tested_of
+unfolding testedOf
 returns-then-not-counts_ok-2 c = ap refused c.refuse-then-not-counts_ok-2.ensures ∙ sym (bad-abstract-counts _ _ (sym c.counts_ok-2.ensures ∙ c.if-not-counts_ok-2.true))
 
 pub returns-in-Valid : goal.returns-in-Valid
@@ -22,6 +22,6 @@ returns-in-Valid c =
     c.content_tests.ensures ∙ sym (good-concrete _ _ (sym c.counts_ok.ensures ∙ c.if-not-counts_ok.false) (sym c.counts_ok-2.ensures ∙ c.if-not-counts_ok-2.false) passed)
 
 pub returns-in-Refused : goal.returns-in-Refused
-unfolding tested_of
+unfolding testedOf
 returns-in-Refused c =
     sym (bad-concrete _ _ (sym c.counts_ok.ensures ∙ c.if-not-counts_ok.false) (sym c.counts_ok-2.ensures ∙ c.if-not-counts_ok-2.false) _ (tested-refused c.content_tests-concrete.ensures c.in-Refused.is))

@@ -3,7 +3,7 @@ use mathlib.Core.Path.{sym, ◌∙◌}
 use native.Mathlib.Omega.{arith}
 use borrow.Author.Count.{below_none, below_more}
 use borrow.Author.Rules.{rules}
-use Rattle.mask.specs.BoundedLaws.{some_of, some-none}
+use Rattle.mask.specs.BoundedLaws.{some-of, some-none}
 use Rattle.machine.specs.WellFormed.{setBeyond}
 use Rattle.validity.proofs.sets_beyond.Goals as goal
 
@@ -12,7 +12,7 @@ loop-k-init c = (search rules, below_none _)
 
 pub returns-then-set_beyond : goal.returns-then-set_beyond
 unfolding setBeyond
-returns-then-set_beyond c = sym (some_of 8 _ c.loop-k.k (omega arith) (sym c.set_beyond.ensures ∙ c.if-set_beyond.true))
+returns-then-set_beyond c = sym (some-of 8 _ c.loop-k.k (omega arith) (sym c.set_beyond.ensures ∙ c.if-set_beyond.true))
 
 pub loop-k-preserved : goal.loop-k-preserved
 unfolding setBeyond

@@ -3,7 +3,7 @@ use mathlib.Core.Path.{sym, ◌∙◌}
 use native.Mathlib.Omega.{arith}
 use borrow.Author.Count.{below_none, below_more}
 use borrow.Author.Rules.{rules}
-use Rattle.mask.specs.BoundedLaws.{some_of, some-none}
+use Rattle.mask.specs.BoundedLaws.{some-of, some-none}
 use Rattle.machine.specs.WellFormed.{stateBeyond}
 use Rattle.validity.proofs.states_beyond.Goals as goal
 
@@ -12,7 +12,7 @@ loop-s-init c = (search rules, below_none _)
 
 pub returns-then-state_beyond : goal.returns-then-state_beyond
 unfolding stateBeyond
-returns-then-state_beyond c = sym (some_of 64 _ c.loop-s.s (omega arith) (sym c.state_beyond.ensures ∙ c.if-state_beyond.true))
+returns-then-state_beyond c = sym (some-of 64 _ c.loop-s.s (omega arith) (sym c.state_beyond.ensures ∙ c.if-state_beyond.true))
 
 pub loop-s-preserved : goal.loop-s-preserved
 unfolding stateBeyond

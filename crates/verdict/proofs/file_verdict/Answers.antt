@@ -1,6 +1,6 @@
 -- Each return is what `fileOutcome` says of the reading that led there.
 use Rattle.codec.specs.declared.Reading.TheVariants.{Taken}
-use Rattle.codec.specs.AnswersLaws.{read_taken, read-refused, refusal-of}
+use Rattle.codec.specs.AnswersLaws.{read-taken, read-refused, refusal-of}
 use Rattle.codec.specs.Outcomes.{says}
 use Rattle.codec.specs.OutcomesLaws.{outcome-refused, outcome-bare, outcome-taken}
 use Rattle.machine.specs.Refusals.{answer, refused, passOn}
@@ -23,14 +23,14 @@ pub returns-then-not-note : goal.returns-then-not-note
 unfolding outcomeOf
 returns-then-not-note c =
     let r = c.read_file-show.ensures in
-    sym (outcome-bare checkVerdict _ (read_taken _ r.answer (c.in-Taken.is ∙ ap Taken c.if-not-note.true)))
+    sym (outcome-bare checkVerdict _ (read-taken _ r.answer (c.in-Taken.is ∙ ap Taken c.if-not-note.true)))
 
 -- what the check says of the table is said of the file
 checked : (c : After-check_table-checked) → fileOutcome c.args.bytes.now ≡ passOn (verdictOf c.check_table-checked.result) (λ v. answer (says v))
 checked c =
     let r = c.read_file-show.ensures in
     let told = c.in-Taken.is ∙ ap Taken c.if-not-note.false in
-    outcome-taken checkVerdict _ (read_taken _ r.answer told) r.content c.check_table-checked.ensures.verdict
+    outcome-taken checkVerdict _ (read-taken _ r.answer told) r.content c.check_table-checked.ensures.verdict
 
 pub returns-in-Carried : goal.returns-in-Carried
 unfolding outcomeOf verdictOf passOn

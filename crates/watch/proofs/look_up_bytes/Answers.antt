@@ -7,11 +7,11 @@ use Rattle.watch.proofs.look_up_bytes.Goals as goal
 
 pub returns-in-Refused : goal.returns-in-Refused
 unfolding lookedUpOf
-returns-in-Refused c = sym (look-unread _ _ _ _ _ (tested-refused c.machines_of-machines.ensures.validity_value c.in-Refused.is))
+returns-in-Refused c = sym (look-unread _ _ _ _ _ (tested-refused c.machines_of-machines.ensures.validity c.in-Refused.is))
 
 pub returns : goal.returns
 returns c =
     let read = c.machines_of-machines.ensures in
-    let taken = tested-valid read.validity_value c.in_default.is in
+    let taken = tested-valid read.validity c.in_default.is in
     let x = c.args in
-    c.look_up.ensures ∙ look-read x.bytes.now x.family x.section x.c x.a taken (read.pair_value taken)
+    c.look_up.ensures ∙ look-read x.bytes.now x.family x.section x.c x.a taken (read.machines taken)

@@ -2,13 +2,13 @@
 use mathlib.Core.Path.{sym, ap, ◌∙◌}
 use Rattle.machine.specs.RefusalsLaws.{spot-kept, spot-put}
 use Rattle.watch.specs.Watching.{toldNumber}
-use Rattle.watch.specs.WatchingLaws.{look_in, look-out, look-stopped}
+use Rattle.watch.specs.WatchingLaws.{look-in, look-out, look-stopped}
 use Rattle.watch.proofs.look_up_file.Goals as goal
 
 pub returns-in-StillIn : goal.returns-in-StillIn
 unfolding toldNumber
 returns-in-StillIn c =
-    let told = look_in c.look_up_bytes.ensures c.in-StillIn.is in
+    let told = look-in c.look_up_bytes.ensures c.in-StillIn.is in
     record { number = sym (ap toldNumber told); numbers = sym (spot-kept _ told) }
 
 pub returns-in-StruckOut : goal.returns-in-StruckOut

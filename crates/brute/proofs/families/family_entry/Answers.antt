@@ -1,7 +1,7 @@
 -- The entry's number tells its section, c and a, which are within the counts.
 use mathlib.Core.Path.{◌∙◌, sym}
 use native.Mathlib.Omega.{arith}
-use Rattle.machine.specs.WellFormedLaws.{WellPair, pairs_small, some_pairs, well-pair}
+use Rattle.machine.specs.WellFormedLaws.{WellPair, pairs-small, some-pairs, well-pair}
 use Rattle.brute.specs.LiftingLaws.{Located, located}
 use Rattle.brute.specs.FamiliesLaws.{entry-held, entry-struck, entry-unmatched}
 use Rattle.brute.proofs.families.family_entry.Goals as goal
@@ -14,13 +14,13 @@ place : (c : Start) → Located c.args.p c.args.e
 place c = located c.args.p (well c) c.args.e c.requires.1
 
 pub overflow_mul-pairs : goal.overflow_mul-pairs
-overflow_mul-pairs c = omega (arith, pairs_small _ (well (goal.at.overflow_mul-pairs c).Start))
+overflow_mul-pairs c = omega (arith, pairs-small _ (well (goal.at.overflow_mul-pairs c).Start))
 
 pub nonzero_div-j : goal.nonzero_div-j
-nonzero_div-j c = some_pairs _ (well (goal.at.nonzero_div-j c).Start)
+nonzero_div-j c = some-pairs _ (well (goal.at.nonzero_div-j c).Start)
 
 pub nonzero_rem-c : goal.nonzero_rem-c
-nonzero_rem-c c = some_pairs _ (well (goal.at.nonzero_rem-c c).Start)
+nonzero_rem-c c = some-pairs _ (well (goal.at.nonzero_rem-c c).Start)
 
 pub nonzero_div-c : goal.nonzero_div-c
 nonzero_div-c c = (well (goal.at.nonzero_div-c c).Start).abstraction.states-low

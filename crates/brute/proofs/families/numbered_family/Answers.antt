@@ -4,8 +4,8 @@ use Prim.Native.Nat.{ℕ}
 use native.Mathlib.Omega.{arith}
 use lib.ListN.{length-replicate}
 use borrow.Author.Rules.{rules}
-use Rattle.mask.specs.FrontLaws.{front_at, front_length, front-none, front-turn}
-use Rattle.mask.specs.TablesLaws.{fill_done}
+use Rattle.mask.specs.FrontLaws.{front-at, front-length, front-none, front-turn}
+use Rattle.mask.specs.TablesLaws.{fill-done}
 use Rattle.brute.specs.Families.{numberedFamily}
 use Rattle.brute.specs.Numbers.{digitOf}
 use Rattle.brute.proofs.families.numbered_family.Goals as goal
@@ -22,4 +22,4 @@ pub returns : goal.returns
 unfolding numberedFamily
 returns c =
     let d = c.loop-e.invariant in
-    fill_done 0 448 _ _ (front_length _ _ d.1 (omega (arith, d.0, length-replicate {A = ℕ} 448 0)) ∙ length-replicate {A = ℕ} 448 0) (λ k h. front_at _ _ d.1 k (omega arith))
+    fill-done 0 448 _ _ (front-length _ _ d.1 (omega (arith, d.0, length-replicate {A = ℕ} 448 0)) ∙ length-replicate {A = ℕ} 448 0) (λ k h. front-at _ _ d.1 k (omega arith))

@@ -4,12 +4,12 @@ use Prim.Native.Nat.{◌≤◌}
 use native.Mathlib.Omega.{arith}
 use lib.ListN.{length}
 use borrow.Author.Rules.{rules}
-use Rattle.mask.specs.FrontLaws.{front-end, front_length, front-none, front-turn}
+use Rattle.mask.specs.FrontLaws.{front-end, front-length, front-none, front-turn}
 use Rattle.machine.specs.Refusals.{valid}
 use Rattle.machine.specs.RefusalsLaws.{tested-refused, tested-valid}
 use Rattle.machine.specs.Table.{tableRoom}
 use Rattle.machine.specs.WellFormed.{pairValidity}
-use Rattle.machine.specs.WellFormedLaws.{WellPair, entries-small, pairs_small, valid-is-well, well-valid}
+use Rattle.machine.specs.WellFormedLaws.{WellPair, entries-small, pairs-small, valid-is-well, well-valid}
 use Rattle.brute.specs.FamiliesLaws.{family-ill, family-short, family-well}
 use Rattle.brute.proofs.families.put_family.Goals as goal
 use Rattle.brute.proofs.families.put_family.Goals.{In_default, At-loop-e}
@@ -24,7 +24,7 @@ room : (c : In_default) → tableRoom ≤ length c.args.table.now
 room c = c.if-table-lt-TABLE_ROOM.false
 
 same : (c : At-loop-e) → length c.loop-e.table ≡ length c.args.table.now
-same c = front_length _ _ c.loop-e.invariant.1 (omega (arith, c.loop-e.invariant.0, entries-small _ (well-valid _ (tested-valid c.validity-valid.ensures c.in_default.is)), c.if-table-lt-TABLE_ROOM.false))
+same c = front-length _ _ c.loop-e.invariant.1 (omega (arith, c.loop-e.invariant.0, entries-small _ (well-valid _ (tested-valid c.validity-valid.ensures c.in_default.is)), c.if-table-lt-TABLE_ROOM.false))
 
 pub returns-then-table-lt-TABLE_ROOM : goal.returns-then-table-lt-TABLE_ROOM
 returns-then-table-lt-TABLE_ROOM c = let x = c.args in family-short x.p x.family.now x.table.now c.if-table-lt-TABLE_ROOM.true
@@ -35,7 +35,7 @@ returns-in-Refused c =
     family-ill x.p x.family.now x.table.now c.if-table-lt-TABLE_ROOM.false _ (tested-refused c.validity-valid.ensures c.in-Refused.is)
 
 pub overflow_mul-e-end : goal.overflow_mul-e-end
-overflow_mul-e-end c = omega (arith, pairs_small _ (well (goal.at.overflow_mul-e-end c).In_default))
+overflow_mul-e-end c = omega (arith, pairs-small _ (well (goal.at.overflow_mul-e-end c).In_default))
 
 pub overflow_mul-e-end-2 : goal.overflow_mul-e-end-2
 overflow_mul-e-end-2 c = omega (arith, entries-small _ (well (goal.at.overflow_mul-e-end-2 c).In_default))

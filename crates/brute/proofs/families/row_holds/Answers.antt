@@ -3,7 +3,7 @@ use mathlib.Core.Path.{◌∙◌, sym}
 use native.Mathlib.Omega.{arith}
 use borrow.Author.Count.{below_more, below_none}
 use borrow.Author.Rules.{rules}
-use Rattle.mask.specs.BoundedLaws.{every-not, every_of}
+use Rattle.mask.specs.BoundedLaws.{every-not, every-of}
 use Rattle.brute.specs.FamiliesLaws.{bit-none, bit-pair, bit-stray}
 use Rattle.brute.proofs.families.row_holds.Goals as goal
 use Rattle.brute.proofs.families.row_holds.Goals.{else-has, then-has+else-not-is_pair}
@@ -27,4 +27,4 @@ loop-a-preserved c =
     )
 
 pub returns : goal.returns
-returns c = sym (every_of 64 _ (λ q h. c.loop-a.invariant.1 q (omega arith)))
+returns c = sym (every-of 64 _ (λ q h. c.loop-a.invariant.1 q (omega arith)))

@@ -4,7 +4,7 @@ use native.Mathlib.Omega.{arith}
 use borrow.Author.Count.{below_more, below_none}
 use borrow.Author.Rules.{rules}
 use Rattle.mask.specs.BoundedLaws.{first-is, first-none}
-use Rattle.mask.specs.LogicLaws.{not_f, not-i}
+use Rattle.mask.specs.LogicLaws.{not-f, not-i}
 use Rattle.machine.specs.Player.{missedSet}
 use Rattle.brute.proofs.lassos.first_missed.Goals as goal
 
@@ -17,7 +17,7 @@ returns-then-not-visits c = sym (first-is _ _ c.loop-k.k (omega arith) (not-i (s
 
 pub loop-k-preserved : goal.loop-k-preserved
 unfolding missedSet
-loop-k-preserved c = (search rules, below_more _ _ c.loop-k.invariant.1 (not_f (sym c.visits.ensures ∙ c.if-not-visits.false)))
+loop-k-preserved c = (search rules, below_more _ _ c.loop-k.invariant.1 (not-f (sym c.visits.ensures ∙ c.if-not-visits.false)))
 
 pub returns : goal.returns
 returns c = sym (first-none _ _ (λ i h. c.loop-k.invariant.1 i (omega arith)))

@@ -3,7 +3,7 @@ use mathlib.Core.Path.{◌∙◌, sym}
 use native.Mathlib.Omega.{arith}
 use borrow.Author.Count.{below_more, below_none}
 use borrow.Author.Rules.{rules}
-use Rattle.mask.specs.BoundedLaws.{every-not, every_of}
+use Rattle.mask.specs.BoundedLaws.{every-not, every-of}
 use Rattle.machine.specs.Lassos.{isFair}
 use Rattle.brute.proofs.lassos.is_fair.Goals as goal
 
@@ -19,4 +19,4 @@ loop-k-preserved c = (search rules, below_more _ _ c.loop-k.invariant.1 (sym c.v
 
 pub returns : goal.returns
 unfolding isFair
-returns c = sym (every_of _ _ (λ i h. c.loop-k.invariant.1 i (omega arith)))
+returns c = sym (every-of _ _ (λ i h. c.loop-k.invariant.1 i (omega arith)))

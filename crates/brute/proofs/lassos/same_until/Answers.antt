@@ -3,7 +3,7 @@ use mathlib.Core.Path.{◌∙◌, ◌≡◌, ap, ap₂, sym}
 use native.Mathlib.Omega.{arith}
 use borrow.Author.Count.{below_more, below_none}
 use borrow.Author.Rules.{rules}
-use Rattle.mask.specs.BoundedLaws.{every-not, every_of}
+use Rattle.mask.specs.BoundedLaws.{every-not, every-of}
 use Rattle.machine.specs.Machines.{observation, sameObservation}
 use Rattle.brute.proofs.lassos.same_until.Goals as goal
 use Rattle.brute.proofs.lassos.same_until.Invariants.{agree}
@@ -26,4 +26,4 @@ pub loop-t-preserved : goal.loop-t-preserved
 loop-t-preserved c = (search rules, below_more _ _ c.loop-t.invariant.1 (sym (agreed (goal.at.loop-t-preserved c).After-same_observation) ∙ c.if-not-same_observation.false))
 
 pub returns : goal.returns
-returns c = sym (every_of _ _ (λ i h. c.loop-t.invariant.1 i (omega arith)))
+returns c = sym (every-of _ _ (λ i h. c.loop-t.invariant.1 i (omega arith)))

@@ -10,7 +10,7 @@ use Rattle.machine.specs.Refusals.{valid}
 use Rattle.machine.specs.RefusalsLaws.{tested-refused, tested-valid}
 use Rattle.machine.specs.Table.{entries, tableRoom}
 use Rattle.machine.specs.WellFormed.{pairValidity}
-use Rattle.machine.specs.WellFormedLaws.{WellPair, entries-small, pairs_small, ranks-small, valid-is-well, well-valid}
+use Rattle.machine.specs.WellFormedLaws.{WellPair, entries-small, pairs-small, ranks-small, valid-is-well, well-valid}
 use Rattle.brute.specs.Lifting.{lifted, liftedTable}
 use Rattle.brute.specs.LiftingLaws.{lifted-done, lifted-ill, lifted-next, lifted-none, lifted-short, lifted-well, turns-small}
 use Rattle.brute.proofs.lifting.lift.Goals as goal
@@ -44,7 +44,7 @@ returns-in-Refused c =
     lifted-ill x.p x.table.now c.if-table-lt-TABLE_ROOM.false _ (tested-refused c.validity-valid.ensures c.in-Refused.is)
 
 pub overflow_mul-pairs : goal.overflow_mul-pairs
-overflow_mul-pairs c = omega (arith, pairs_small _ (well (goal.at.overflow_mul-pairs c).In_default))
+overflow_mul-pairs c = omega (arith, pairs-small _ (well (goal.at.overflow_mul-pairs c).In_default))
 
 pub overflow_mul-count : goal.overflow_mul-count
 overflow_mul-count c = omega (arith, entries-small _ (well (goal.at.overflow_mul-count c).In_default))

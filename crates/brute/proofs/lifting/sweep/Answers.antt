@@ -3,8 +3,8 @@ use mathlib.Core.Path.{◌∙◌, ◌≡◌, refl}
 use native.Mathlib.Omega.{arith}
 use borrow.Author.Rules.{rules}
 use Rattle.machine.specs.Table.{entries}
-use Rattle.machine.specs.WellFormedLaws.{WellPair, entries-small, pairs_small, well-pair}
-use Rattle.brute.specs.LiftingLaws.{swept-next, swept_none}
+use Rattle.machine.specs.WellFormedLaws.{WellPair, entries-small, pairs-small, well-pair}
+use Rattle.brute.specs.LiftingLaws.{swept-next, swept-none}
 use Rattle.brute.proofs.lifting.sweep.Goals as goal
 use Rattle.brute.proofs.lifting.sweep.Goals.{Start}
 
@@ -12,13 +12,13 @@ well : (c : Start) → WellPair c.args.p
 well c = well-pair c.args.p c.requires.0
 
 pub overflow_mul-e-end : goal.overflow_mul-e-end
-overflow_mul-e-end c = omega (arith, pairs_small _ (well (goal.at.overflow_mul-e-end c).Start))
+overflow_mul-e-end c = omega (arith, pairs-small _ (well (goal.at.overflow_mul-e-end c).Start))
 
 pub overflow_mul-e-end-2 : goal.overflow_mul-e-end-2
 overflow_mul-e-end-2 c = omega (arith, entries-small _ (well (goal.at.overflow_mul-e-end-2 c).Start))
 
 pub loop-e-init : goal.loop-e-init
-loop-e-init c = let x = c.args in (search rules, refl, swept_none x.p x.table.now)
+loop-e-init c = let x = c.args in (search rules, refl, swept-none x.p x.table.now)
 
 pub lift_entry-requires : goal.lift_entry-requires
 lift_entry-requires c =

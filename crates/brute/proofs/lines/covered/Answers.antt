@@ -6,10 +6,10 @@ use native.Mathlib.Omega.{arith}
 use borrow.Author.Rules.{rules}
 use borrow.Author.Tests.{eq-eqb, ne_eqb}
 use Rattle.mask.specs.BoundedLaws.{count-hit, count-miss, count-zero}
-use Rattle.mask.specs.LogicLaws.{not_f, not-i}
+use Rattle.mask.specs.LogicLaws.{not-f, not-i}
 use Rattle.machine.specs.Machines.{nA, nC, setsA}
 use Rattle.machine.specs.Table.{coveredCount}
-use Rattle.machine.specs.WellFormedLaws.{WellPair, entries-small, pairs_small, well-pair}
+use Rattle.machine.specs.WellFormedLaws.{WellPair, entries-small, pairs-small, well-pair}
 use Rattle.brute.proofs.lines.covered.Goals as goal
 use Rattle.brute.proofs.lines.covered.Invariants.{counted}
 use Rattle.brute.proofs.lines.covered.Goals.{Start, else-value_at, then-value_at}
@@ -18,7 +18,7 @@ well : (c : Start) → WellPair c.args.p
 well c = well-pair c.args.p c.requires
 
 pub overflow_mul-e-end : goal.overflow_mul-e-end
-overflow_mul-e-end c = omega (arith, pairs_small _ (well (goal.at.overflow_mul-e-end c).Start))
+overflow_mul-e-end c = omega (arith, pairs-small _ (well (goal.at.overflow_mul-e-end c).Start))
 
 pub overflow_mul-e-end-2 : goal.overflow_mul-e-end-2
 overflow_mul-e-end-2 c = omega (arith, entries-small _ (well (goal.at.overflow_mul-e-end-2 c).Start))
@@ -40,7 +40,7 @@ loop-e-preserved c =
       ],
       rw add-one (elim c.if-value_at.branch [
         | then-value_at w ↦ omega (arith, l.invariant.1, count-hit l.e q (not-i (ne_eqb _ _ (λ z. w.if-value_at.true (v ∙ z)))))
-        | else-value_at w ↦ omega (arith, l.invariant.1, count-miss l.e q (not_f (eq-eqb _ _ (sym v ∙ w.if-value_at.false))))
+        | else-value_at w ↦ omega (arith, l.invariant.1, count-miss l.e q (not-f (eq-eqb _ _ (sym v ∙ w.if-value_at.false))))
       ]),
     )
 

@@ -2,7 +2,7 @@
 use mathlib.Core.Path.{◌∙◌, sym}
 use native.Mathlib.Omega.{arith}
 use Rattle.machine.specs.LinesLaws.{blank-passes}
-use Rattle.machine.specs.WellFormedLaws.{WellPair, pairs_small, ranks-small, well-pair}
+use Rattle.machine.specs.WellFormedLaws.{WellPair, pairs-small, ranks-small, well-pair}
 use Rattle.brute.specs.TargetLaws.{pass-above, pass-goal, pass-rank, pass-unmatched}
 use Rattle.brute.proofs.lines.entry_passes.Goals as goal
 use Rattle.brute.proofs.lines.entry_passes.Goals.{Start}
@@ -24,7 +24,7 @@ returns-then-not-is_matched c =
     sym (pass-unmatched x.p x.table.now x.j x.c x.a (λ e. c.if-e.false (c.entry_at-e.ensures ∙ e)) (sym c.is_matched.ensures ∙ c.if-not-is_matched.true))
 
 pub overflow_mul-concrete : goal.overflow_mul-concrete
-overflow_mul-concrete c = omega (arith, pairs_small _ (well (goal.at.overflow_mul-concrete c).Start))
+overflow_mul-concrete c = omega (arith, pairs-small _ (well (goal.at.overflow_mul-concrete c).Start))
 
 pub overflow_mul-concrete-2 : goal.overflow_mul-concrete-2
 overflow_mul-concrete-2 c = omega (arith, ranks-small _ (well (goal.at.overflow_mul-concrete-2 c).Start))

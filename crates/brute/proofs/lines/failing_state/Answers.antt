@@ -3,7 +3,7 @@ use mathlib.Core.Path.{◌∙◌, sym}
 use native.Mathlib.Omega.{arith}
 use borrow.Author.Count.{below_more, below_none}
 use Rattle.mask.specs.BoundedLaws.{first-is, first-none}
-use Rattle.mask.specs.LogicLaws.{not_f, not-i}
+use Rattle.mask.specs.LogicLaws.{not-f, not-i}
 use Rattle.machine.specs.WellFormedLaws.{WellPair, well-pair}
 use Rattle.brute.proofs.lines.failing_state.Goals as goal
 use Rattle.brute.proofs.lines.failing_state.Goals.{Start}
@@ -21,7 +21,7 @@ pub returns-then-not-entry_passes : goal.returns-then-not-entry_passes
 returns-then-not-entry_passes c = sym (first-is _ _ c.loop-a.a (omega arith) (not-i (sym c.entry_passes.ensures ∙ c.if-not-entry_passes.true)) c.loop-a.invariant)
 
 pub loop-a-preserved : goal.loop-a-preserved
-loop-a-preserved c = below_more _ _ c.loop-a.invariant (not_f (sym c.entry_passes.ensures ∙ c.if-not-entry_passes.false))
+loop-a-preserved c = below_more _ _ c.loop-a.invariant (not-f (sym c.entry_passes.ensures ∙ c.if-not-entry_passes.false))
 
 pub returns : goal.returns
 returns c = sym (first-none _ _ (λ k h. c.loop-a.invariant k (omega arith)))

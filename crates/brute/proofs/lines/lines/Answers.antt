@@ -2,9 +2,9 @@
 use mathlib.Core.Path.{◌∙◌, ap, sym}
 use native.Mathlib.Nat.{le_trans}
 use Rattle.mask.specs.BoundedLaws.{first-le}
-use Rattle.machine.specs.Refusals.{refused, tested_of}
+use Rattle.machine.specs.Refusals.{refused, testedOf}
 use Rattle.machine.specs.WellFormedLaws.{WellPair, well-pair}
-use Rattle.brute.specs.TargetLaws.{lines_at, lines_none}
+use Rattle.brute.specs.TargetLaws.{lines-at, lines-none}
 use Rattle.brute.proofs.lines.lines.Goals as goal
 use Rattle.brute.proofs.lines.lines.Goals.{Start}
 
@@ -21,14 +21,14 @@ pub failing_state-a-requires : goal.failing_state-a-requires
 failing_state-a-requires c = let w = well (goal.at.failing_state-a-requires c).Start in (c.requires, (c.if-j-abstraction.true, rw c.failing_row-c.ensures (le_trans (first-le _ _) w.concrete.states-high)))
 
 pub returns-then-j-abstraction : goal.returns-then-j-abstraction
-unfolding tested_of
+unfolding testedOf
 returns-then-j-abstraction c =
     let x = c.args in
     ap refused c.refuse.ensures
-    ∙ sym (lines_at x.p x.table.now _ c.failing_section-j.ensures _ _ c.failing_row-c.ensures c.failing_state-a.ensures c.if-j-abstraction.true)
+    ∙ sym (lines-at x.p x.table.now _ c.failing_section-j.ensures _ _ c.failing_row-c.ensures c.failing_state-a.ensures c.if-j-abstraction.true)
 
 pub returns : goal.returns
-unfolding tested_of
+unfolding testedOf
 returns c =
     let x = c.args in
-    sym (lines_none x.p x.table.now _ c.failing_section-j.ensures c.if-j-abstraction.false)
+    sym (lines-none x.p x.table.now _ c.failing_section-j.ensures c.if-j-abstraction.false)

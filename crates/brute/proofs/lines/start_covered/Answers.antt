@@ -3,7 +3,7 @@ use mathlib.Core.Path.{◌∙◌, sym}
 use native.Mathlib.Omega.{arith}
 use borrow.Author.Count.{below_more, below_none}
 use Rattle.mask.specs.LogicLaws.{clash}
-use Rattle.machine.specs.LinesLaws.{covers_of}
+use Rattle.machine.specs.LinesLaws.{covers-of}
 use Rattle.machine.specs.WellFormedLaws.{WellPair, well-pair}
 use Rattle.brute.specs.TargetLaws.{covers-not, start-no, start-some}
 use Rattle.brute.proofs.lines.start_covered.Goals as goal
@@ -22,7 +22,7 @@ pub returns-then-entry_at : goal.returns-then-entry_at
 returns-then-entry_at c =
     let x = c.args in
     sym (start-some x.p x.table.now x.c c.loop-a.a (omega arith) (sym c.has_start.ensures ∙ c.if-has_start.true)
-    (covers_of x.p x.table.now 0 x.c c.loop-a.a (λ e. c.if-entry_at.true (c.entry_at.ensures ∙ e))))
+    (covers-of x.p x.table.now 0 x.c c.loop-a.a (λ e. c.if-entry_at.true (c.entry_at.ensures ∙ e))))
 
 pub loop-a-preserved : goal.loop-a-preserved
 loop-a-preserved c =

@@ -4,7 +4,7 @@ use native.Mathlib.Omega.{arith}
 use borrow.Author.Count.{below_more, below_none}
 use Rattle.mask.specs.LogicLaws.{clash}
 use Rattle.machine.specs.WellFormedLaws.{WellPair, well-pair}
-use Rattle.brute.specs.TargetLaws.{steps_all, steps-not}
+use Rattle.brute.specs.TargetLaws.{steps-all, steps-not}
 use Rattle.brute.proofs.lines.steps_into.Goals as goal
 use Rattle.brute.proofs.lines.steps_into.Goals.{Start, else-has_move, then-has_move+else-not-finds}
 
@@ -30,4 +30,4 @@ loop-d-preserved c =
     ])
 
 pub returns : goal.returns
-returns c = let x = c.args in sym (steps_all x.p _ x.c x.a (λ k h. c.loop-d.invariant k (omega arith)))
+returns c = let x = c.args in sym (steps-all x.p _ x.c x.a (λ k h. c.loop-d.invariant k (omega arith)))

@@ -4,8 +4,8 @@ use native.Mathlib.Omega.{arith}
 use borrow.Author.Count.{below_more, below_none}
 use borrow.Author.Tests.{le-leb, lt-leb}
 use Rattle.mask.specs.Bounded.{someIn}
-use Rattle.mask.specs.BoundedLaws.{some-none, some_of}
-use Rattle.mask.specs.LogicLaws.{and-false-l, and_false_r, and_i}
+use Rattle.mask.specs.BoundedLaws.{some-none, some-of}
+use Rattle.mask.specs.LogicLaws.{and-false-l, and-false-r, and-i}
 use Rattle.machine.specs.WellFormed.{beyond}
 use Rattle.brute.proofs.machines.has_past.Goals as goal
 use Rattle.brute.proofs.machines.has_past.Goals.{else-has, then-has+else-n-s}
@@ -16,14 +16,14 @@ loop-s-init c = below_none _
 pub returns-then-n-s : goal.returns-then-n-s
 unfolding beyond someIn
 returns-then-n-s c =
-    sym (some_of 64 _ c.loop-s.s (omega arith) (and_i (sym c.has.ensures ∙ c.if-has.true) (le-leb _ _ c.if-n-s.true)))
+    sym (some-of 64 _ c.loop-s.s (omega arith) (and-i (sym c.has.ensures ∙ c.if-has.true) (le-leb _ _ c.if-n-s.true)))
 
 pub loop-s-preserved : goal.loop-s-preserved
 loop-s-preserved c =
     let h = sym c.has.ensures in
     below_more _ _ c.loop-s.invariant
     (elim c.if-has.branch [
-      | then-has+else-n-s w ↦ and_false_r _ (lt-leb _ _ w.if-n-s.false)
+      | then-has+else-n-s w ↦ and-false-r _ (lt-leb _ _ w.if-n-s.false)
       | else-has w ↦ and-false-l _ (h ∙ w.if-has.false)
     ])
 

@@ -4,7 +4,7 @@ use native.Mathlib.Omega.{arith}
 use borrow.Author.Count.{below_more, below_none}
 use borrow.Author.Tests.{eq-eqb, ne_eqb}
 use Rattle.mask.specs.BitsLaws.{no-bits-zero}
-use Rattle.mask.specs.LogicLaws.{not_f, not-i}
+use Rattle.mask.specs.LogicLaws.{not-f, not-i}
 use Rattle.brute.specs.MachineLaws.{state-nonzero}
 use Rattle.brute.proofs.machines.has_state.Goals as goal
 
@@ -18,4 +18,4 @@ pub loop-s-preserved : goal.loop-s-preserved
 loop-s-preserved c = below_more _ _ c.loop-s.invariant (sym c.has.ensures ∙ c.if-has.false)
 
 pub returns : goal.returns
-returns c = sym (not_f (eq-eqb _ 0 (no-bits-zero 64 c.args.members (omega arith) (λ k h. c.loop-s.invariant k (omega arith)))))
+returns c = sym (not-f (eq-eqb _ 0 (no-bits-zero 64 c.args.members (omega arith) (λ k h. c.loop-s.invariant k (omega arith)))))

@@ -2,7 +2,7 @@
 use mathlib.Core.Path.{◌≡◌, sym}
 use lib.ListN.{get_or}
 use borrow.Author.Tests.{le-ltb, lt-ltb}
-use Rattle.mask.specs.LogicLaws.{not_is}
+use Rattle.mask.specs.LogicLaws.{not-is}
 use Rattle.machine.specs.WellFormed.{setBeyond}
 use Rattle.brute.specs.MachineLaws.{fair-at}
 use Rattle.brute.proofs.machines.set_past.Goals as goal
@@ -17,4 +17,4 @@ pub returns : goal.returns
 unfolding setBeyond
 returns c =
     let e : c.set_of-2.result ≡ get_or c.args.m.fairness c.args.k 0 = fair-at _ _ c.set_of-2.ensures in
-    rw (le-ltb _ _ c.if-k-m.false, ← e) (sym (not_is _))
+    rw (le-ltb _ _ c.if-k-m.false, ← e) (sym (not-is _))

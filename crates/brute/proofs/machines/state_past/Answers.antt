@@ -2,7 +2,7 @@
 use mathlib.Core.Path.{◌∙◌, ◌≡◌, sym}
 use lib.ListN.{get_or}
 use borrow.Author.Tests.{eq-eqb, le-ltb, lt-ltb, ne_eqb}
-use Rattle.mask.specs.LogicLaws.{not_f, not-i, not_is, or-false-l, or_l}
+use Rattle.mask.specs.LogicLaws.{not-f, not-i, not-is, or-false-l, or-l}
 use Rattle.machine.specs.WellFormed.{stateBeyond}
 use Rattle.brute.specs.MachineLaws.{observation-at, successors-at}
 use Rattle.brute.proofs.machines.state_past.Goals as goal
@@ -17,11 +17,11 @@ pub returns-then-observed-ne0 : goal.returns-then-observed-ne0
 unfolding stateBeyond
 returns-then-observed-ne0 c =
     let e : c.observed.result ≡ get_or c.args.m.observations c.args.s 0 = observation-at _ _ c.observed.ensures in
-    rw (le-ltb _ _ c.if-s-m.false, ← e) (sym (or_l _ (not-i (ne_eqb _ 0 c.if-observed-ne0.true))))
+    rw (le-ltb _ _ c.if-s-m.false, ← e) (sym (or-l _ (not-i (ne_eqb _ 0 c.if-observed-ne0.true))))
 
 pub returns : goal.returns
 unfolding stateBeyond
 returns c =
     let e : c.observed.result ≡ get_or c.args.m.observations c.args.s 0 = observation-at _ _ c.observed.ensures in
     let f : c.successors_of-2.result ≡ get_or c.args.m.successors c.args.s 0 = successors-at _ _ c.successors_of-2.ensures in
-    rw (le-ltb _ _ c.if-s-m.false, ← e, ← f) (sym (or-false-l _ (not_f (eq-eqb _ 0 c.if-observed-ne0.false)) ∙ not_is _))
+    rw (le-ltb _ _ c.if-s-m.false, ← e, ← f) (sym (or-false-l _ (not-f (eq-eqb _ 0 c.if-observed-ne0.false)) ∙ not-is _))

@@ -5,7 +5,7 @@ use Rattle.machine.specs.Lines.{goalLine}
 use Rattle.machine.specs.Machines.{matched}
 use Rattle.machine.specs.Step.{steps}
 use Rattle.brute.specs.Lines.{inTarget}
-use Rattle.brute.specs.RankingLaws.{keeps-goal, keeps-inside, keeps-lower, keeps_outside, keeps-unmatched}
+use Rattle.brute.specs.RankingLaws.{keeps-goal, keeps-inside, keeps-lower, keeps-outside, keeps-unmatched}
 use Rattle.brute.specs.declared.lines.Target.TheVariants.{AtMost}
 use Rattle.brute.proofs.ranking.is_kept.Goals as goal
 use Rattle.brute.proofs.ranking.is_kept.Goals.{Else-not-is_matched, Else-goal_holds, Else-steps_into}
@@ -16,8 +16,8 @@ held c = sym c.is_matched.ensures ∙ c.if-not-is_matched.false
 no-goal : (c : Else-goal_holds) → let x = c.args in goalLine x.p x.lifted.now x.j x.c x.a ≡ false
 no-goal c = sym c.goal_holds.ensures ∙ c.if-goal_holds.false
 
-not_lower : (c : Else-steps_into) → let x = c.args in steps x.p (inTarget x.p x.ranks.now (AtMost x.low) 0) x.c x.a ≡ false
-not_lower c = sym c.steps_into.ensures ∙ c.if-steps_into.false
+not-lower : (c : Else-steps_into) → let x = c.args in steps x.p (inTarget x.p x.ranks.now (AtMost x.low) 0) x.c x.a ≡ false
+not-lower c = sym c.steps_into.ensures ∙ c.if-steps_into.false
 
 pub returns-then-not-is_matched : goal.returns-then-not-is_matched
 returns-then-not-is_matched c =
@@ -37,10 +37,10 @@ returns-then-steps_into c =
 pub returns-then-in_set : goal.returns-then-in_set
 returns-then-in_set c =
     let x = c.args in
-    sym (keeps-inside x.p x.lifted.now x.j x.ranks.now x.low x.k x.set.now x.c x.a (held (goal.at.returns-then-in_set c).Else-not-is_matched) (no-goal (goal.at.returns-then-in_set c).Else-goal_holds) (not_lower (goal.at.returns-then-in_set c).Else-steps_into) (sym c.in_set.ensures ∙ c.if-in_set.true))
+    sym (keeps-inside x.p x.lifted.now x.j x.ranks.now x.low x.k x.set.now x.c x.a (held (goal.at.returns-then-in_set c).Else-not-is_matched) (no-goal (goal.at.returns-then-in_set c).Else-goal_holds) (not-lower (goal.at.returns-then-in_set c).Else-steps_into) (sym c.in_set.ensures ∙ c.if-in_set.true))
 
 pub returns : goal.returns
 returns c =
     let x = c.args in
     c.steps_into-2.ensures
-    ∙ sym (keeps_outside x.p x.lifted.now x.j x.ranks.now x.low x.k x.set.now x.c x.a (held (goal.at.returns c).Else-not-is_matched) (no-goal (goal.at.returns c).Else-goal_holds) (not_lower (goal.at.returns c).Else-steps_into) (sym c.in_set.ensures ∙ c.if-in_set.false))
+    ∙ sym (keeps-outside x.p x.lifted.now x.j x.ranks.now x.low x.k x.set.now x.c x.a (held (goal.at.returns c).Else-not-is_matched) (no-goal (goal.at.returns c).Else-goal_holds) (not-lower (goal.at.returns c).Else-steps_into) (sym c.in_set.ensures ∙ c.if-in_set.false))

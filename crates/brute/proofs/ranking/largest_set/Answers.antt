@@ -2,7 +2,7 @@
 use mathlib.Core.Path.{◌∙◌, ap, sym}
 use Prim.Native.Nat.{ℕ}
 use native.Mathlib.Omega.{arith}
-use Rattle.machine.specs.WellFormedLaws.{WellPair, pairs_small, well-pair}
+use Rattle.machine.specs.WellFormedLaws.{WellPair, pairs-small, well-pair}
 use Rattle.brute.specs.Ranking.{largest}
 use Rattle.brute.specs.RankingLaws.{largest-found, largest-less, largest-none}
 use Rattle.brute.proofs.ranking.largest_set.Goals as goal
@@ -12,7 +12,7 @@ well : (c : Start) → WellPair c.args.p
 well c = well-pair c.args.p c.requires.0
 
 pub overflow_mul-concrete : goal.overflow_mul-concrete
-overflow_mul-concrete c = omega (arith, pairs_small _ (well (goal.at.overflow_mul-concrete c).Start))
+overflow_mul-concrete c = omega (arith, pairs-small _ (well (goal.at.overflow_mul-concrete c).Start))
 
 pub loop-x-init : goal.loop-x-init
 loop-x-init c = let a = c.args in ap (λ (x : ℕ). largest a.p a.lifted.now a.j a.ranks.now a.i x) c.full-x.ensures

@@ -3,13 +3,13 @@ use mathlib.Core.Path.{◌∙◌, ◌≡◌, sym}
 use native.Mathlib.Omega.{arith}
 use lib.ListN.{length}
 use borrow.Author.Rules.{rules}
-use Rattle.mask.specs.FrontLaws.{front_length, front-none}
+use Rattle.mask.specs.FrontLaws.{front-length, front-none}
 use Rattle.brute.specs.RankingLaws.{mark-done, mark-outside, mark-ranked, mark-store}
 use Rattle.brute.proofs.ranking.mark.Goals as goal
 use Rattle.brute.proofs.ranking.mark.Goals.{At-loop-e, else-value_at, then-value_at+else-ranks-e, then-value_at+then-ranks-e}
 
 same : (c : At-loop-e) → length c.loop-e.ranks ≡ length c.args.ranks.now
-same c = front_length _ _ c.loop-e.invariant.1 (omega (arith, c.loop-e.invariant.0, c.requires))
+same c = front-length _ _ c.loop-e.invariant.1 (omega (arith, c.loop-e.invariant.0, c.requires))
 
 pub loop-e-init : goal.loop-e-init
 loop-e-init c = (search rules, front-none _ _)

@@ -5,7 +5,7 @@ use native.Mathlib.Omega.{arith}
 use lib.ListN.{length-replicate}
 use borrow.Author.Rules.{rules}
 use Rattle.machine.specs.Machines.{pairs, setsC}
-use Rattle.machine.specs.WellFormedLaws.{WellPair, pairs_small, ranks-small, well-pair}
+use Rattle.machine.specs.WellFormedLaws.{WellPair, pairs-small, ranks-small, well-pair}
 use Rattle.brute.specs.Ranking.{pairRoom}
 use Rattle.brute.specs.RankingLaws.{ranked-start, ranked-step}
 use Rattle.brute.proofs.ranking.rank_pairs.Goals as goal
@@ -15,7 +15,7 @@ well : (c : Start) → WellPair c.args.p
 well c = well-pair c.args.p c.requires.0
 
 pub overflow_mul-pairs : goal.overflow_mul-pairs
-overflow_mul-pairs c = omega (arith, pairs_small _ (well (goal.at.overflow_mul-pairs c).Start))
+overflow_mul-pairs c = omega (arith, pairs-small _ (well (goal.at.overflow_mul-pairs c).Start))
 
 pub overflow_mul-i-end : goal.overflow_mul-i-end
 overflow_mul-i-end c = omega (arith, ranks-small _ (well (goal.at.overflow_mul-i-end c).Start))
@@ -26,7 +26,7 @@ loop-i-init c = let x = c.args in (search rules, refl, ranked-start x.p x.lifted
 pub put_largest-requires : goal.put_largest-requires
 put_largest-requires c =
     let s = (goal.at.put_largest-requires c).Start in
-    (s.requires.0, (s.requires.1.0, (c.loop-i-test.true, rw (length-replicate {A = ℕ} pairRoom 0) (pairs_small _ (well s)))))
+    (s.requires.0, (s.requires.1.0, (c.loop-i-test.true, rw (length-replicate {A = ℕ} pairRoom 0) (pairs-small _ (well s)))))
 
 pub overflow_add-i : goal.overflow_add-i
 overflow_add-i c = omega (arith, ranks-small _ (well (goal.at.overflow_add-i c).Start))

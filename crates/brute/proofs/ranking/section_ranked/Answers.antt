@@ -7,8 +7,8 @@ use borrow.Author.Count.{below_more, below_none}
 use borrow.Author.Rules.{rules}
 use Rattle.machine.specs.Machines.{pairs}
 use Rattle.machine.specs.Table.{blank, tableRoom}
-use Rattle.machine.specs.WellFormedLaws.{WellPair, pairs_small, section-fits, well-pair}
-use Rattle.brute.specs.Ranking.{pairRoom, rank_of, shownEntry}
+use Rattle.machine.specs.WellFormedLaws.{WellPair, pairs-small, section-fits, well-pair}
+use Rattle.brute.specs.Ranking.{pairRoom, rankOf, shownEntry}
 use Rattle.brute.specs.RankingLaws.{section-all, section-not}
 use Rattle.brute.proofs.ranking.section_ranked.Goals as goal
 use Rattle.brute.proofs.ranking.section_ranked.Goals.{After-shown, Start}
@@ -20,20 +20,20 @@ fits : (c : Start) → let x = c.args in x.j * pairs x.p + pairs x.p ≤ tableRo
 fits c = section-fits c.args.p (well c) c.args.j c.requires.1
 
 -- what counts of the rank and of the entry that are compared
-rank_is : (c : After-shown) → let x = c.args in
-    c.shown-rank.result ≡ shownEntry x.exact (rank_of x.p x.lifted.now x.j c.rank_pairs.new.ranks c.loop-e.e)
-rank_is c = c.shown-rank.ensures ∙ ap (shownEntry c.args.exact) c.rank_of.ensures
+rank-is : (c : After-shown) → let x = c.args in
+    c.shown-rank.result ≡ shownEntry x.exact (rankOf x.p x.lifted.now x.j c.rank_pairs.new.ranks c.loop-e.e)
+rank-is c = c.shown-rank.ensures ∙ ap (shownEntry c.args.exact) c.rank_of.ensures
 
 entry-is : (c : After-shown) → let x = c.args in
     c.shown.result ≡ shownEntry x.exact (get_or x.table.now (x.j * pairs x.p + c.loop-e.e) 0)
 entry-is c = c.shown.ensures ∙ ap (shownEntry c.args.exact) c.value_at.ensures
 
 pub overflow_mul-pairs : goal.overflow_mul-pairs
-overflow_mul-pairs c = omega (arith, pairs_small _ (well (goal.at.overflow_mul-pairs c).Start))
+overflow_mul-pairs c = omega (arith, pairs-small _ (well (goal.at.overflow_mul-pairs c).Start))
 
 pub rank_pairs-requires : goal.rank_pairs-requires
 rank_pairs-requires c =
-    (c.requires.0, (c.requires.1, rw (length-replicate pairRoom blank) (pairs_small _ (well (goal.at.rank_pairs-requires c).Start))))
+    (c.requires.0, (c.requires.1, rw (length-replicate pairRoom blank) (pairs-small _ (well (goal.at.rank_pairs-requires c).Start))))
 
 pub loop-e-init : goal.loop-e-init
 loop-e-init c = (search rules, below_none _)
@@ -51,13 +51,13 @@ pub returns-then-rank-shown : goal.returns-then-rank-shown
 returns-then-rank-shown c =
     let x = c.args in
     sym (section-not x.p x.exact x.lifted.now x.table.now x.j c.rank_pairs.ensures c.loop-e.e c.loop-e-test.true
-    (λ z. c.if-rank-shown.true (rank_is (goal.at.returns-then-rank-shown c).After-shown ∙ z ∙ sym (entry-is (goal.at.returns-then-rank-shown c).After-shown))))
+    (λ z. c.if-rank-shown.true (rank-is (goal.at.returns-then-rank-shown c).After-shown ∙ z ∙ sym (entry-is (goal.at.returns-then-rank-shown c).After-shown))))
 
 pub overflow_step-e : goal.overflow_step-e
-overflow_step-e c = omega (arith, pairs_small _ (well (goal.at.overflow_step-e c).Start))
+overflow_step-e c = omega (arith, pairs-small _ (well (goal.at.overflow_step-e c).Start))
 
 pub loop-e-preserved : goal.loop-e-preserved
-loop-e-preserved c = (search rules, below_more _ _ c.loop-e.invariant.1 (sym (rank_is (goal.at.loop-e-preserved c).After-shown) ∙ c.if-rank-shown.false ∙ entry-is (goal.at.loop-e-preserved c).After-shown))
+loop-e-preserved c = (search rules, below_more _ _ c.loop-e.invariant.1 (sym (rank-is (goal.at.loop-e-preserved c).After-shown) ∙ c.if-rank-shown.false ∙ entry-is (goal.at.loop-e-preserved c).After-shown))
 
 pub returns : goal.returns
 returns c =

@@ -6,13 +6,13 @@ use native.Mathlib.Omega.{arith}
 use lib.ListN.{length, length-set}
 use borrow.Author.Rules.{rules}
 use Rattle.machine.specs.Machines.{pairs}
-use Rattle.machine.specs.WellFormedLaws.{pairs_small, well-pair}
+use Rattle.machine.specs.WellFormedLaws.{pairs-small, well-pair}
 use Rattle.brute.specs.RankingLaws.{struck-done, struck-next, struck-none, unkept-le}
 use Rattle.brute.proofs.ranking.strike_out.Goals as goal
 use Rattle.brute.proofs.ranking.strike_out.Goals.{Else-e-pairs, Start}
 
 small : (c : Start) → pairs c.args.p ≤ 4096
-small c = pairs_small _ (well-pair _ c.requires.0)
+small c = pairs-small _ (well-pair _ c.requires.0)
 
 -- the pair that is struck out lies in the set's room
 inside : (c : Else-e-pairs) → c.first_unkept-e.result < length c.loop.set

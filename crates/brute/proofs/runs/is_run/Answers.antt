@@ -7,8 +7,8 @@ use borrow.Author.Count.{below_more, below_none}
 use borrow.Author.Rules.{rules}
 use borrow.Author.Tests.{eq-eqb, ne_eqb}
 use Rattle.machine.specs.Lassos.{given}
-use Rattle.mask.specs.BoundedLaws.{every-not, every_of}
-use Rattle.mask.specs.LogicLaws.{and-false-l, and_false_r, and_i}
+use Rattle.mask.specs.BoundedLaws.{every-not, every-of}
+use Rattle.mask.specs.LogicLaws.{and-false-l, and-false-r, and-i}
 use Rattle.machine.specs.Player.{Place, placeAt}
 use Rattle.machine.specs.RefusalsLaws.{tested-refused, tested-valid}
 use Rattle.machine.specs.WellFormed.{isValid, wellFormed}
@@ -37,10 +37,10 @@ pub place_at-at-requires : goal.place_at-at-requires
 place_at-at-requires c = valid (goal.at.place_at-at-requires c).In_default
 
 pub returns-then-byte_at-at : goal.returns-then-byte_at-at
-returns-then-byte_at-at c = sym (and_false_r _ (every-not _ _ c.loop-t.t (omega arith) (ne_eqb _ _ (λ e. c.if-byte_at-at.true (byte (goal.at.returns-then-byte_at-at c).After-byte_at ∙ e ∙ sym (placed (goal.at.returns-then-byte_at-at c).After-place_at-at))))))
+returns-then-byte_at-at c = sym (and-false-r _ (every-not _ _ c.loop-t.t (omega arith) (ne_eqb _ _ (λ e. c.if-byte_at-at.true (byte (goal.at.returns-then-byte_at-at c).After-byte_at ∙ e ∙ sym (placed (goal.at.returns-then-byte_at-at c).After-place_at-at))))))
 
 pub loop-t-preserved : goal.loop-t-preserved
 loop-t-preserved c = (search rules, below_more _ _ c.loop-t.invariant.1 (eq-eqb _ _ (sym (byte (goal.at.loop-t-preserved c).After-byte_at) ∙ c.if-byte_at-at.false ∙ placed (goal.at.loop-t-preserved c).After-place_at-at)))
 
 pub returns : goal.returns
-returns c = sym (and_i (valid (goal.at.returns c).In_default) (every_of _ _ (λ i h. c.loop-t.invariant.1 i (omega arith))))
+returns c = sym (and-i (valid (goal.at.returns c).In_default) (every-of _ _ (λ i h. c.loop-t.invariant.1 i (omega arith))))

@@ -4,7 +4,7 @@ use native.Mathlib.Omega.{arith}
 use borrow.Author.Count.{below_more, below_none}
 use borrow.Author.Rules.{rules}
 use Rattle.machine.specs.Lassos.{given}
-use Rattle.brute.specs.ScanLaws.{last-is, last_none, round-found, round-none}
+use Rattle.brute.specs.ScanLaws.{last-is, last-none, round-found, round-none}
 use Rattle.brute.proofs.runs.last_round.Goals as goal
 
 pub loop-y-init : goal.loop-y-init
@@ -29,4 +29,4 @@ loop-y-preserved c =
 pub returns : goal.returns
 returns c =
     let a = c.args in
-    sym (last_none a.p a.table.now (given a.stem.now a.cycle.now) (λ k h. c.loop-y.invariant.1 k (omega arith)))
+    sym (last-none a.p a.table.now (given a.stem.now a.cycle.now) (λ k h. c.loop-y.invariant.1 k (omega arith)))

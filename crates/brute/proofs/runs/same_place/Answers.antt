@@ -5,7 +5,7 @@ use native.Mathlib.Omega.{arith}
 use lib.ListN.{length}
 use Rattle.machine.specs.Lassos.{given}
 use Rattle.machine.specs.WellFormedLaws.{mul-bound}
-use Rattle.brute.specs.ScanLaws.{place_other, place_same}
+use Rattle.brute.specs.ScanLaws.{place-other, place-same}
 use Rattle.brute.proofs.runs.same_place.Goals as goal
 use Rattle.brute.proofs.runs.same_place.Goals.{Start}
 
@@ -34,9 +34,9 @@ place_at-v-requires c = c.requires.0
 pub returns-then-u-v : goal.returns-then-u-v
 returns-then-u-v c =
     let a = c.args in
-    sym (place_other a.p a.table.now (given a.stem.now a.cycle.now) a.x a.y _ _ c.place_at-u.ensures c.place_at-v.ensures c.if-u-v.true)
+    sym (place-other a.p a.table.now (given a.stem.now a.cycle.now) a.x a.y _ _ c.place_at-u.ensures c.place_at-v.ensures c.if-u-v.true)
 
 pub returns : goal.returns
 returns c =
     let a = c.args in
-    sym (place_same a.p a.table.now (given a.stem.now a.cycle.now) a.x a.y _ _ c.place_at-u.ensures c.place_at-v.ensures c.if-u-v.false)
+    sym (place-same a.p a.table.now (given a.stem.now a.cycle.now) a.x a.y _ _ c.place_at-u.ensures c.place_at-v.ensures c.if-u-v.false)

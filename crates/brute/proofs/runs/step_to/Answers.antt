@@ -3,7 +3,7 @@ use native.Mathlib.Omega.{arith}
 use Rattle.machine.specs.WellFormedLaws.{WellPair, well-pair}
 use Rattle.brute.specs.Runs.{asPlace}
 use Rattle.machine.specs.PlayerLaws.{section-lt}
-use Rattle.brute.specs.ScanLaws.{step_is}
+use Rattle.brute.specs.ScanLaws.{step-is}
 use Rattle.brute.proofs.runs.step_to.Goals as goal
 use Rattle.brute.proofs.runs.step_to.Goals.{Start}
 
@@ -22,4 +22,4 @@ least_partner-found-requires c =
 pub returns : goal.returns
 returns c =
     let x = c.args in
-    rw c.state_of.ensures (step_is x.p x.table.now x.c x.d _ (asPlace x.at) _ _ c.section_after-j.ensures c.successors_of-moves.ensures c.least_partner-found.ensures)
+    rw c.state_of.ensures (step-is x.p x.table.now x.c x.d _ (asPlace x.at) _ _ c.section_after-j.ensures c.successors_of-moves.ensures c.least_partner-found.ensures)

@@ -1,8 +1,8 @@
 -- The size that the first block tells gives 2 to 5 and 19 of block 0, and beside the length 6.
 use mathlib.Core.Path.{◌≡◌, sym, ap, ◌∙◌}
-use Rattle.machine.specs.Refusals.{valid, refused, tested_of}
+use Rattle.machine.specs.Refusals.{valid, refused, testedOf}
 use Rattle.machine.specs.RefusalsLaws.{then-of, then-refused, given-at, given-refused}
-use Rattle.codec.specs.Reader.{firstValidity, demanded, size_of}
+use Rattle.codec.specs.Reader.{firstValidity, demanded, sizeOf}
 use Rattle.codec.specs.ReaderLaws.{wrong-length-is}
 use Rattle.codec.specs.AnswersLaws.{sized-bytes, sized-refused}
 use Rattle.codec.proofs.reader.file_validity.Goals as goal
@@ -10,11 +10,11 @@ use Rattle.codec.proofs.reader.file_validity.Goals.{In-Bytes}
 
 -- where the call gives a length, the first block is right, and the length is the one that it demands
 told : (c : In-Bytes) → let f = c.args.bytes.now in (firstValidity f ≡ valid) × (demanded f ≡ c.in-Bytes.n)
-unfolding size_of
+unfolding sizeOf
 told c = given-at _ _ (sized-bytes c.file_size.ensures c.in-Bytes.is)
 
 pub returns-then-bytes-n : goal.returns-then-bytes-n
-unfolding tested_of
+unfolding testedOf
 returns-then-bytes-n c =
     let t = told (goal.at.returns-then-bytes-n c).In-Bytes in
     ap refused c.refuse.ensures ∙ sym (then-of _ _ t.0 ∙ wrong-length-is _ (λ e. c.if-bytes-n.true (e ∙ t.1)))
@@ -23,7 +23,7 @@ pub later_validity-requires : goal.later_validity-requires
 later_validity-requires c = c.if-bytes-n.false ∙ sym (told (goal.at.later_validity-requires c).In-Bytes).1
 
 pub returns-in-Refused : goal.returns-in-Refused
-unfolding tested_of size_of
+unfolding testedOf sizeOf
 returns-in-Refused c = sym (then-refused _ _ _ (given-refused _ _ (sized-refused c.file_size.ensures c.in-Refused.is)))
 
 pub returns-else-bytes-n : goal.returns-else-bytes-n

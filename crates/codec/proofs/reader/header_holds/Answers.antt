@@ -3,7 +3,7 @@ use Prim.Native.Nat.{ℕ}
 use mathlib.Core.Path.{sym, ◌∙◌, ap}
 use borrow.Author.Tests.{le-leb, lt-leb}
 use lib.Dec.{leb}
-use Rattle.mask.specs.LogicLaws.{and-true-l, and-false-l, and_false_r}
+use Rattle.mask.specs.LogicLaws.{and-true-l, and-false-l, and-false-r}
 use Rattle.codec.specs.Reader.{headerHolds}
 use Rattle.codec.specs.ReaderLaws.{zeros-header}
 use Rattle.codec.proofs.reader.header_holds.Goals as goal
@@ -15,7 +15,7 @@ returns-then-not-letters_hold c = sym (and-false-l _ (sym c.letters_hold.ensures
 pub returns-then-header_byte-gt1 : goal.returns-then-header_byte-gt1
 unfolding headerHolds
 returns-then-header_byte-gt1 c =
-    sym (and_false_r _ (and-false-l _ (ap (λ (x : ℕ). leb x 1) (sym c.header_byte.ensures.value) ∙ lt-leb _ 1 c.if-header_byte-gt1.true)))
+    sym (and-false-r _ (and-false-l _ (ap (λ (x : ℕ). leb x 1) (sym c.header_byte.ensures.value) ∙ lt-leb _ 1 c.if-header_byte-gt1.true)))
 
 pub returns : goal.returns
 unfolding headerHolds

@@ -6,7 +6,7 @@ use native.Mathlib.Omega.{arith}
 use lib.ListN.{get_or}
 use borrow.Author.Count.{below_none, below_more}
 use borrow.Author.Tests.{eq-eqb, ne_eqb}
-use Rattle.mask.specs.BoundedLaws.{every_of, every-not}
+use Rattle.mask.specs.BoundedLaws.{every-of, every-not}
 use Rattle.codec.specs.Reader.{headerByte}
 use Rattle.codec.proofs.reader.letters_hold.Goals as goal
 
@@ -26,4 +26,4 @@ loop-i-preserved c =
     (omega arith, l.invariant.1, below_more _ _ l.invariant.2 (eq-eqb _ _ (c.if-bytes-i.false ∙ ap (λ (t : List ℕ). get_or t l.i 0) l.invariant.1)))
 
 pub returns : goal.returns
-returns c = sym (every_of 4 _ (λ k h. c.loop-i.invariant.2 k (omega arith)))
+returns c = sym (every-of 4 _ (λ k h. c.loop-i.invariant.2 k (omega arith)))

@@ -1,21 +1,21 @@
 -- The tests are made in the order of the definition; where none of them refuses, what is taken is what is said.
 use mathlib.Core.Path.{◌≡◌, sym, ap, ◌∙◌}
-use Rattle.machine.specs.Refusals.{and_then, refused, valid}
+use Rattle.machine.specs.Refusals.{andThen, refused, valid}
 use Rattle.machine.specs.RefusalsLaws.{then-refused, tested-valid, tested-refused, buffer-kept}
 use Rattle.codec.specs.Reader.{firstValidity, blocksValidity, readAnswer, readTable}
-use Rattle.codec.specs.ReaderLaws.{read_short, tests-refused, read-pair}
+use Rattle.codec.specs.ReaderLaws.{read-short, tests-refused, read-pair}
 use Rattle.codec.specs.AnswersLaws.{shown-refused}
 use Rattle.codec.proofs.reader.read_file.Goals as goal
 use Rattle.codec.proofs.reader.read_file.Goals.{In-Valid}
 
 -- the tests of the whole file say that it is right
-right : (c : In-Valid) → let f = c.args.bytes.now in and_then (firstValidity f) (blocksValidity f) ≡ valid
+right : (c : In-Valid) → let f = c.args.bytes.now in andThen (firstValidity f) (blocksValidity f) ≡ valid
 right c = tested-valid c.file_validity.ensures c.in-Valid.is
 
 pub returns-then-table-lt-TABLE_ROOM : goal.returns-then-table-lt-TABLE_ROOM
 unfolding readAnswer readTable
 returns-then-table-lt-TABLE_ROOM c =
-    let e = read_short c.args.bytes.now _ c.if-table-lt-TABLE_ROOM.true in
+    let e = read-short c.args.bytes.now _ c.if-table-lt-TABLE_ROOM.true in
     let shown = shown-refused c.refused_show.result (then-refused _ _ _ e) (c.refused_show.ensures.answer ∙ ap refused c.refuse.ensures) c.refused_show.ensures.machines in
     record { answer = shown.0; machines = shown.1; content = sym (buffer-kept _ _ _ e) }
 

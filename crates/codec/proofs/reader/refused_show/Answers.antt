@@ -1,9 +1,9 @@
 -- The reading is the refusal, and both machines beside it are the zero machine.
 use mathlib.Core.Path.{refl}
 use Rattle.codec.specs.Reader.{zeroPair}
-use Rattle.codec.specs.Answers.{read_of, readBeside}
+use Rattle.codec.specs.Answers.{readOf, readBeside}
 use Rattle.codec.proofs.reader.refused_show.Goals as goal
 
 pub returns : goal.returns
-unfolding read_of readBeside zeroPair
+unfolding readOf readBeside zeroPair
 returns c = record { answer = refl; machines = rw (c.zero_machine.ensures, c.zero_machine-2.ensures) }

@@ -5,7 +5,7 @@ use native.Mathlib.Omega.{arith}
 use Rattle.codec.specs.Format.{numberAt}
 use Rattle.codec.specs.Loading.{entriesPlace, entriesCount}
 use Rattle.mask.specs.Tables.{front}
-use Rattle.codec.specs.ReaderLaws.{pairs-room, entries_fit, entries-end, table_is}
+use Rattle.codec.specs.ReaderLaws.{pairs-room, entries-fit, entries-end, table_is}
 use Rattle.codec.proofs.reader.table_at.Goals as goal
 use Rattle.codec.proofs.reader.table_at.Goals.{After-payload_length-at}
 
@@ -31,12 +31,12 @@ overflow_mul-c c = omega (arith, pairs-room c.header_byte-c.result c.header_byte
 
 pub overflow_mul-n : goal.overflow_mul-n
 overflow_mul-n c =
-    omega (arith, counted (goal.at.overflow_mul-n c).After-payload_length-at, entries_fit c.args.bytes.now c.requires.loaded.counts)
+    omega (arith, counted (goal.at.overflow_mul-n c).After-payload_length-at, entries-fit c.args.bytes.now c.requires.loaded.counts)
 
 pub entries_at-requires : goal.entries_at-requires
 entries_at-requires c =
     let f = c.args.bytes.now in
-    omega (arith, counted (goal.at.entries_at-requires c).After-payload_length-at, placed (goal.at.entries_at-requires c).After-payload_length-at, entries_fit f c.requires.loaded.counts, entries-end f c.requires.bytes_value, c.requires.table_room_in_bounds, c.requires.loaded)
+    omega (arith, counted (goal.at.entries_at-requires c).After-payload_length-at, placed (goal.at.entries_at-requires c).After-payload_length-at, entries-fit f c.requires.loaded.counts, entries-end f c.requires.bytes_value, c.requires.table_room_in_bounds, c.requires.loaded)
 
 pub returns : goal.returns
 returns c =

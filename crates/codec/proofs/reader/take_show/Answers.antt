@@ -5,26 +5,26 @@ use mathlib.Core.List.{List}
 use mathlib.Core.Path.{◌≡◌, sym, ap, ◌∙◌}
 use native.Mathlib.Omega.{arith}
 use lib.ListN.{length, length-replicate}
-use Rattle.machine.specs.Refusals.{and_then, valid, tested_of}
+use Rattle.machine.specs.Refusals.{andThen, valid, testedOf}
 use Rattle.machine.specs.RefusalsLaws.{then-answer, then-refused, then-of, tested-valid, tested-refused, buffer-kept}
 use Rattle.machine.specs.WellFormed.{pairValidity}
 use Rattle.codec.specs.Format.{payloadRoom}
-use Rattle.codec.specs.Reader.{firstValidity, blocksValidity, demanded, pair_of}
-use Rattle.codec.specs.Answers.{read_of}
+use Rattle.codec.specs.Reader.{firstValidity, blocksValidity, demanded, pairOf}
+use Rattle.codec.specs.Answers.{readOf}
 use Rattle.codec.specs.Loading.{Loaded}
 use Rattle.codec.specs.ReaderLaws.{FirstValid, first-valid, blocks-valid, few-blocks, loaded, table-after}
 use Rattle.codec.specs.AnswersLaws.{shown-taken, shown-refused}
 use Rattle.codec.proofs.reader.take_show.Goals as goal
 use Rattle.codec.proofs.reader.take_show.Goals.{In-Valid, After-join, After-pair_validity}
 
-first : (f : List ℕ) → and_then (firstValidity f) (blocksValidity f) ≡ valid → FirstValid f
+first : (f : List ℕ) → andThen (firstValidity f) (blocksValidity f) ≡ valid → FirstValid f
 first f e = first-valid f (then-answer _ _ e).0
 
-long : (f : List ℕ) → and_then (firstValidity f) (blocksValidity f) ≡ valid → length f ≡ demanded f
+long : (f : List ℕ) → andThen (firstValidity f) (blocksValidity f) ≡ valid → length f ≡ demanded f
 long f e = (blocks-valid f (then-answer _ _ e).1).long
 
 -- the payload fits its array
-room : (f : List ℕ) → and_then (firstValidity f) (blocksValidity f) ≡ valid → 508 * (length f / 512) ≤ payloadRoom
+room : (f : List ℕ) → andThen (firstValidity f) (blocksValidity f) ≡ valid → 508 * (length f / 512) ≤ payloadRoom
 room f e = omega (arith, few-blocks f (first f e) (long f e))
 
 -- and is there once it is joined
@@ -35,10 +35,10 @@ there c =
     loaded f _ payloadRoom (first f e) (long f e) (room f e) c.join.ensures
 
 -- the pair that was read, and what its tests say
-read : (c : After-pair_validity) → tested_of c.pair_validity.result ≡ pairValidity (pair_of c.args.bytes.now)
+read : (c : After-pair_validity) → testedOf c.pair_validity.result ≡ pairValidity (pairOf c.args.bytes.now)
 read c = c.pair_validity.ensures ∙ ap pairValidity c.pair_at-pair.ensures
 
-right : (c : In-Valid) → pairValidity (pair_of c.args.bytes.now) ≡ valid
+right : (c : In-Valid) → pairValidity (pairOf c.args.bytes.now) ≡ valid
 right c = tested-valid (c.pair_validity.ensures ∙ ap pairValidity c.pair_at-pair.ensures) c.in-Valid.is
 
 pub join-requires : goal.join-requires
@@ -65,7 +65,7 @@ returns-in-Refused c =
     record { answer = shown.0; machines = shown.1; content = sym (buffer-kept _ _ _ e) }
 
 pub returns-then-note : goal.returns-then-note
-unfolding read_of
+unfolding readOf
 returns-then-note c =
     let e = right (goal.at.returns-then-note c).In-Valid in
     let shown = shown-taken _ (then-of _ _ e) c.pair_at-pair.ensures c.note_of-note.ensures in
@@ -76,7 +76,7 @@ returns-then-note c =
     }
 
 pub returns-else-note : goal.returns-else-note
-unfolding read_of
+unfolding readOf
 returns-else-note c =
     let e = right (goal.at.returns-else-note c).In-Valid in
     let shown = shown-taken _ (then-of _ _ e) c.pair_at-pair.ensures c.note_of-note.ensures in

@@ -1,6 +1,6 @@
 -- The header, the two machines and the table are stored one behind the other.
 use native.Mathlib.Omega.{arith}
-use Rattle.machine.specs.WellFormedLaws.{well-pair, pairs_small, entries-small}
+use Rattle.machine.specs.WellFormedLaws.{well-pair, pairs-small, entries-small}
 use Rattle.codec.specs.WriterLaws.{store-table, store-no-table}
 use Rattle.codec.proofs.writer.put_payload.Goals as goal
 
@@ -17,7 +17,7 @@ pub overflow_mul-count : goal.overflow_mul-count
 overflow_mul-count c =
     let x = c.args in
     let w = well-pair x.p c.requires.p_value in
-    omega (arith, pairs_small x.p w)
+    omega (arith, pairs-small x.p w)
 
 pub overflow_mul-count-then-with_table : goal.overflow_mul-count-then-with_table
 overflow_mul-count-then-with_table c =

@@ -1,13 +1,13 @@
 -- The invariant: the sum of the first x lassos.
 use Rattle.std.proofs.Common.{◌*◌, ◌≤◌, arith, rules}
 use Rattle.machine.specs.WellFormedLaws.{mul-bound}
-use Rattle.comparison.specs.LassosLaws.{shape_is}
+use Rattle.comparison.specs.LassosLaws.{shape-is}
 use Rattle.comparison.specs.TalliesLaws.{total-start, total-more}
 use Rattle.comparison.proofs.lassos.compare_shape.Goals as goal
 use Rattle.comparison.proofs.lassos.compare_shape.Goals.{After-power_of-2}
 
 small : (c : After-power_of-2) → c.power_of.result * c.power_of-2.result ≤ 65536 * 65536
-small c = mul-bound _ _ 65536 65536 c.power_of.ensures.upper_bound c.power_of-2.ensures.upper_bound
+small c = mul-bound _ _ 65536 65536 c.power_of.ensures.bound c.power_of-2.ensures.bound
 
 pub overflow_mul-x-end : goal.overflow_mul-x-end
 overflow_mul-x-end c = omega (arith, small (goal.at.overflow_mul-x-end c).After-power_of-2)
@@ -22,4 +22,4 @@ pub loop-x-preserved : goal.loop-x-preserved
 loop-x-preserved c = (search rules, total-more _ _ _ _ _ c.loop-x.invariant.1 c.compare_numbered.ensures c.add-sum.ensures)
 
 pub returns : goal.returns
-returns c = shape_is _ _ _ _ _ _ _ _ _ c.power_of.ensures.value c.power_of-2.ensures.value (omega arith) c.loop-x.invariant.1
+returns c = shape-is _ _ _ _ _ _ _ _ _ c.power_of.ensures.value c.power_of-2.ensures.value (omega arith) c.loop-x.invariant.1

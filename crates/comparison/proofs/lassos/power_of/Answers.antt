@@ -9,16 +9,16 @@ square : (c : Start) → c.args.base * c.args.base ≤ 256 * 256
 square c = mul-bound _ _ 256 256 c.requires c.requires
 
 pub returns-then-n-eq0 : goal.returns-then-n-eq0
-returns-then-n-eq0 c = record { value = power-none _ _ c.if-n-eq0.true; upper_bound = omega arith }
+returns-then-n-eq0 c = record { value = power-none _ _ c.if-n-eq0.true; bound = omega arith }
 
 pub overflow_mul-result : goal.overflow_mul-result
 overflow_mul-result c = omega (arith, square (goal.at.overflow_mul-result c).Start)
 
 pub returns-then-n-eq1 : goal.returns-then-n-eq1
-returns-then-n-eq1 c = record { value = power-one _ _ c.if-n-eq1.true; upper_bound = omega arith }
+returns-then-n-eq1 c = record { value = power-one _ _ c.if-n-eq1.true; bound = omega arith }
 
 pub returns-else-n-eq1 : goal.returns-else-n-eq1
 returns-else-n-eq1 c = record {
   value = power-two _ _ c.if-n-eq0.false c.if-n-eq1.false;
-  upper_bound = square (goal.at.returns-else-n-eq1 c).Start;
+  bound = square (goal.at.returns-else-n-eq1 c).Start;
 }

@@ -1,6 +1,6 @@
 -- Each call has its part of the definition as its contract.
 use Rattle.std.proofs.Common.{arith}
-use Rattle.machine.specs.WellFormedLaws.{WellPair, well-pair, pairs_small, ranks-small, entries-small}
+use Rattle.machine.specs.WellFormedLaws.{WellPair, well-pair, pairs-small, ranks-small, entries-small}
 use Rattle.comparison.specs.PairsLaws.{formed-is}
 use Rattle.comparison.proofs.pairs.compare_formed.Goals as goal
 use Rattle.comparison.proofs.pairs.compare_formed.Goals.{Start}
@@ -9,7 +9,7 @@ well : (c : Start) → WellPair c.args.p
 well c = well-pair c.args.p c.requires
 
 pub overflow_mul-pairs : goal.overflow_mul-pairs
-overflow_mul-pairs c = omega (arith, pairs_small _ (well (goal.at.overflow_mul-pairs c).Start))
+overflow_mul-pairs c = omega (arith, pairs-small _ (well (goal.at.overflow_mul-pairs c).Start))
 
 pub overflow_mul-n : goal.overflow_mul-n
 overflow_mul-n c = omega (arith, entries-small _ (well (goal.at.overflow_mul-n c).Start))

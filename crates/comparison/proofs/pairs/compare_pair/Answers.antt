@@ -7,7 +7,7 @@ use Rattle.comparison.proofs.pairs.compare_pair.Goals as goal
 use Rattle.comparison.proofs.pairs.compare_pair.Goals.{In-Valid}
 
 well : (c : In-Valid) → wellFormed c.args.p ≡ true
-well c = solved-well _ _ (tested-valid c.solve-answer.ensures.result_value c.in-Valid.is)
+well c = solved-well _ _ (tested-valid c.solve-answer.ensures.answer c.in-Valid.is)
 
 pub compare_turns-turns-requires : goal.compare_turns-turns-requires
 compare_turns-turns-requires c = well (goal.at.compare_turns-turns-requires c).In-Valid
@@ -17,10 +17,10 @@ compare_formed-requires c = well (goal.at.compare_formed-requires c).In-Valid
 
 pub returns-in-Refused : goal.returns-in-Refused
 returns-in-Refused c =
-    pair-refused _ _ _ _ _ _ _ _ c.solve-answer.ensures.result_value c.nonempty_validity-plain.ensures c.tested_four.ensures c.tested_four-rule.ensures c.same_four.ensures
+    pair-refused _ _ _ _ _ _ _ _ c.solve-answer.ensures.answer c.nonempty_validity-plain.ensures c.tested_four.ensures c.tested_four-rule.ensures c.same_four.ensures
     c.of_pair-tried.ensures _ (tested-refused refl c.in-Refused.is) _ _ _ _ c.compare_stopped.ensures c.add.ensures c.compare_unsolved.ensures c.add-in-Refused.ensures
 
 pub returns-in-Valid : goal.returns-in-Valid
 returns-in-Valid c =
-    pair-formed _ _ _ _ _ _ _ _ c.solve-answer.ensures.result_value c.nonempty_validity-plain.ensures c.tested_four.ensures c.tested_four-rule.ensures c.same_four.ensures
-    c.of_pair-tried.ensures (tested-valid refl c.in-Valid.is) _ _ _ _ _ c.solve-answer.ensures.table_after c.compare_turns-turns.ensures c.add-in-Valid.ensures c.compare_formed.ensures c.add-in-Valid-2.ensures
+    pair-formed _ _ _ _ _ _ _ _ c.solve-answer.ensures.answer c.nonempty_validity-plain.ensures c.tested_four.ensures c.tested_four-rule.ensures c.same_four.ensures
+    c.of_pair-tried.ensures (tested-valid refl c.in-Valid.is) _ _ _ _ _ c.solve-answer.ensures.content c.compare_turns-turns.ensures c.add-in-Valid.ensures c.compare_formed.ensures c.add-in-Valid-2.ensures

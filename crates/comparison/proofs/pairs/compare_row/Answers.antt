@@ -1,7 +1,7 @@
 -- The invariant: the sum of the first i pairs.
 use Rattle.std.proofs.Common.{◌∙◌, arith, rules}
 use Rattle.machine.specs.WellFormedLaws.{mul-bound}
-use Rattle.comparison.specs.PairsLaws.{row_is}
+use Rattle.comparison.specs.PairsLaws.{row-is}
 use Rattle.comparison.specs.TalliesLaws.{total-start, total-more}
 use Rattle.comparison.proofs.pairs.compare_row.Goals as goal
 
@@ -18,4 +18,4 @@ pub loop-i-preserved : goal.loop-i-preserved
 loop-i-preserved c = (search rules, total-more _ _ _ _ _ c.loop-i.invariant.1 (c.compare_pair.ensures ∙ rw c.numbered_pair-p.ensures) c.add-sum.ensures)
 
 pub returns : goal.returns
-returns c = row_is _ _ c.loop-i.i _ (omega arith) c.loop-i.invariant.1
+returns c = row-is _ _ c.loop-i.i _ (omega arith) c.loop-i.invariant.1

@@ -11,5 +11,5 @@ returns c =
     let own = answer.check_table.ensures in
     let form = plain.as_checked.ensures in
     let other = rule.plain_verdict.ensures in
-    table-tally-is _ _ _ _ _ _ _ _ _ _ _ _ _ own.verdict own.empty answer.verdict_four-answer.ensures (form.result_value ∙ other.verdict) (form.result_value_2 ∙ other.empty) plain.verdict_four-plain.ensures
+    table-tally-is _ _ _ _ _ _ _ _ _ _ _ _ _ own.verdict own.empty answer.verdict_four-answer.ensures (form.answer ∙ other.verdict) (form.empty ∙ other.empty) plain.verdict_four-plain.ensures
     c.says_empty.ensures c.table_agrees.ensures c.of_table.ensures

@@ -1,6 +1,6 @@
 -- Each entry passed that the table covers is covered by the other; the first that is not ends the search.
 use Rattle.std.proofs.Common.{sym, ◌∙◌, arith, rules, below_none, below_more}
-use Rattle.comparison.specs.TablesLaws.{too-blank, too-held, too-not, within-not, within_of}
+use Rattle.comparison.specs.TablesLaws.{too-blank, too-held, too-not, within-not, within-of}
 use Rattle.comparison.proofs.tables.is_within.Goals as goal
 use Rattle.comparison.proofs.tables.is_within.Goals.{else-value_at, then-value_at+else-value_at-2}
 
@@ -21,4 +21,4 @@ loop-e-preserved c = (
 )
 
 pub returns : goal.returns
-returns c = sym (within_of _ _ _ (λ k h. c.loop-e.invariant.1 k (omega arith)))
+returns c = sym (within-of _ _ _ (λ k h. c.loop-e.invariant.1 k (omega arith)))

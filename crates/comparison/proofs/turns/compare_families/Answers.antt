@@ -8,7 +8,7 @@ pub loop-x-init : goal.loop-x-init
 loop-x-init c = (search rules, total-start _ _ c.none-sum.ensures)
 
 pub loop-x-preserved : goal.loop-x-preserved
-loop-x-preserved c = (search rules, total-more _ _ _ _ _ c.loop-x.invariant.1 (c.compare_family-step.ensures.tally_value ∙ rw c.numbered_family-family.ensures) c.add-sum.ensures)
+loop-x-preserved c = (search rules, total-more _ _ _ _ _ c.loop-x.invariant.1 (c.compare_family-step.ensures.tally ∙ rw c.numbered_family-family.ensures) c.add-sum.ensures)
 
 pub returns : goal.returns
 returns c = families-is _ _ _ (omega (arith, c.loop-x.invariant.0)) c.loop-x.invariant.1

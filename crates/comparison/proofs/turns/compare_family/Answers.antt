@@ -6,7 +6,7 @@ returns c =
     let x = c.args in
     let turned = c.compare_turn-step.ensures in
     record {
-      tally_value = family-is x.p x.k x.family turned.tally_value c.compare_look_ups.ensures c.add.ensures;
-      finished_value = turned.finished_value;
-      family_value = turned.family_value;
+      tally = family-is x.p x.k x.family turned.tally c.compare_look_ups.ensures c.add.ensures;
+      finished = turned.finished;
+      family = turned.family;
     }

@@ -5,4 +5,4 @@ use Rattle.comparison.proofs.turns.compare_stopped.Goals as goal
 
 pub returns : goal.returns
 unfolding unknown
-returns c = let x = c.args in stopped-is x.p x.plain refl c.first_agrees.ensures c.of_test-first.ensures c.compare_family-step.ensures.tally_value c.add.ensures
+returns c = let x = c.args in stopped-is x.p x.plain refl c.first_agrees.ensures c.of_test-first.ensures c.compare_family-step.ensures.tally c.add.ensures

@@ -1,7 +1,7 @@
 -- Each call has its part of the definition as its contract.
 use Rattle.std.proofs.Common.{refl, arith}
-use Rattle.machine.specs.WellFormedLaws.{WellPair, entries-small, pairs_small, well-pair}
-use Rattle.comparison.specs.Turns.{known_of}
+use Rattle.machine.specs.WellFormedLaws.{WellPair, entries-small, pairs-small, well-pair}
+use Rattle.comparison.specs.Turns.{knownOf}
 use Rattle.comparison.specs.TurnsLaws.{turns-is}
 use Rattle.comparison.proofs.turns.compare_turns.Goals as goal
 use Rattle.comparison.proofs.turns.compare_turns.Goals.{Start}
@@ -10,7 +10,7 @@ well : (c : Start) → WellPair c.args.p
 well c = well-pair c.args.p c.requires
 
 pub overflow_mul-k : goal.overflow_mul-k
-overflow_mul-k c = omega (arith, pairs_small _ (well (goal.at.overflow_mul-k c).Start))
+overflow_mul-k c = omega (arith, pairs-small _ (well (goal.at.overflow_mul-k c).Start))
 
 pub overflow_mul-k-2 : goal.overflow_mul-k-2
 overflow_mul-k-2 c = omega (arith, entries-small _ (well (goal.at.overflow_mul-k-2 c).Start))
@@ -28,7 +28,7 @@ pub compare_walk-walk-requires : goal.compare_walk-walk-requires
 compare_walk-walk-requires c = entries-small _ (well (goal.at.compare_walk-walk-requires c).Start)
 
 pub returns : goal.returns
-unfolding known_of
+unfolding knownOf
 returns c =
     let x = c.args in
     turns-is x.p x.plain x.row x.count x.solved.now refl c.first_agrees.ensures c.of_test-first.ensures c.compare_walk-walk.ensures c.compare_families.ensures c.add.ensures c.add-2.ensures

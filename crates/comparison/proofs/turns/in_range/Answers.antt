@@ -1,10 +1,10 @@
 -- The first number out of range ends it.
 use Rattle.std.proofs.Common.{sym}
-use Rattle.comparison.specs.TurnsLaws.{range-abstract, range-concrete, range_none, range-section}
+use Rattle.comparison.specs.TurnsLaws.{range-abstract, range-concrete, range-none, range-section}
 use Rattle.comparison.proofs.turns.in_range.Goals as goal
 
 pub returns-then-section-eq0 : goal.returns-then-section-eq0
-returns-then-section-eq0 c = let x = c.args in sym (range_none x.k x.section x.c x.a c.if-section-eq0.true)
+returns-then-section-eq0 c = let x = c.args in sym (range-none x.k x.section x.c x.a c.if-section-eq0.true)
 
 pub returns-then-section-k : goal.returns-then-section-k
 returns-then-section-k c = let x = c.args in sym (range-section x.k x.section x.c x.a c.if-section-eq0.false c.if-section-k.true)

@@ -1,5 +1,5 @@
 use Rattle.std.proofs.Common.{sym, ◌∙◌}
-use Rattle.mask.specs.LogicLaws.{not_is}
+use Rattle.mask.specs.LogicLaws.{not-is}
 use Rattle.comparison.specs.TurnsLaws.{look-held, look-out, look-stopped, range-some}
 use Rattle.comparison.proofs.turns.plain_look_up.Goals as goal
 
@@ -17,4 +17,4 @@ overflow_sub-section c = let x = c.args in range-some x.k x.section x.c x.a (sym
 pub returns : goal.returns
 returns c =
     let x = c.args in
-    look-held x.k x.given.now x.section x.c x.a c.if-plain-ne0.false (sym c.in_range.ensures ∙ c.if-not-in_range.false) c.entry_index-e.ensures c.value_at.ensures (sym (not_is _)) c.answered_four.ensures
+    look-held x.k x.given.now x.section x.c x.a c.if-plain-ne0.false (sym c.in_range.ensures ∙ c.if-not-in_range.false) c.entry_index-e.ensures c.value_at.ensures (sym (not-is _)) c.answered_four.ensures

@@ -1,5 +1,5 @@
 use Rattle.std.proofs.Common.{sym, ◌∙◌}
-use Rattle.comparison.specs.TurnsLaws.{table_more, table-ranked, table-unfinished}
+use Rattle.comparison.specs.TurnsLaws.{table-more, table-ranked, table-unfinished}
 use Rattle.comparison.proofs.turns.table_fits.Goals as goal
 
 pub returns-then-not-finished : goal.returns-then-not-finished
@@ -10,7 +10,7 @@ returns-then-not-finished c =
 pub returns-then-not-is_kept : goal.returns-then-not-is_kept
 returns-then-not-is_kept c =
     let x = c.args in
-    sym (table_more x.p x.n x.finished x.given.now x.table.now c.if-not-finished.false (sym c.is_kept-2.ensures ∙ c.if-not-is_kept.true))
+    sym (table-more x.p x.n x.finished x.given.now x.table.now c.if-not-finished.false (sym c.is_kept-2.ensures ∙ c.if-not-is_kept.true))
 
 pub returns : goal.returns
 returns c =

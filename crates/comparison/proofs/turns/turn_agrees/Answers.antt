@@ -1,6 +1,6 @@
 -- Beside a refusal nothing may have changed; otherwise each test that fails ends it.
 use Rattle.std.proofs.Common.{sym, ◌∙◌}
-use Rattle.comparison.specs.TurnsLaws.{made_other, made-rows, made_table, stopped-changed, stopped-kept, stopped-other}
+use Rattle.comparison.specs.TurnsLaws.{made-other, made-rows, made-table, stopped-changed, stopped-kept, stopped-other}
 use Rattle.comparison.proofs.turns.turn_agrees.Goals as goal
 
 pub returns-then-not-same_four : goal.returns-then-not-same_four
@@ -21,7 +21,7 @@ returns-then-plain-ne0 c =
 pub returns-then-not-same_four-2 : goal.returns-then-not-same_four-2
 returns-then-not-same_four-2 c =
     let x = c.args in
-    sym (made_other x.p x.k x.said x.family.now x.next.now x.table.now c.same_rows-same.ensures c.if-plain-ne0.false c.answered_four.ensures (sym c.same_four-2.ensures ∙ c.if-not-same_four-2.true))
+    sym (made-other x.p x.k x.said x.family.now x.next.now x.table.now c.same_rows-same.ensures c.if-plain-ne0.false c.answered_four.ensures (sym c.same_four-2.ensures ∙ c.if-not-same_four-2.true))
 
 pub returns-then-not-rows_fit : goal.returns-then-not-rows_fit
 returns-then-not-rows_fit c =
@@ -32,5 +32,5 @@ returns-then-not-rows_fit c =
 pub returns : goal.returns
 returns c =
     let x = c.args in
-    c.table_fits.ensures ∙ sym (made_table x.p x.k x.said x.family.now x.next.now x.table.now c.same_rows-same.ensures c.if-plain-ne0.false c.answered_four.ensures
+    c.table_fits.ensures ∙ sym (made-table x.p x.k x.said x.family.now x.next.now x.table.now c.same_rows-same.ensures c.if-plain-ne0.false c.answered_four.ensures
     (sym c.same_four-2.ensures ∙ c.if-not-same_four-2.false) c.put_family.ensures (sym c.rows_fit.ensures ∙ c.if-not-rows_fit.false))
