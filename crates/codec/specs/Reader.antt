@@ -149,12 +149,12 @@ unfoldable pub readAnswer : List ℕ → List ℕ → Result Taken
 readAnswer f T = andThen (readValidity f (length T)) (answer (taken (pairOf f) (noteOf f)))
 
 -- what is written to a lent table: "A file without a table leaves the lent table unchanged."
-unfoldable pub table-of : List ℕ → List ℕ
-table-of f = cond (noteOf f) (entriesOf f) []
+unfoldable pub tableOf : List ℕ → List ℕ
+tableOf f = cond (noteOf f) (entriesOf f) []
 
 -- the lent table's final content
 unfoldable pub readTable : List ℕ → List ℕ → List ℕ
-readTable f T = bufferAfter (readValidity f (length T)) (table-of f) T
+readTable f T = bufferAfter (readValidity f (length T)) (tableOf f) T
 
 -- "Beside a refusal all machines .. in the result are zero", and so is the hidden mask
 unfoldable pub zeroMachine : Machine

@@ -23,7 +23,7 @@ use Rattle.machine.specs.WellFormed.{pairValidity}
 use Rattle.machine.specs.WellFormedLaws.{counts-at, mul-bound}
 use Rattle.machine.specs.Table.{tableRoom}
 use Rattle.codec.specs.Format.{numberAt, payloadMost, payloadLength, fileLength, blocksFor}
-use Rattle.codec.specs.Reader.{checkHolds, numberFound, damagedNumber, blockValidity, BlockHolds, headerByte, noteOf, headerHolds, countsHold, headerValidity, firstValidity, payloadDemanded, demanded, laterBlocks, paddingHolds, blocksValidity, payloadByte, payloadOf, machineAt, pairOf, entriesOf, readValidity, table-of}
+use Rattle.codec.specs.Reader.{checkHolds, numberFound, damagedNumber, blockValidity, BlockHolds, headerByte, noteOf, headerHolds, countsHold, headerValidity, firstValidity, payloadDemanded, demanded, laterBlocks, paddingHolds, blocksValidity, payloadByte, payloadOf, machineAt, pairOf, entriesOf, readValidity, tableOf}
 use Rattle.codec.specs.Loading.{entriesPlace, entriesCount, Loaded}
 use Rattle.mask.specs.Tables.{front}
 use Rattle.codec.specs.NumberLaws.{number-cong}
@@ -310,8 +310,8 @@ loaded f Q w v e h q =
 -- ---- the lent table, and all the tests in their order
 -- the lent table of a reading that is not refused
 pub table-after : (f T : List ℕ) (v : Tested) (note : Bool) → v ≡ valid → noteOf f ≡ note
-    → bufferAfter v (table-of f) T ≡ cond note (entriesOf f ++ drop (length (entriesOf f)) T) T
-unfolding table-of
+    → bufferAfter v (tableOf f) T ≡ cond note (entriesOf f ++ drop (length (entriesOf f)) T) T
+unfolding tableOf
 table-after f T v note e t = buffer-made v (cond (noteOf f) (entriesOf f) []) T e ∙ rw t (cases note)
   where
     cases : (n : Bool) → cond n (entriesOf f) [] ++ drop (length (cond n (entriesOf f) [])) T ≡ cond n (entriesOf f ++ drop (length (entriesOf f)) T) T

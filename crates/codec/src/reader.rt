@@ -5,7 +5,7 @@ ghost use Rattle.machine.specs.Refusals.{answer, refused, valid, testedOf, andTh
 ghost use Rattle.machine.specs.WellFormed.{pairValidity};
 ghost use Rattle.machine.specs.Table.{tableRoom};
 ghost use Rattle.codec.specs.Format.{letters, numberAt, payloadLength};
-ghost use Rattle.codec.specs.Reader.{checkHolds, numberFound, damagedNumber, blockValidity, payloadByte, headerByte, noteOf, headerHolds, countsHold, headerValidity, firstValidity, payloadDemanded, demanded, laterBlocks, paddingHolds, blocksValidity, machineAt, pairOf, entriesOf, taken, readAnswer, table-of, readTable, zeroMachine, zeroPair, sizeOf};
+ghost use Rattle.codec.specs.Reader.{checkHolds, numberFound, damagedNumber, blockValidity, payloadByte, headerByte, noteOf, headerHolds, countsHold, headerValidity, firstValidity, payloadDemanded, demanded, laterBlocks, paddingHolds, blocksValidity, machineAt, pairOf, entriesOf, taken, readAnswer, tableOf, readTable, zeroMachine, zeroPair, sizeOf};
 ghost use Rattle.codec.specs.Answers.{readOf, pairGiven, sizedOf, refusalOf};
 ghost use Rattle.codec.specs.Loading.{Loaded};
 ghost use Rattle.mask.specs.Tables.{front};
@@ -411,7 +411,7 @@ fn take_show(bytes: &[u8], table: &mut [u16]) -> Show
     requires table_room_in_bounds { tableRoom ≤ length table.old }
     ensures answer { readOf result ≡ andThen (pairValidity (pairOf bytes.now)) (answer (taken (pairOf bytes.now) (noteOf bytes.now))) }
     ensures machines { result.pair ≡ pairGiven (andThen (pairValidity (pairOf bytes.now)) (answer (taken (pairOf bytes.now) (noteOf bytes.now)))) }
-    ensures content { table.new ≡ bufferAfter (pairValidity (pairOf bytes.now)) (table-of bytes.now) table.old }
+    ensures content { table.new ≡ bufferAfter (pairValidity (pairOf bytes.now)) (tableOf bytes.now) table.old }
 {
     let mut payload = [0u8; PAYLOAD_ROOM];
     join(bytes, &mut payload);

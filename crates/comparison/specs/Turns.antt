@@ -7,7 +7,7 @@ use Rattle.machine.specs.declared.Refusal.{Refusal}
 use Rattle.machine.specs.Machines.{nC, nA, setsA}
 use Rattle.machine.specs.Refusals.{refusal, out-of-range}
 use Rattle.machine.specs.WellFormed.{nonemptyValidity}
-use Rattle.machine.specs.Table.{blank, entries, place-of, tableRoom}
+use Rattle.machine.specs.Table.{blank, entries, placeOf, tableRoom}
 use Rattle.progress.specs.Turns.{firstGiven, turnAnswer, turnFamily, turnTable, lookUpAnswer}
 use Rattle.brute.specs.Families.{holdsPairs, familyTable, numberedFamily}
 use Rattle.brute.specs.Ranking.{tableRanked}
@@ -66,14 +66,14 @@ turnTally p k F =
 
 -- ---- look-ups
 -- the section, counted from 1, and the states are in range
-unfoldable pub in_range : Known → ℕ → ℕ → ℕ → Bool
-in_range k j c a = and (not (j == 0)) (and (nat_le j k.sections) (and (nat_lt c k.concretes) (nat_lt a k.abstractions)))
+unfoldable pub inRange : Known → ℕ → ℕ → ℕ → Bool
+inRange k j c a = and (not (j == 0)) (and (nat_le j k.sections) (and (nat_lt c k.concretes) (nat_lt a k.abstractions)))
 
 -- what a look-up has to say
 unfoldable pub plainLookUp : Known → List ℕ → ℕ → ℕ → ℕ → Refusal
 plainLookUp k G j c a =
-    let held = answerNumbers (not (slice_index G (place-of k.concretes k.abstractions (j - 1) c a) == blank)) in
-    cond (k.plain.number == 0) (cond (in_range k j c a) held (refusal out-of-range 0 0 0)) k.plain
+    let held = answerNumbers (not (slice_index G (placeOf k.concretes k.abstractions (j - 1) c a) == blank)) in
+    cond (k.plain.number == 0) (cond (inRange k j c a) held (refusal out-of-range 0 0 0)) k.plain
 
 module _ (p : Pair) (k : Known) where
   -- one look-up

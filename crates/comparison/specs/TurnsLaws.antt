@@ -6,7 +6,7 @@ use Rattle.mask.specs.BoundedLaws.{every-not, every-of}
 use Rattle.mask.specs.Logic.{not, or}
 use Rattle.mask.specs.LogicLaws.{and-false-l, and-true-l, clash, not-f, not-i, or-false, or-l, or-r}
 use Rattle.machine.specs.Refusals.{Result, Tested, out-of-range, refusal}
-use Rattle.machine.specs.Table.{blank, place-of, tableRoom}
+use Rattle.machine.specs.Table.{blank, placeOf, tableRoom}
 use Rattle.machine.specs.WellFormed.{nonemptyValidity}
 use Rattle.machine.specs.declared.Pair.{Pair}
 use Rattle.machine.specs.declared.Refusal.{Refusal}
@@ -18,7 +18,7 @@ use Rattle.comparison.specs.declared.turns.Known.{Known}
 use Rattle.comparison.specs.Answers.{answerNumbers, answeredFour, sameFour, saysYes, testedFour}
 use Rattle.comparison.specs.Tables.{within, zeros}
 use Rattle.comparison.specs.Tallies.{nothing, ofLookUp, ofTest, ofTurn, plus, total}
-use Rattle.comparison.specs.Turns.{endAgrees, familiesTally, familyTally, firstAgrees, in_range, keptFrom, knownOf, lookUpTally, lookUpsTally, madeAgrees, mark, marks, plainLookUp, rowsFit, sameEntries, sameRows, stoppedAgrees, stoppedTally, tableFits, turnAgrees, turnSaid, turnTally, turnsTally, unknown, walkTally, walked}
+use Rattle.comparison.specs.Turns.{endAgrees, familiesTally, familyTally, firstAgrees, inRange, keptFrom, knownOf, lookUpTally, lookUpsTally, madeAgrees, mark, marks, plainLookUp, rowsFit, sameEntries, sameRows, stoppedAgrees, stoppedTally, tableFits, turnAgrees, turnSaid, turnTally, turnsTally, unknown, walkTally, walked}
 
 -- ---- entries and rows one after the other
 module _ (n : ℕ) (T : List ℕ) where
@@ -150,26 +150,26 @@ pub some-product : (x y : ℕ) → 0 < (x + 1) * (y + 1)
 some-product x y = omega arith
 
 module _ (k : Known) (j c a : ℕ) where
-  pub range-none : j ≡ 0 → in_range k j c a ≡ false
-  unfolding in_range
+  pub range-none : j ≡ 0 → inRange k j c a ≡ false
+  unfolding inRange
   range-none h = and-false-l _ (not-f (eq-eqb j 0 h))
 
   module _ (h : j ≡ 0 → ⊥) where
-    pub range-section : k.sections < j → in_range k j c a ≡ false
-    unfolding in_range
+    pub range-section : k.sections < j → inRange k j c a ≡ false
+    unfolding inRange
     range-section l = and-true-l _ (not-i (ne_eqb j 0 h)) ∙ and-false-l _ (lt-leb j k.sections l)
 
     module _ (hj : j ≤ k.sections) where
-      pub range-concrete : k.concretes ≤ c → in_range k j c a ≡ false
-      unfolding in_range
+      pub range-concrete : k.concretes ≤ c → inRange k j c a ≡ false
+      unfolding inRange
       range-concrete l = and-true-l _ (not-i (ne_eqb j 0 h)) ∙ and-true-l _ (le-leb j k.sections hj) ∙ and-false-l _ (le-ltb c k.concretes l)
 
-      pub range-abstract : c < k.concretes → in_range k j c a ≡ nat_lt a k.abstractions
-      unfolding in_range
+      pub range-abstract : c < k.concretes → inRange k j c a ≡ nat_lt a k.abstractions
+      unfolding inRange
       range-abstract l = and-true-l _ (not-i (ne_eqb j 0 h)) ∙ and-true-l _ (le-leb j k.sections hj) ∙ and-true-l _ (lt-ltb c k.concretes l)
 
   -- a section that is in range is not 0
-  pub range-some : in_range k j c a ≡ true → 0 < j
+  pub range-some : inRange k j c a ≡ true → 0 < j
   range-some t = some j (λ h. clash (range-none h) t)
     where
       some : (i : ℕ) → (i ≢ 0) → 0 < i
@@ -181,11 +181,11 @@ module _ (k : Known) (G : List ℕ) (j c a : ℕ) where
   look-stopped h = rw (ne_eqb _ 0 h)
 
   module _ (h : k.plain.number ≡ 0) where
-    pub look-out : {r : Refusal} → in_range k j c a ≡ false → r ≡ refusal out-of-range 0 0 0 → r ≡ plainLookUp k G j c a
+    pub look-out : {r : Refusal} → inRange k j c a ≡ false → r ≡ refusal out-of-range 0 0 0 → r ≡ plainLookUp k G j c a
     unfolding plainLookUp
     look-out t e = rw (eq-eqb _ 0 h, t) e
 
-    pub look-held : {e v : ℕ} {held : Bool} {r : Refusal} → in_range k j c a ≡ true → e ≡ place-of k.concretes k.abstractions (j - 1) c a → v ≡ slice_index G e
+    pub look-held : {e v : ℕ} {held : Bool} {r : Refusal} → inRange k j c a ≡ true → e ≡ placeOf k.concretes k.abstractions (j - 1) c a → v ≡ slice_index G e
         → held ≡ not (v == blank) → r ≡ answerNumbers held → r ≡ plainLookUp k G j c a
     unfolding plainLookUp
     look-held t ee ev eh er = rw (eq-eqb _ 0 h, t, er, eh, ev, ee)

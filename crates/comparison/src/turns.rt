@@ -5,7 +5,7 @@ ghost use Rattle.machine.specs.WellFormed.{wellFormed};
 ghost use Rattle.machine.specs.Table.{tableRoom};
 ghost use Rattle.progress.specs.Turns.{turnFamily};
 ghost use Rattle.comparison.specs.Answers.{saysYes};
-ghost use Rattle.comparison.specs.Turns.{marks, keptFrom, sameRows, sameEntries, rowsFit, tableFits, turnAgrees, turnSaid, turnTally, in_range, plainLookUp, lookUpTally, lookUpsTally, familyTally, familiesTally, firstAgrees, endAgrees, walkTally, turnsTally, stoppedTally};
+ghost use Rattle.comparison.specs.Turns.{marks, keptFrom, sameRows, sameEntries, rowsFit, tableFits, turnAgrees, turnSaid, turnTally, inRange, plainLookUp, lookUpTally, lookUpsTally, familyTally, familiesTally, firstAgrees, endAgrees, walkTally, turnsTally, stoppedTally};
 
 use crate::answers::{answered_four, looked_four, same_four, says_yes, tested_four, turned_four};
 use crate::tables::is_within;
@@ -141,7 +141,7 @@ fn compare_turn(p: Pair, k: Known, family: [u64; 448]) -> Step
 
 // Whether a look-up's section, counted from 1, and states are in range.
 fn in_range(k: Known, section: usize, c: usize, a: usize) -> bool
-    ensures { result ≡ in_range k section c a }
+    ensures { result ≡ inRange k section c a }
 {
     if section == 0 {
         return false;

@@ -18,7 +18,7 @@ use Rattle.machine.specs.ObservedLaws.{has-matched-at}
 use Rattle.machine.specs.WellFormedLaws.{WellPair, bits-small}
 use Rattle.machine.specs.Ranks.{levelOf, setOf}
 use Rattle.machine.specs.Step.{steps, singleStep, inRow, found}
-use Rattle.machine.specs.Table.{blank, tableRoom, entryIndex, place-of, entry}
+use Rattle.machine.specs.Table.{blank, tableRoom, entryIndex, placeOf, entry}
 use Rattle.machine.specs.RowLaws.{row-found, row-room, place-is}
 use Rattle.machine.specs.Lines.{atMost, rankLine, passes}
 use Rattle.machine.specs.LinesLaws.{goal-bound, inside-bound, outside-bound, passes-covered, blank-passes}
@@ -78,13 +78,13 @@ unfolding entry
 entry-small p T small j c a = small _
 
 -- the place that is found for an entry of a well-formed pair
-pub place-at : (p : Pair) → WellPair p → (r j c a : ℕ) → r ≡ place-of (nC p) (nA p) j c a → j < 7 → c < nC p → a < 64 → r ≡ entryIndex (nC p) (nA p) j c a
+pub place-at : (p : Pair) → WellPair p → (r j c a : ℕ) → r ≡ placeOf (nC p) (nA p) j c a → j < 7 → c < nC p → a < 64 → r ≡ entryIndex (nC p) (nA p) j c a
 place-at p w r j c a e hj hc ha =
     e ∙ place-is (nC p) (nA p) j c a (omega (arith, w.concrete.states-high)) (omega (arith, w.abstraction.states-high)) (omega arith)
     (omega (arith, w.concrete.states-high)) (omega arith)
 
 -- the row of any section that starts there lies within the table
-pub row-fits : (p : Pair) → WellPair p → (r j c room : ℕ) → r ≡ place-of (nC p) (nA p) j c 0 → j < 7 → c < nC p → tableRoom ≤ room → r + nA p ≤ room
+pub row-fits : (p : Pair) → WellPair p → (r j c room : ℕ) → r ≡ placeOf (nC p) (nA p) j c 0 → j < 7 → c < nC p → tableRoom ≤ room → r + nA p ≤ room
 row-fits p w r j c room e hj hc h =
     omega (
       arith,

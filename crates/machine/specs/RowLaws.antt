@@ -15,7 +15,7 @@ use Rattle.machine.specs.Machines.{nC, nA}
 use Rattle.machine.specs.WellFormedLaws.{mul-bound}
 use Rattle.machine.specs.Step.{singleStep, inRow, found}
 use Rattle.machine.specs.SingleStepLaws.{single-found}
-use Rattle.machine.specs.Table.{tableRoom, entryIndex, place-of, entry}
+use Rattle.machine.specs.Table.{tableRoom, entryIndex, placeOf, entry}
 
 -- ---- where an entry lies
 -- an entry's place is its row's, and its state
@@ -24,8 +24,8 @@ unfolding entryIndex
 index-row nC nA j c a = omega arith
 
 -- numbers below 256 have their own place
-pub place-is : (nC nA j c a : ℕ) → nC < 256 → nA < 256 → j < 256 → c < 256 → a < 256 → place-of nC nA j c a ≡ entryIndex nC nA j c a
-unfolding place-of
+pub place-is : (nC nA j c a : ℕ) → nC < 256 → nA < 256 → j < 256 → c < 256 → a < 256 → placeOf nC nA j c a ≡ entryIndex nC nA j c a
+unfolding placeOf
 place-is nC nA j c a hC hA hj hc ha = rw (mod-eq_of_lt hC, mod-eq_of_lt hA, mod-eq_of_lt hj, mod-eq_of_lt hc, mod-eq_of_lt ha)
 
 module _ (nC nA j c : ℕ) (hj : j < 7) (hC : nC ≤ 64) (hA : nA ≤ 64) where

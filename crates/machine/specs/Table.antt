@@ -18,8 +18,8 @@ unfoldable pub entryIndex : ℕ → ℕ → ℕ → ℕ → ℕ → ℕ
 entryIndex nC nA j c a = (j * nC + c) * nA + a
 
 -- the same for numbers of any size, each taken modulo 256: counts, sections and states are less
-unfoldable pub place-of : ℕ → ℕ → ℕ → ℕ → ℕ → ℕ
-place-of nC nA j c a = entryIndex (nC % 256) (nA % 256) (j % 256) (c % 256) (a % 256)
+unfoldable pub placeOf : ℕ → ℕ → ℕ → ℕ → ℕ → ℕ
+placeOf nC nA j c a = entryIndex (nC % 256) (nA % 256) (j % 256) (c % 256) (a % 256)
 
 unfoldable pub entry : Pair → List ℕ → ℕ → ℕ → ℕ → ℕ
 entry p T j c a = get_or T (entryIndex (nC p) (nA p) j c a) 0

@@ -9,7 +9,7 @@ ghost use Rattle.machine.specs.Machines.{sameObservation, next};
 ghost use Rattle.machine.specs.Refusals.{refusal, fourNumbers};
 ghost use Rattle.machine.specs.Step.{partner, singleStep, found, stateOf, alike, inRow};
 ghost use Rattle.machine.specs.Observed.{sameMask, matchedMasks};
-ghost use Rattle.machine.specs.Table.{place-of};
+ghost use Rattle.machine.specs.Table.{placeOf};
 
 // A finite machine with fairness sets. Document 01: the rig is the concrete machine, the score the abstract one.
 #[derive(Clone, Copy)]
@@ -274,7 +274,7 @@ pub fn next_section(n: usize, j: usize) -> usize
 
 // The place in a table of entry (j, c, a). It takes each number modulo 256, so that any have an answer; counts, sections and states are less.
 pub fn entry_index(nc: usize, na: usize, j: usize, c: usize, a: usize) -> usize
-    ensures { result ≡ place-of nc na j c a }
+    ensures { result ≡ placeOf nc na j c a }
 {
     (j % 256 * (nc % 256) + c % 256) * (na % 256) + a % 256
 }

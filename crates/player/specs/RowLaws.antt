@@ -11,7 +11,7 @@ use Rattle.machine.specs.Machines.{nC, nA, setsA}
 use Rattle.machine.specs.Observed.{matchedMasks}
 use Rattle.machine.specs.ObservedLaws.{has-matched-at}
 use Rattle.machine.specs.Step.{singleStep, inRow}
-use Rattle.machine.specs.Table.{blank, tableRoom, entryIndex, place-of, entry}
+use Rattle.machine.specs.Table.{blank, tableRoom, entryIndex, placeOf, entry}
 use Rattle.machine.specs.RowLaws.{row-room, entry-room, row, row-length, row-at}
 use Rattle.machine.specs.Lines.{nonBlank}
 use Rattle.machine.specs.LinesLaws.{covers-bound}
@@ -24,7 +24,7 @@ module _ (p : Pair) (w : WellPair p) (r j c : ℕ) (hj : j < setsA p) (hc : c < 
   low : j < 7
   low = omega (arith, w.abstraction.sets-high)
 
-  pub index-is : (a : ℕ) → r ≡ place-of (nC p) (nA p) j c a → a < 64 → r ≡ entryIndex (nC p) (nA p) j c a
+  pub index-is : (a : ℕ) → r ≡ placeOf (nC p) (nA p) j c a → a < 64 → r ≡ entryIndex (nC p) (nA p) j c a
   index-is a e ha = place-at p w r j c a e low hc ha
 
   pub row-end : r ≡ entryIndex (nC p) (nA p) j c 0 → r + nA p ≤ tableRoom

@@ -65,5 +65,5 @@ module _ (p : Pair) where
   abbrev pub concretePredecessors : List ℕ
   concretePredecessors = predecessorsOf (nC p) p.concrete.successors
 
-  abbrev pub steps-of : List ℕ → List ℕ
-  steps-of = stepRows (nC p) p.concrete.successors abstractPredecessors
+  abbrev pub stepsOf : List ℕ → List ℕ
+  stepsOf = stepRows (nC p) p.concrete.successors abstractPredecessors

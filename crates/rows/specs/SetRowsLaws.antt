@@ -27,7 +27,7 @@ use Rattle.machine.specs.ObservedLaws.{matched-length, matched-at, row-out, has-
 use Rattle.machine.specs.WellFormedLaws.{WellPair}
 use Rattle.machine.specs.Game.{pairSet, mem, sameSet, allMatched, goals}
 use Rattle.theory.specs.GameLaws.{Canonical, pairSet-cong, set-ext, same_of, same-within, same-holds}
-use Rattle.rows.specs.Rows.{rowsOf, pairsIn, predecessorsOf, partnersOf, partnerRows, meetOf, stepRows, goalRows, joinRows, sameRows, abstractPredecessors, steps-of}
+use Rattle.rows.specs.Rows.{rowsOf, pairsIn, predecessorsOf, partnersOf, partnerRows, meetOf, stepRows, goalRows, joinRows, sameRows, abstractPredecessors, stepsOf}
 use Rattle.rows.specs.RowsLaws.{has-predecessor, no-predecessor, same-yes, same-at}
 
 -- ---- a mask whose states lie below w, read at a larger width
@@ -152,7 +152,7 @@ module _ (p : Pair) where
     partner-row rows d h =
         table-at 64 (λ i. cond (ltb i (nC p)) (partnersOf Preds (get_or rows i 0)) 0) d 0 (wide d h) ∙ rw (lt-ltb d (nC p) h)
 
-    step-row : (rows : List ℕ) (c : ℕ) → c < nC p → get_or (steps-of p rows) c 0 ≡ meetOf (get_or p.concrete.successors c 0) (partnerRows (nC p) Preds rows)
+    step-row : (rows : List ℕ) (c : ℕ) → c < nC p → get_or (stepsOf p rows) c 0 ≡ meetOf (get_or p.concrete.successors c 0) (partnerRows (nC p) Preds rows)
     unfolding stepRows
     step-row rows c h =
         table-at 64 (λ i. cond (ltb i (nC p)) (meetOf (get_or p.concrete.successors i 0) (partnerRows (nC p) Preds rows)) 0) c 0 (wide c h) ∙ rw (lt-ltb c (nC p) h)
@@ -176,7 +176,7 @@ module _ (p : Pair) where
         ∙ everyIn-fit 64 (nC p) (get_or p.concrete.successors c 0) _ _
         w.concrete.states-high (λ i l e. w.concrete.move-bits c i hc l e) (λ d l. has-partner rows d a l ha)
 
-    pub has-step : (rows : List ℕ) (c a : ℕ) → c < nC p → a < nA p → hasBit (get_or (steps-of p rows) c 0) a ≡ steps p (mem p (pairsIn p rows)) c a
+    pub has-step : (rows : List ℕ) (c a : ℕ) → c < nC p → a < nA p → hasBit (get_or (stepsOf p rows) c 0) a ≡ steps p (mem p (pairsIn p rows)) c a
     has-step rows c a hc ha = ap (λ (m : ℕ). hasBit m a) (step-row rows c hc) ∙ has-meet rows c a hc ha
 
     -- ---- rows that are met with the matched pairs
@@ -193,18 +193,18 @@ module _ (p : Pair) where
     held-is rows = met-is _ _ (λ c a hc ha. has-or a (get_or rows c 0) (get_or rows c 0) ∙ both _ _ (λ t. ⊎_elim (λ u. u) (λ u. u) (or-e t)) (λ t. or-l _ t))
 
     pub goals-is : (Z : List (List ℕ)) (j : ℕ) (rows : List ℕ) → pairsIn p rows ≡ get_or Z (next (setsA p) j) []
-        → goalRows M (fairSet p.abstraction j) (steps-of p rows) ≡ rowsOf (goals p Z j)
+        → goalRows M (fairSet p.abstraction j) (stepsOf p rows) ≡ rowsOf (goals p Z j)
     unfolding goalRows goals inFairSet
     goals-is Z j rows e = met-is _ _ (λ c a hc ha.
-        has-and a (fairSet p.abstraction j) (get_or (steps-of p rows) c 0)
+        has-and a (fairSet p.abstraction j) (get_or (stepsOf p rows) c 0)
         ∙ ap (and (hasBit (fairSet p.abstraction j) a)) (has-step rows c a hc ha ∙ ap (λ (S : List ℕ). steps p (mem p S) c a) e))
 
     -- ---- what is in X whatever X is: goals, and pairs that step into the level below, each held by rows
-    pub base-is : (goals below : List ℕ) → joinRows M goals (steps-of p below)
+    pub base-is : (goals below : List ℕ) → joinRows M goals (stepsOf p below)
         ≡ rowsOf (pairSet p (λ c a. or (mem p (pairsIn p goals) c a) (steps p (mem p (pairsIn p below)) c a)))
     unfolding joinRows
     base-is goals below = met-is _ _ (λ c a hc ha.
-        has-or a (get_or goals c 0) (get_or (steps-of p below) c 0) ∙ ap₂ or (sym (mem-in goals c a hc)) (has-step below c a hc ha))
+        has-or a (get_or goals c 0) (get_or (stepsOf p below) c 0) ∙ ap₂ or (sym (mem-in goals c a hc)) (has-step below c a hc ha))
 
     -- ---- unions
     pub join-is : (f g : ℕ → ℕ → Bool) → joinRows M (rowsOf (pairSet p f)) (rowsOf (pairSet p g)) ≡ rowsOf (pairSet p (λ c a. or (f c a) (g c a)))

@@ -19,7 +19,7 @@ use Rattle.machine.specs.Table.{blank}
 use Rattle.theory.specs.Statements.{Within}
 use Rattle.theory.specs.GameLaws.{xOver-is, xOver-canonical, same-holds, level-zero, level-canonical, levels-eq, levels-canonical, levels-is, level-levels, level-suc, set-ext}
 use Rattle.theory.specs.TowerLaws.{tower-at}
-use Rattle.rows.specs.Rows.{rowsOf, pairsIn, joinRows, sameRows, stepRows, abstractPredecessors, steps-of}
+use Rattle.rows.specs.Rows.{rowsOf, pairsIn, joinRows, sameRows, stepRows, abstractPredecessors, stepsOf}
 use Rattle.rows.specs.SetRowsLaws.{mem-in, in-at, in-past, rows-same, set-back, no-rows}
 use Rattle.rows.specs.Entries.{uptoRows, writeRows}
 use Rattle.rows.specs.Largest.{Largest}
@@ -77,7 +77,7 @@ module _ {p : Pair} {matched dependents predecessors goals : List ℕ} (m : Prep
     x-is {steps} {base} {start} {x} {bound} k hk et ebase ebound es q =
         largest-is p W goals below k holds made inside ∙ ap (λ (B : List ℕ). rowsOf (xOver p G B k)) below-is
       where
-        base-is : base ≡ joinRows (matchedMasks p) goals (steps-of p below)
+        base-is : base ≡ joinRows (matchedMasks p) goals (stepsOf p below)
         base-is = ebase ∙ rw (et, m.matched-are, m.predecessors-are)
 
         below-is : pairsIn p below ≡ level p G l
@@ -91,7 +91,7 @@ module _ {p : Pair} {matched dependents predecessors goals : List ℕ} (m : Prep
             let fits : suc l * setsC p ≤ pairs p * setsC p = mul-le-mul_right (setsC p) hl in
             rw es (upto-holds p W bound (omega (arith, ebound, places-small p W)) d.bounded)
 
-        made : Largest (nC p) p.concrete.successors (abstractPredecessors p) (joinRows (matchedMasks p) goals (steps-of p below)) (fairSet p.concrete k) start x
+        made : Largest (nC p) p.concrete.successors (abstractPredecessors p) (joinRows (matchedMasks p) goals (stepsOf p below)) (fairSet p.concrete k) start x
         made = rw (← base-is, ← m.predecessors-are) q
 
         inside : (c a : ℕ) → c < nC p → a < nA p → mem p (xOver p G (pairsIn p below) k) c a ≡ true → hasBit (get_or start c 0) a ≡ true

@@ -21,7 +21,7 @@ use Rattle.machine.specs.WellFormedLaws.{WellPair}
 use Rattle.machine.specs.Game.{pairSet, mem, xOver}
 use Rattle.theory.specs.Statements.{Within}
 use Rattle.theory.specs.GameLaws.{Canonical, mem-pairSet, InX, goal, lower, stay, xOver-is, xOver-canonical}
-use Rattle.rows.specs.Rows.{rowsOf, pairsIn, meetOf, partnerRows, joinRows, abstractPredecessors, steps-of}
+use Rattle.rows.specs.Rows.{rowsOf, pairsIn, meetOf, partnerRows, joinRows, abstractPredecessors, stepsOf}
 use Rattle.rows.specs.SetRowsLaws.{rows-at, rows-small, mem-in, set-back, set-row, set-past, base-is, has-meet}
 use Rattle.solver.specs.Ranking.{Holds}
 use Rattle.rows.specs.Largest.{Inside, ruleRow, Largest}
@@ -55,7 +55,7 @@ module _ (p : Pair) (w : WellPair p) (goals below : List ℕ) (k : ℕ) where
   B = pairsIn p below
 
   abbrev Base : List ℕ
-  Base = joinRows (matchedMasks p) goals (steps-of p below)
+  Base = joinRows (matchedMasks p) goals (stepsOf p below)
 
   abbrev Preds : List ℕ
   Preds = abstractPredecessors p

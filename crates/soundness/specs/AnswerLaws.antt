@@ -35,15 +35,15 @@ module _ (p : Pair) (T : List ℕ) where
     pub covered : nonBlank p T at.section c at.state ≡ true
 
   -- the entry of a place beside c
-  abbrev pub entry-at : ℕ → Place → ℕ
-  entry-at c at = entry p T at.section c at.state
+  abbrev pub entryAt : ℕ → Place → ℕ
+  entryAt c at = entry p T at.section c at.state
 
   -- what the rule's answer `to`, at the place `at`, to a move from c to d has: entries never rise while they are not 0, and fall in rig set k
   pub record Answer (c d : ℕ) (at to : Place) : Type 0 where
     pub again : Covered d to
     pub moved : moves p.abstraction at.state to.state ≡ true
-    pub stays : entry-at c at ≢ 0 → entry-at d to ≤ entry-at c at
-    pub falls : entry-at c at ≢ 0 → inFairSet p.concrete (setOf (setsC p) (entry-at c at)) c ≡ true → entry-at d to < entry-at c at
+    pub stays : entryAt c at ≢ 0 → entryAt d to ≤ entryAt c at
+    pub falls : entryAt c at ≢ 0 → inFairSet p.concrete (setOf (setsC p) (entryAt c at)) c ≡ true → entryAt d to < entryAt c at
 
   -- b is a partner of least entry beside d, whatever the rule for ties
   pub record LeastPartner (c d : ℕ) (at : Place) (b : ℕ) : Type 0 where
@@ -53,11 +53,11 @@ module _ (p : Pair) (T : List ℕ) where
     pub least : (i : ℕ) → i < nA p → moves p.abstraction at.state i ≡ true → nonBlank p T (sectionAfter p T c at) d i ≡ true
         → entry p T (sectionAfter p T c at) d b ≤ entry p T (sectionAfter p T c at) d i
 
-  section-goal : (c : ℕ) (at : Place) → entry-at c at ≡ 0 → sectionAfter p T c at ≡ next (setsA p) at.section
+  section-goal : (c : ℕ) (at : Place) → entryAt c at ≡ 0 → sectionAfter p T c at ≡ next (setsA p) at.section
   unfolding sectionAfter
   section-goal c at e = rw (eq-eqb _ _ e)
 
-  section-stays : (c : ℕ) (at : Place) → entry-at c at ≢ 0 → sectionAfter p T c at ≡ at.section
+  section-stays : (c : ℕ) (at : Place) → entryAt c at ≢ 0 → sectionAfter p T c at ≡ at.section
   unfolding sectionAfter
   section-stays c at e = rw (ne_eqb _ _ e)
 
@@ -67,8 +67,8 @@ module _ (p : Pair) (T : List ℕ) where
     low : who < nA p
     moved : moves p.abstraction at.state who ≡ true
     covered : nonBlank p T (sectionAfter p T c at) d who ≡ true
-    stays : entry-at c at ≢ 0 → entry p T (sectionAfter p T c at) d who ≤ entry-at c at
-    falls : entry-at c at ≢ 0 → inFairSet p.concrete (setOf (setsC p) (entry-at c at)) c ≡ true → entry p T (sectionAfter p T c at) d who < entry-at c at
+    stays : entryAt c at ≢ 0 → entry p T (sectionAfter p T c at) d who ≤ entryAt c at
+    falls : entryAt c at ≢ 0 → inFairSet p.concrete (setOf (setsC p) (entryAt c at)) c ≡ true → entry p T (sectionAfter p T c at) d who < entryAt c at
 
   module _ (w : WellPair p) (passing : passesEach p T ≡ true) where
     pub passing-at : (c : ℕ) (at : Place) → c < nC p → Covered c at → Passing p T at.section c at.state
@@ -87,7 +87,7 @@ module _ (p : Pair) (T : List ℕ) where
         nonBlank-of p T j c a q.0 (covers-of p T j c a (λ e. omega (arith, q.1, ranks-small p w)))
 
     -- in a goal, the next section has it; elsewhere the line bounds its entry
-    line-partner-goal : (c d : ℕ) (at : Place) → c < nC p → Covered c at → d < nC p → moves p.concrete c d ≡ true → entry-at c at ≡ 0 → LinePartner c d at
+    line-partner-goal : (c d : ℕ) (at : Place) → c < nC p → Covered c at → d < nC p → moves p.concrete c d ≡ true → entryAt c at ≡ 0 → LinePartner c d at
     line-partner-goal c d at hc h hd m e =
         let b = (passing-at c at hc h).to-next e d hd m in
         record {
@@ -99,8 +99,8 @@ module _ (p : Pair) (T : List ℕ) where
           falls = λ z. absurd (z e);
         }
 
-    line-partner-ranked : (c d : ℕ) (at : Place) → c < nC p → Covered c at → d < nC p → moves p.concrete c d ≡ true → entry-at c at ≢ 0
-        → (bound : ℕ) → bound ≤ entry-at c at → (inFairSet p.concrete (setOf (setsC p) (entry-at c at)) c ≡ true → bound < entry-at c at)
+    line-partner-ranked : (c d : ℕ) (at : Place) → c < nC p → Covered c at → d < nC p → moves p.concrete c d ≡ true → entryAt c at ≢ 0
+        → (bound : ℕ) → bound ≤ entryAt c at → (inFairSet p.concrete (setOf (setsC p) (entryAt c at)) c ≡ true → bound < entryAt c at)
         → Steps p (atMost p T at.section bound) c at.state → LinePartner c d at
     line-partner-ranked c d at hc h hd m z bound most less line =
         let b = line d hd m in
@@ -122,7 +122,7 @@ module _ (p : Pair) (T : List ℕ) where
         (dec (inFairSet p.concrete (setOf (setsC p) r) c)))
       where
         r : ℕ
-        r = entry-at c at
+        r = entryAt c at
 
         line : Passing p T at.section c at.state
         line = passing-at c at hc h

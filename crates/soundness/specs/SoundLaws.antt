@@ -23,7 +23,7 @@ use Rattle.soundness.specs.Pigeonhole.{pigeonhole}
 use Rattle.soundness.specs.Cycle.{zero-met, sections-met}
 use Rattle.soundness.specs.Plays.{runBetween, Again, Play}
 use Rattle.soundness.specs.PlayLaws.{again-times, moment-again, fair-round, lassoOf-moment, lassoOf-play}
-use Rattle.soundness.specs.AnswerLaws.{Covered, entry-at, Answer, passing-at, step-answers, step-chosen, start-best, start-place}
+use Rattle.soundness.specs.AnswerLaws.{Covered, entryAt, Answer, passing-at, step-answers, step-chosen, start-best, start-place}
 
 -- from the loop start after x rounds to that after z rounds
 pub rounds-between : (stem loop x z : ℕ) → x ≤ z → stem + x * loop + (z - x) * loop ≡ stem + z * loop
@@ -63,7 +63,7 @@ module _ (p : Pair) (T : List ℕ) (w : WellPair p) (passing : passesEach p T �
   started = (start-place p T w passing (moment l 0) partnered).1
 
   sections : (t : ℕ) → (placeAt p T l (suc t)).section
-      ≡ cond (eqb (entry-at p T (moment l t) (placeAt p T l t)) 0) (next (setsA p) (placeAt p T l t).section) (placeAt p T l t).section
+      ≡ cond (eqb (entryAt p T (moment l t) (placeAt p T l t)) 0) (next (setsA p) (placeAt p T l t).section) (placeAt p T l t).section
   unfolding placeAt stepTo sectionAfter
   sections t = refl
 
@@ -72,10 +72,10 @@ module _ (p : Pair) (T : List ℕ) (w : WellPair p) (passing : passesEach p T �
       → ((k : ℕ) → k < setsC p → (i : ℕ) × (i < N) × (inFairSet p.concrete k (moment l (u + i)) ≡ true))
       → (s : ℕ) → s < setsA p → (i : ℕ) × (i < N) × (inFairSet p.abstraction s (placeAt p T l (u + i)).state ≡ true)
   fair-stretch u N ec ep met s hs =
-      let e : ℕ → ℕ = λ i. entry-at p T (moment l (u + i)) (placeAt p T l (u + i)) in
+      let e : ℕ → ℕ = λ i. entryAt p T (moment l (u + i)) (placeAt p T l (u + i)) in
       let z = zero-met e (λ r i. inFairSet p.concrete (setOf (setsC p) r) (moment l (u + i))) N
       (λ i h. rw add-suc (answered (u + i)).stays) (λ i h. rw add-suc (answered (u + i)).falls)
-      (rw (add-zero u) (ap₂ (entry-at p T) ec ep)) (met (setOf (setsC p) (e 0)) (set-lt (setsC p) (e 0) w.concrete.sets-low)) in
+      (rw (add-zero u) (ap₂ (entryAt p T) ec ep)) (met (setOf (setsC p) (e 0)) (set-lt (setsC p) (e 0) w.concrete.sets-low)) in
       let g = sections-met (setsA p) (λ i. (placeAt p T l (u + i)).section) (λ i. eqb (e i) 0) N
       (λ i. (covered-at (u + i)).section-bound) (λ i h. rw add-suc (sections (u + i)))
       (rw (add-zero u) (ap (λ at. at.section) ep)) (z.0, z.1, eq-eqb _ _ z.2) s hs in

@@ -9,7 +9,7 @@ use Rattle.machine.specs.declared.Pair.{Pair}
 use Rattle.machine.specs.Machines.{starts, nC, nA}
 use Rattle.machine.specs.Step.{singleStep, inRow, found}
 use Rattle.machine.specs.WellFormedLaws.{WellPair, well-pair}
-use Rattle.machine.specs.Table.{blank, tableRoom, place-of}
+use Rattle.machine.specs.Table.{blank, tableRoom, placeOf}
 use Rattle.machine.specs.Verdict.{startCovered}
 use Rattle.machine.specs.VerdictLaws.{lacks-not, lacks-covered, lacks-is, lacking-is, lacking-none}
 use Rattle.linecheck.specs.BoundsLaws.{place-at, row-fits}
@@ -24,7 +24,7 @@ room c =
     row-fits x.p (well-pair x.p c.requires.0) _ _ c.loop-c.c _ c.entry_index-from.ensures (omega arith) (omega arith) c.requires.1
 
 -- it is that of section 1 beside c
-covered : (p : Pair) (T : List ℕ) → WellPair p → ((i : ℕ) → get_or T i 0 ≤ blank) → tableRoom ≤ length T → (c from : ℕ) → c < nC p → from ≡ place-of (nC p) (nA p) 0 c 0
+covered : (p : Pair) (T : List ℕ) → WellPair p → ((i : ℕ) → get_or T i 0 ≤ blank) → tableRoom ≤ length T → (c from : ℕ) → c < nC p → from ≡ placeOf (nC p) (nA p) 0 c 0
     → (present : ℕ) (entries : ℕ → ℕ)
     → found (singleStep present p.abstraction.start (inRow p.abstraction.start (take (from + nA p - from) (drop from T)) (blank - 1)) entries) ≡ startCovered p T c
 covered p T w small r c from h e =

@@ -5,7 +5,7 @@ use mir.Syntax.{w64}
 use mir.Val.{Fits}
 use native.Mathlib.Omega.{arith}
 use Rattle.machine.specs.WellFormedLaws.{mul-bound}
-use Rattle.machine.specs.Table.{entryIndex, place-of}
+use Rattle.machine.specs.Table.{entryIndex, placeOf}
 use Rattle.machine.proofs.entry_index.Goals as goal
 
 rest : (x : ℕ) → x % 256 ≤ 255
@@ -42,5 +42,5 @@ pub overflow_add-result-2 : goal.overflow_add-result-2
 overflow_add-result-2 c = place-fits _ _ _ _ _
 
 pub returns : goal.returns
-unfolding place-of entryIndex
+unfolding placeOf entryIndex
 returns c = refl

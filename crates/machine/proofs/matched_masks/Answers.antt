@@ -1,6 +1,6 @@
 -- Every row that the loop has passed is that state's own row; after 64 turns these are all rows.
 use mathlib.Core.Path.{sym, ◌∙◌}
-use Prim.Native.Nat.{ℕ, ◌-◌}
+use Prim.Native.Nat.{ℕ}
 use native.Mathlib.Omega.{arith}
 use lib.ListN.{length-set, length-replicate}
 use borrow.Author.Count.{below_none}

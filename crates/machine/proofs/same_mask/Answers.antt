@@ -1,6 +1,6 @@
 -- After a turns the mask holds exactly the states below a with that observation.
 use mathlib.Core.Path.{sym, ap, ◌∙◌}
-use Prim.Native.Nat.{ℕ, ◌-◌}
+use Prim.Native.Nat.{ℕ}
 use native.Mathlib.Omega.{arith}
 use borrow.Author.Rules.{rules}
 use Rattle.mask.specs.Bits.{withBit}
