@@ -13,7 +13,8 @@ ghost use Rattle.playback.specs.Playing.{fileRun, fileRunBuffer, toldToC, runNum
 ghost use Rattle.watch.specs.Watching.{firstFile, firstFileRows, readyNumber, turnFile, turnFileRows, turnFileTable, toldNumber, lookUpFile};
 ghost use Rattle.export.specs.Exporting.{exportAnswer, exportBuffer};
 
-// What is said of the file with these bytes, as one number: a refusal's, 101 without a table, or one of those above.
+// What is said of the file with these bytes, as one number: a refusal's, 101 without a table, 100 for Carried, or 200 with the lowest start state
+// that lacks a partner added.
 #[unsafe(no_mangle)]
 pub extern "C" fn console_answer(bytes: &[u8]) -> u32
     ensures { result ≡ outcomeNumber (fileOutcome bytes.now) }
@@ -30,7 +31,7 @@ pub extern "C" fn first_block_answer(bytes: &[u8]) -> u32
     console::first_block_answer(bytes)
 }
 
-// The same for C: the file's length, or 0 with the refusal's number and spot in `spot`, which is unchanged beside a length.
+// The show of a file with the solver's table: the file's length, or 0 with the refusal's number and spot in `spot`, which is unchanged beside a length.
 #[unsafe(no_mangle)]
 pub extern "C" fn solve_file(bytes: &[u8], out: &mut [u8], spot: &mut [u64; 4]) -> usize
     ensures value { result ≡ lengthOf (restoreAnswer bytes.now out.old) }
@@ -40,7 +41,7 @@ pub extern "C" fn solve_file(bytes: &[u8], out: &mut [u8], spot: &mut [u64; 4]) 
     restore::solve_file(bytes, out, spot)
 }
 
-// The same for C: stem length x 65,536 + loop length, or 0 with the refusal's number and spot in `spot`, which is unchanged beside a run. A
+// A lasso played by the table of a file: stem length x 65,536 + loop length, or 0 with the refusal's number and spot in `spot`, which is unchanged beside a run. A
 // file without a table has the number 101.
 #[unsafe(no_mangle)]
 pub extern "C" fn play_file(
@@ -104,7 +105,7 @@ pub extern "C" fn look_up_file(
     watch::look_up_file(bytes, family, section, c, a, spot)
 }
 
-// The same for C: the text's length, or 0 with the refusal's number and spot in `spot`, which is unchanged beside a length.
+// The text of one machine of a file: the text's length, or 0 with the refusal's number and spot in `spot`, which is unchanged beside a length.
 #[unsafe(no_mangle)]
 pub extern "C" fn hoa_file(bytes: &[u8], which: usize, out: &mut [u8], spot: &mut [u64; 4]) -> usize
     ensures value { result ≡ lengthOf (exportAnswer bytes.now which (length out.old)) }
