@@ -7,7 +7,7 @@ use Rattle.std.proofs.Math.Decide.{dec_lt}
 use Rattle.mask.specs.Logic.{and, or}
 use Rattle.mask.specs.LogicLaws.{clash, cond-cases, or-l, or-false, or-false-l}
 use Rattle.text.specs.Decimal.{decimal, isDigit}
-use Rattle.text.specs.EndsLaws.{digitFirst, decimal-digit-first, number-told}
+use Rattle.text.specs.EndsLaws.{begun, decimal-begun, number-told}
 use Rattle.hanoi.specs.Words.{ascii, numbers, below, chosen, spread, joined}
 use Rattle.hanoi.specs.LinesLaws.{spread-end, spread-next, joined-end, joined-next}
 
@@ -17,10 +17,10 @@ pub data Small : List ℕ → Type 0 where
   small-none : Small []
   small-next : {n : ℕ} {l : List ℕ} → n < 10 ^ 20 → Small l → Small (n ∷ l)
 
-spread-digit-first : (l x : List ℕ) → digitFirst x ≡ false → digitFirst (spread (ascii " ") (map decimal l) ++ x) ≡ false
+spread-begun : (l x : List ℕ) → begun x ≡ false → begun (spread (ascii " ") (map decimal l) ++ x) ≡ false
 unfolding isDigit and
-spread-digit-first [] x h = rw spread-end h
-spread-digit-first (n ∷ l) x h = rw spread-next
+spread-begun [] x h = rw spread-end h
+spread-begun (n ∷ l) x h = rw spread-next
 
 module _ (c : ℕ) (x y : List ℕ) (other : isDigit c ≡ false) (apart : c ≡ 32 → ⊥) where
   spread-told : {l k : List ℕ} → Small l → Small k → spread (ascii " ") (map decimal l) ++ (c ∷ x) ≡ spread (ascii " ") (map decimal k) ++ (c ∷ y) → (l ≡ k) × (x ≡ y)
@@ -28,14 +28,14 @@ module _ (c : ℕ) (x y : List ℕ) (other : isDigit c ≡ false) (apart : c ≡
   spread-told small-none (small-next b h) e = absurd (apart (head-eq_of_cons-eq (simp (spread-end, spread-next) at e)))
   spread-told (small-next a g) small-none e = absurd (apart (head-eq_of_cons-eq (sym (simp (spread-end, spread-next) at e))))
   spread-told (small-next {n} {l} a g) (small-next {n = m} {l = k} b h) e =
-      let t = number-told n m _ _ a b (spread-digit-first l (c ∷ x) other) (spread-digit-first k (c ∷ y) other) (tail-eq_of_cons-eq (simp spread-next at e)) in
+      let t = number-told n m _ _ a b (spread-begun l (c ∷ x) other) (spread-begun k (c ∷ y) other) (tail-eq_of_cons-eq (simp spread-next at e)) in
       let r = spread-told g h t.1 in
       (ap₂ ◌∷◌ t.0 r.0, r.1)
 
   pub joined-told : {l k : List ℕ} → Small l → Small k → joined (ascii " ") (map decimal l) ++ (c ∷ x) ≡ joined (ascii " ") (map decimal k) ++ (c ∷ y) → (l ≡ k) × (x ≡ y)
   joined-told small-none small-none e = (refl, tail-eq_of_cons-eq (simp joined-end at e))
-  joined-told small-none (small-next {n} b h) e = absurd (clash other (ap digitFirst (simp (joined-end, joined-next) at e) ∙ decimal-digit-first n _))
-  joined-told (small-next {n} a g) small-none e = absurd (clash other (sym (ap digitFirst (simp (joined-end, joined-next) at e)) ∙ decimal-digit-first n _))
+  joined-told small-none (small-next {n} b h) e = absurd (clash other (ap begun (simp (joined-end, joined-next) at e) ∙ decimal-begun n _))
+  joined-told (small-next {n} a g) small-none e = absurd (clash other (sym (ap begun (simp (joined-end, joined-next) at e)) ∙ decimal-begun n _))
   joined-told (small-next a g) (small-next b h) e =
       spread-told (small-next a g) (small-next b h) (simp spread-next (ap (λ (t : List ℕ). 32 ∷ t) (simp joined-next at e)))
 

@@ -1,5 +1,5 @@
--- A whole text by computation, of a machine that has each form of a line: several start states, a state in no set, in one and in both, one successor and
--- several. Its masks all differ, and so do the numbers of states and sets; no two bits can change places in all observations and leave the text as it is.
+-- A whole text by computation, of a machine that has each form of a line: two start states, two sets, a state in no set and one in both, a state with two
+-- successors, a bit that is one.
 use mathlib.Core.List.{◌∷◌, ◌++◌, flat_map, flatten}
 use Rattle.std.specs.Prelude.{◌≡◌, refl, replicate}
 use Rattle.mask.specs.Bits.{hasBit}
@@ -11,30 +11,28 @@ use Rattle.hanoi.specs.Text.{line, startLine, name, namesLine, infinitely, accep
 
 example : Machine
 example = record {
-  states = 3;
+  states = 2;
   sets = 2;
-  start = 5;
-  observations = 170 ∷ 204 ∷ 240 ∷ replicate 61 0;
-  successors = 3 ∷ 2 ∷ 7 ∷ replicate 61 0;
-  fairness = 4 ∷ 6 ∷ replicate 6 0;
+  start = 3;
+  observations = 1 ∷ replicate 63 0;
+  successors = 3 ∷ 2 ∷ replicate 62 0;
+  fairness = 2 ∷ 2 ∷ replicate 6 0;
 }
 
 example-text : hoaText example
     ≡ ascii "HOA: v1\n"
-    ++ ascii "States: 3\n"
+    ++ ascii "States: 2\n"
     ++ ascii "Start: 0\n"
-    ++ ascii "Start: 2\n"
+    ++ ascii "Start: 1\n"
     ++ ascii "AP: 8 \"o0\" \"o1\" \"o2\" \"o3\" \"o4\" \"o5\" \"o6\" \"o7\"\n"
     ++ ascii "acc-name: generalized-Buchi 2\n"
     ++ ascii "Acceptance: 2 Inf(0)&Inf(1)\n"
     ++ ascii "properties: state-labels state-acc\n"
     ++ ascii "--BODY--\n"
-    ++ ascii "State: [!0&1&!2&3&!4&5&!6&7] 0\n"
+    ++ ascii "State: [0&!1&!2&!3&!4&!5&!6&!7] 0\n"
     ++ ascii "0 1\n"
-    ++ ascii "State: [!0&!1&2&3&!4&!5&6&7] 1 {1}\n"
+    ++ ascii "State: [!0&!1&!2&!3&!4&!5&!6&!7] 1 {0 1}\n"
     ++ ascii "1\n"
-    ++ ascii "State: [!0&!1&!2&!3&4&5&6&7] 2 {0 1}\n"
-    ++ ascii "0 1 2\n"
     ++ ascii "--END--\n"
 unfolding example flat_map flatten hoaText line startLine name namesLine infinitely acceptance literal label setsWith inBraces stateLines numbers chosen statesOf spread joined decimal digitsUpTo observation successors inFairSet fairSet hasBit
 example-text = refl

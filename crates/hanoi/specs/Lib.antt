@@ -2,6 +2,7 @@
 pub mod Words
 pub mod Text
 pub mod Example
+pub mod Distinct
 pub mod Parts
 pub mod Puts
 pub mod Statements

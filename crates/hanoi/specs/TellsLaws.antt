@@ -13,7 +13,7 @@ use Rattle.mask.specs.LogicLaws.{clash, refute}
 use Rattle.mask.specs.Bits.{hasBit}
 use Rattle.mask.specs.BitsLaws.{mask-ext}
 use Rattle.text.specs.Decimal.{decimal, isDigit}
-use Rattle.text.specs.EndsLaws.{digitFirst, decimal-digit-first, number-told}
+use Rattle.text.specs.EndsLaws.{begun, decimal-begun, number-told}
 use Rattle.machine.specs.declared.Machine.{Machine}
 use Rattle.machine.specs.Machines.{observation, successors, fairSet, inFairSet}
 use Rattle.machine.specs.WellFormedLaws.{WellMachine, valid-machine}
@@ -54,8 +54,8 @@ literal-told o p n x y e = go (hasBit o n) (hasBit p n) e
   where
     go : (b c : Bool) → (cond b (ascii "") (ascii "!") ++ decimal n) ++ x ≡ (cond c (ascii "") (ascii "!") ++ decimal n) ++ y → (b ≡ c) × (x ≡ y)
     go true true e = (refl, append_cancel_left (decimal n) x y e)
-    go true false e = absurd (clash refl (sym (ap digitFirst e) ∙ decimal-digit-first n x))
-    go false true e = absurd (clash refl (ap digitFirst e ∙ decimal-digit-first n y))
+    go true false e = absurd (clash refl (sym (ap begun e) ∙ decimal-begun n x))
+    go false true e = absurd (clash refl (ap begun e ∙ decimal-begun n y))
     go false false e = (refl, append_cancel_left (decimal n) x y (tail-eq_of_cons-eq e))
 
 literals-told : (o p s k : ℕ) (x y : List ℕ) → literals o s k ++ x ≡ literals p s k ++ y → ((i : ℕ) → s ≤ i → i < s + k → hasBit o i ≡ hasBit p i) × (x ≡ y)

@@ -72,6 +72,18 @@ module _ {out₀ : List ℕ} {at₀ : ℕ} {all out : List ℕ} {to : ℕ} where
     pub lines-end : n ≤ s → Placed out₀ at₀ all out to
     lines-end h = left-done (left-none l (lines-past k observations successors fairness s n h))
 
+-- ---- a word by a bit, and digits behind it
+module _ (one zero digits : List ℕ) where
+  chosen-word : (b c : Bool) → b ≡ c → cond b one zero ++ digits ≡ cond c one zero ++ digits
+  chosen-word b c e = ap (λ (x : Bool). cond x one zero ++ digits) e
+
+  pub word-room : (b c : Bool) (at : ℕ) → b ≡ c → Room at (cond b one zero ++ digits) → Room at (cond c one zero ++ digits)
+  word-room b c at e h = subst (Room at) (chosen-word b c e) h
+
+  pub word-placed : (b c : Bool) {before : List ℕ} {at : ℕ} {after : List ℕ} {to : ℕ} → b ≡ c → Placed before at (cond c one zero ++ digits) after to
+      → Placed before at (cond b one zero ++ digits) after to
+  word-placed b c {before} {at} {after} {to} e p = subst (λ (w : List ℕ). Placed before at w after to) (sym (chosen-word b c e)) p
+
 -- ---- the parts of what is put without a loop
 pub braces-start : (out : List ℕ) (at m : ℕ) → (m ≡ 0 → ⊥) → Room at (braces m) → Left out at (braces m) out at (bracesParts m)
 braces-start out at m some h = left-parts out at (braces m) _ (braces-some m some) h

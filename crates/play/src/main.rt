@@ -10,7 +10,7 @@ use std::rt::Env;
 
 // The arguments' text, a blank behind each. Where it does not fit there is none, and so no lasso.
 fn arguments(rt: &impl Env, text: &mut [u8]) -> usize
-    ensures { result ≤ length text.new }
+    ensures { result ≤ length text.old }
 {
     let mut at = 0;
     for i in 1..usize::MAX {

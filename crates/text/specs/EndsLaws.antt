@@ -36,28 +36,28 @@ unfolding decimal
 decimal-digits n = upTo-digits 20 n
 
 -- the first byte of a text is a digit; an empty text has none
-abbrev pub digitFirst : List ℕ → Bool
-digitFirst x = isDigit (get_or x 0 0)
+abbrev pub begun : List ℕ → Bool
+begun x = isDigit (get_or x 0 0)
 
 -- a number's text begins with a digit
-pub decimal-digit-first : (n : ℕ) (x : List ℕ) → digitFirst (decimal n ++ x) ≡ true
-decimal-digit-first n x = go (decimal-digits n) (decimal-some n)
+pub decimal-begun : (n : ℕ) (x : List ℕ) → begun (decimal n ++ x) ≡ true
+decimal-begun n x = go (decimal-digits n) (decimal-some n)
   where
-    go : {u : List ℕ} → Digits u → 1 ≤ length u → digitFirst (u ++ x) ≡ true
+    go : {u : List ℕ} → Digits u → 1 ≤ length u → begun (u ++ x) ≡ true
     go none l = absurd (omega arith)
     go (next d g) l = d
 
 -- digits end where another byte or the end is
-cut : {u v : List ℕ} (x y : List ℕ) → Digits u → Digits v → digitFirst x ≡ false → digitFirst y ≡ false → u ++ x ≡ v ++ y → (u ≡ v) × (x ≡ y)
+cut : {u v : List ℕ} (x y : List ℕ) → Digits u → Digits v → begun x ≡ false → begun y ≡ false → u ++ x ≡ v ++ y → (u ≡ v) × (x ≡ y)
 cut x y none none p q e = (refl, e)
-cut x y none (next d g) p q e = absurd (clash p (ap digitFirst e ∙ d))
-cut x y (next d g) none p q e = absurd (clash q (sym (ap digitFirst e) ∙ d))
+cut x y none (next d g) p q e = absurd (clash p (ap begun e ∙ d))
+cut x y (next d g) none p q e = absurd (clash q (sym (ap begun e) ∙ d))
 cut x y (next d g) (next f h) p q e =
     let r = cut x y g h p q (tail-eq_of_cons-eq e) in
     (ap₂ ◌∷◌ (head-eq_of_cons-eq e) r.0, r.1)
 
 -- a number ends there too, and is told
-pub number-told : (m n : ℕ) (x y : List ℕ) → m < 10 ^ 20 → n < 10 ^ 20 → digitFirst x ≡ false → digitFirst y ≡ false → decimal m ++ x ≡ decimal n ++ y → (m ≡ n) × (x ≡ y)
+pub number-told : (m n : ℕ) (x y : List ℕ) → m < 10 ^ 20 → n < 10 ^ 20 → begun x ≡ false → begun y ≡ false → decimal m ++ x ≡ decimal n ++ y → (m ≡ n) × (x ≡ y)
 number-told m n x y hm hn p q e =
     let r = cut x y (decimal-digits m) (decimal-digits n) p q e in
     (decimal-apart m n hm hn r.0, r.1)
