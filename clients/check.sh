@@ -8,22 +8,19 @@ set -eu
 cd "$(dirname "$0")/.."
 work=$(mktemp -d)
 trap 'rm -rf "$work"' EXIT
-archive=crates/hawkrusset/out/libhawkrusset.a
 # with the argument `built` what `rt ci` has just made is taken as it is, and only what is missing is made
-if [ "${1-}" != built ] || [ ! -e "$archive" ]; then
-    (cd crates/hawkrusset && rt lib) >"$work/log" 2>&1 || { tail -n 20 "$work/log"; exit 1; }
-fi
+clients/archives.sh "$@" >"$work/log" 2>&1 || { tail -n 20 "$work/log"; exit 1; }
 for name in shelf solve turns play hoa; do
     if [ "${1-}" != built ] || [ ! -e "crates/$name/out/$name" ]; then
         (cd "crates/$name" && rt run </dev/null) >"$work/log" 2>&1 || { tail -n 20 "$work/log"; exit 1; }
     fi
 done
 flags='-std=c11 -O2 -Wall -Wextra -Werror'
-cc $flags -o "$work/console" clients/console.c "$archive"
-cc $flags -o "$work/restore" clients/restore.c "$archive"
-cc $flags -o "$work/playback" clients/playback.c "$archive"
-cc $flags -o "$work/watch" clients/watch.c "$archive"
-cc $flags -o "$work/export" clients/export.c "$archive"
+cc $flags -o "$work/console" clients/console.c target/staticlib/libconsole.a
+cc $flags -o "$work/restore" clients/restore.c target/staticlib/librestore.a target/staticlib/libconsole.a
+cc $flags -o "$work/playback" clients/playback.c target/staticlib/libplayback.a
+cc $flags -o "$work/watch" clients/watch.c target/staticlib/libwatch.a target/staticlib/librestore.a
+cc $flags -o "$work/export" clients/export.c target/staticlib/libexport.a
 cc $flags -o "$work/hoa_reader" clients/hoa_reader.c
 
 failed=0
@@ -96,14 +93,15 @@ divides() {
     [ "$found" = "$1" ] || { echo "$2, divide instructions: expected $1, and found $found"; failed=1; }
 }
 
-# a division and a call of a routine that divides are found; the archive has neither
+# a division and a call of a routine that divides are found; the archive, under either name, has neither
 cc -O2 -x c -c -o "$work/quotient.o" - <<'END'
 unsigned __udivsi3(unsigned x, unsigned y);
 unsigned quotient(unsigned x, unsigned y) { return x / y; }
 unsigned called(unsigned x, unsigned y) { return __udivsi3(x, y) + 1; }
 END
 divides 2 "$work/quotient.o" quotient
-divides 0 "$archive" console_answer
+divides 0 target/staticlib/libconsole.a console_answer
+divides 0 target/staticlib/libplayback.a play_file
 
 # the shelf examples, a large show, shows with a hidden mask, one in which the player stays, and shows without a table
 for n in 01 03 05 06 10 12; do expect 100 "samples/case-$n.dom"; done
@@ -413,6 +411,7 @@ varied sed '1s/^/HOA: v1 States: --ABORT--/'
 reads taken sed 's/^Start: 2/Start: 0\&1/'
 reads taken sed '/^prop/d;/^State:/{s/\[.*] //;s/{.*//;};s/^1$/[0\&!1|2] 1 {0} [t] 0\&1/;s/^1 2$/[f] 1/;s/^0 .*//'
 reads taken sed 's/^AP.*/AP: 1 "a"/;s/\[.*] //;s/^1$/1 1/;s/^0 .*/0 2/;s/^prop.*/properties: implicit-labels/'
+reads taken sed 's/^Acc.*/Acceptance: 2 Fin(!0)|t\&Inf(1)/;s/^acc-.*/acc-name: Rabin 1/'
 reads taken sed 's/^Acc.*/Acceptance: 2 Fin(0)\&Inf(1)/;s/^acc-.*/acc-name: Rabin 1/'
 reads taken sed 's/^Acc.*/Acceptance: 2 Fin(!0)|t\&Inf(1)/;/^acc-/d'
 # what this reader does not take, though others may: an item with a capital that it does not know, a state that nothing leads to and that is not listed

@@ -3,8 +3,8 @@
  * and reads no more; if the whole show is larger than MEMORY bytes (as many as any show takes, unless given), it prints 'larger than MEMORY:
  * BYTES' with both numbers and reads no more. It keeps no more of a file than its first block demands. Exit status 1 if the file cannot be read.
  *
- *     (cd crates/hawkrusset && rt lib)
- *     cc -o console clients/console.c crates/hawkrusset/out/libhawkrusset.a
+ *     clients/archives.sh
+ *     cc -o console clients/console.c target/staticlib/libconsole.a
  */
 #include "hawkrusset.h"
 #include <stdio.h>

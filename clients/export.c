@@ -4,8 +4,8 @@
  * alone: the bytes after the text, beside a refusal all of them, beside a text the spot. Exit status 1 if the file cannot be read or the text
  * cannot be written.
  *
- *     (cd crates/hawkrusset && rt lib)
- *     cc -o export clients/export.c crates/hawkrusset/out/libhawkrusset.a
+ *     clients/archives.sh
+ *     cc -o export clients/export.c target/staticlib/libexport.a
  */
 #include "hawkrusset.h"
 #include "whole_file.h"

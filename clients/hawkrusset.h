@@ -42,7 +42,7 @@
  *   200 + c   its table passes, and the rig's start state c is the lowest that lacks a partner (c is below 64);
  *   2 to 12, and 19
  *             it was refused: docs/RULES.md has every number; 12 is an entry of the table that fails.
- * It takes at most 130,000 bytes of stack.
+ * It takes at most 130,000 bytes of stack. libconsole.a has it (clients/archives.sh).
  */
 uint32_t console_answer(const uint8_t *bytes, size_t length);
 
@@ -50,7 +50,7 @@ uint32_t console_answer(const uint8_t *bytes, size_t length);
  * How many bytes the whole file must have, by its first block: a multiple of 512, from 512 to 59,392. Or a refusal's number, 2 to 5 or 19: 2
  * for fewer than 512 bytes. It looks at no byte after the first 512, so that more may be handed over. Of a file of whole blocks whose first
  * block is refused, console_answer gives the same number.
- * It takes at most 100 bytes of stack.
+ * It takes at most 100 bytes of stack. libconsole.a has it.
  */
 uint32_t first_block_answer(const uint8_t *bytes, size_t length);
 
@@ -60,7 +60,7 @@ uint32_t first_block_answer(const uint8_t *bytes, size_t length);
  * is 0: then `out` is unchanged. `spot` is a place for four numbers, written beside a refusal and only then: the refusal's number (1 for an
  * `out` of fewer than 59,392 bytes, 21 for a fairness set without a state) and the three numbers of its spot. `bytes`, `out` and `spot` must not
  * overlap.
- * It takes at most 195,000 bytes of stack.
+ * It takes at most 195,000 bytes of stack. librestore.a has it.
  */
 size_t solve_file(const uint8_t *bytes, size_t length, uint8_t *out, size_t room, uint64_t spot[4]);
 
@@ -70,7 +70,7 @@ size_t solve_file(const uint8_t *bytes, size_t length, uint8_t *out, size_t room
  * after it, and `spot`, are unchanged. No loop is empty, so that this is not 0. Or the answer is 0: then `run` is unchanged, and `spot` has
  * the refusal's number (1 for a `run` of fewer than 28,672 bytes, 12 for an entry of the table that fails, 13 to 16 for the lasso) and the
  * three numbers of its spot, or 101 and three zeros where the file has no table. `run` and `spot` must not overlap each other or the rest.
- * It takes at most 130,000 bytes of stack.
+ * It takes at most 130,000 bytes of stack. libplayback.a has it.
  */
 uint64_t play_file(const uint8_t *bytes, size_t length, const uint8_t *stem, size_t stem_length, const uint8_t *loop, size_t loop_length,
                    uint8_t *run, size_t room, uint64_t spot[4]);
@@ -89,7 +89,7 @@ uint64_t play_file(const uint8_t *bytes, size_t length, const uint8_t *stem, siz
  * set without a state, and last 20 for a look-up whose section or state is out of range. What is written must not overlap the rest.
  * A family of other origin is no error: of it turn and look-up see the matched pairs of the machines, and a turn gives what its rule gives. That
  * struck out is final, how many turns it takes and that the table is solve_file's is said of turns from first_family_file on.
- * They take at most 130,000, 165,000 and 130,000 bytes of stack.
+ * They take at most 130,000, 165,000 and 130,000 bytes of stack. libwatch.a has them.
  */
 uint32_t first_family_file(const uint8_t *bytes, size_t length, uint64_t family[HAWKRUSSET_FAMILY], uint64_t spot[4]);
 
@@ -105,7 +105,7 @@ uint32_t look_up_file(const uint8_t *bytes, size_t length, const uint64_t family
  * without a state is written like any other. Or the answer is 0: then `out` is unchanged, and `spot` has the refusal's number and the three numbers
  * of its spot. The numbers are 1 for an `out` of fewer than 20,000 bytes, told before the file is looked at, those of the reader, 2 to 11 and 19,
  * and last 20 for a machine that is neither 0 nor 1. `bytes`, `out` and `spot` must not overlap.
- * It takes at most 130,000 bytes of stack.
+ * It takes at most 130,000 bytes of stack. libexport.a has it.
  */
 size_t hoa_file(const uint8_t *bytes, size_t length, size_t which, uint8_t *out, size_t room, uint64_t spot[4]);
 

@@ -2,8 +2,8 @@
  * playback FILE STEM.. / LOOP..: plays a lasso of the rig, given by its states, by the table of a file, and prints the score's run: 'run', the
  * stem's states, '/', the loop's states. Or it prints 'no table' or the refusal. Exit status 1 if the file or the lasso cannot be read.
  *
- *     (cd crates/hawkrusset && rt lib)
- *     cc -o playback clients/playback.c crates/hawkrusset/out/libhawkrusset.a
+ *     clients/archives.sh
+ *     cc -o playback clients/playback.c target/staticlib/libplayback.a
  */
 #include "hawkrusset.h"
 #include "whole_file.h"

@@ -2,8 +2,8 @@
  * restore FILE NEW: writes the show of a file with the solver's table to a new file, and prints what console_answer says of it; or prints
  * the refusal and writes nothing. Exit status 1 if a file cannot be read or written.
  *
- *     (cd crates/hawkrusset && rt lib)
- *     cc -o restore clients/restore.c crates/hawkrusset/out/libhawkrusset.a
+ *     clients/archives.sh
+ *     cc -o restore clients/restore.c target/staticlib/librestore.a target/staticlib/libconsole.a
  */
 #include "hawkrusset.h"
 #include "whole_file.h"

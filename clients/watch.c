@@ -7,8 +7,8 @@
  * each section.
  * A refusal is printed in their place, and `changed` if a call changed what it says that it leaves alone. Exit status 1 if the file cannot be read.
  *
- *     (cd crates/hawkrusset && rt lib)
- *     cc -o watch clients/watch.c crates/hawkrusset/out/libhawkrusset.a
+ *     clients/archives.sh
+ *     cc -o watch clients/watch.c target/staticlib/libwatch.a target/staticlib/librestore.a
  */
 #include "hawkrusset.h"
 #include "whole_file.h"
