@@ -14,12 +14,12 @@ use machine::{Pair, Validity};
 // ---- The table that covers what a family holds
 
 // Entry number e: 0 for a matched pair whose bit is set, and else blank.
-fn family_entry(p: Pair, family: &[u64; 448], e: usize) -> u16
-    requires { (wellFormed p ≡ true) × (e < entries p) }
-    ensures { result ≡ familyEntry p family.now e }
+fn family_entry(p: &Pair, family: &[u64; 448], e: usize) -> u16
+    requires { (wellFormed p.now ≡ true) × (e < entries p.now) }
+    ensures { result ≡ familyEntry p.now family.now e }
 {
-    let concrete = p.concrete;
-    let abstraction = p.abstraction;
+    let concrete = &p.concrete;
+    let abstraction = &p.abstraction;
     let pairs = concrete.states * abstraction.states;
     let j = e / pairs;
     let c = e % pairs / abstraction.states;
@@ -38,8 +38,8 @@ fn family_entry(p: Pair, family: &[u64; 448], e: usize) -> u16
 pub fn put_family(p: Pair, family: &[u64; 448], table: &mut [u16])
     ensures { table.new ≡ familyTable p family.now table.old }
 {
-    let concrete = p.concrete;
-    let abstraction = p.abstraction;
+    let concrete = &p.concrete;
+    let abstraction = &p.abstraction;
     if table.len() < machine::TABLE_ROOM {
         return;
     }
@@ -48,18 +48,18 @@ pub fn put_family(p: Pair, family: &[u64; 448], table: &mut [u16])
         return;
     }
     for e in 0..abstraction.sets * (concrete.states * abstraction.states) {
-        table[e] = family_entry(p, family, e);
+        table[e] = family_entry(&p, family, e);
     }
 }
 
 // ---- Stray bits
 
 // Whether (c, a) is a matched pair of the machines, and j one of their sections.
-fn is_pair(p: Pair, j: usize, c: usize, a: usize) -> bool
-    ensures { result ≡ isPair p j c a }
+fn is_pair(p: &Pair, j: usize, c: usize, a: usize) -> bool
+    ensures { result ≡ isPair p.now j c a }
 {
-    let concrete = p.concrete;
-    let abstraction = p.abstraction;
+    let concrete = &p.concrete;
+    let abstraction = &p.abstraction;
     if j >= abstraction.sets {
         return false;
     }
@@ -73,9 +73,13 @@ fn is_pair(p: Pair, j: usize, c: usize, a: usize) -> bool
 }
 
 // Whether each bit of a row stands for such a pair.
-fn row_holds(p: Pair, j: usize, c: usize, row: u64) -> bool
-    ensures { result ≡ every 64 (λ a. or (not (hasBit row a)) (isPair p j c a)) }
+fn row_holds(p: &Pair, j: usize, c: usize, row: u64) -> bool
+    ensures { result ≡ every 64 (λ a. or (not (hasBit row a)) (isPair p.now j c a)) }
 {
+    // most rows have no bit at all
+    if row == 0 {
+        return true;
+    }
     for a in 0..64 {
         if mask::has(row, a) {
             if !is_pair(p, j, c, a) {
@@ -91,7 +95,7 @@ pub fn holds_pairs(p: Pair, family: &[u64; 448]) -> bool
     ensures { result ≡ holdsPairs p family.now }
 {
     for e in 0..448 {
-        if !row_holds(p, e / 64, e % 64, family[e]) {
+        if !row_holds(&p, e / 64, e % 64, family[e]) {
             return false;
         }
     }

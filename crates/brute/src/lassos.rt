@@ -23,8 +23,8 @@ pub fn moment_at(stem: &[u8], cycle: &[u8], t: usize) -> u8
 }
 
 // Whether stem and loop are a lasso.
-fn is_lasso(m: Machine, stem: &[u8], cycle: &[u8]) -> bool
-    ensures { result ≡ isLasso m (given stem.now cycle.now) }
+fn is_lasso(m: &Machine, stem: &[u8], cycle: &[u8]) -> bool
+    ensures { result ≡ isLasso m.now (given stem.now cycle.now) }
 {
     if cycle.len() == 0 {
         return false;
@@ -42,8 +42,8 @@ fn is_lasso(m: Machine, stem: &[u8], cycle: &[u8]) -> bool
 }
 
 // Whether the loop has a state of set k.
-fn visits(m: Machine, k: usize, cycle: &[u8]) -> bool
-    ensures { result ≡ some (length cycle.now) (λ i. inFairSet m k (get_or cycle.now i 0)) }
+fn visits(m: &Machine, k: usize, cycle: &[u8]) -> bool
+    ensures { result ≡ some (length cycle.now) (λ i. inFairSet m.now k (get_or cycle.now i 0)) }
 {
     for i in 0..cycle.len() {
         if in_set(m, k, cycle[i] as usize) {
@@ -54,8 +54,8 @@ fn visits(m: Machine, k: usize, cycle: &[u8]) -> bool
 }
 
 // Whether the loop has a state of each set; the stem makes no difference.
-fn is_fair(m: Machine, cycle: &[u8]) -> bool
-    ensures { result ≡ isFair m (given [] cycle.now) }
+fn is_fair(m: &Machine, cycle: &[u8]) -> bool
+    ensures { result ≡ isFair m.now (given [] cycle.now) }
 {
     for k in 0..m.sets {
         if !visits(m, k, cycle) {
@@ -69,13 +69,13 @@ fn is_fair(m: Machine, cycle: &[u8]) -> bool
 pub fn is_play(m: Machine, stem: &[u8], cycle: &[u8]) -> bool
     ensures { result ≡ isPlay m (given stem.now cycle.now) }
 {
-    if !is_lasso(m, stem, cycle) {
+    if !is_lasso(&m, stem, cycle) {
         return false;
     }
-    if !is_fair(m, cycle) {
+    if !is_fair(&m, cycle) {
         return false;
     }
-    has_start(m, moment_at(stem, cycle, 0) as usize)
+    has_start(&m, moment_at(stem, cycle, 0) as usize)
 }
 
 // Whether two lassos have the same observations, in the bits that are not hidden, at the first n moments.
@@ -93,8 +93,8 @@ pub fn same_until(
         (observation k (moment (given run.now round.now) t))) }
 {
     for t in 0..n {
-        let s = observed(m, moment_at(stem, cycle, t) as usize);
-        let u = observed(k, moment_at(run, round, t) as usize);
+        let s = observed(&m, moment_at(stem, cycle, t) as usize);
+        let u = observed(&k, moment_at(run, round, t) as usize);
         if !machine::same_observation(hidden, s, u) {
             return false;
         }
@@ -105,8 +105,8 @@ pub fn same_until(
 // ---- Refusals 13 to 15
 
 // Whether 14 holds at position i.
-fn bad_step(m: Machine, stem: &[u8], cycle: &[u8], i: usize) -> bool
-    ensures { result ≡ badStep m (given stem.now cycle.now) i }
+fn bad_step(m: &Machine, stem: &[u8], cycle: &[u8], i: usize) -> bool
+    ensures { result ≡ badStep m.now (given stem.now cycle.now) i }
 {
     let s = moment_at(stem, cycle, i) as usize;
     if s >= m.states {
@@ -130,8 +130,8 @@ fn bad_step(m: Machine, stem: &[u8], cycle: &[u8], i: usize) -> bool
 }
 
 // The lowest position at which 14 holds, the lasso's length where there is none.
-fn first_bad(m: Machine, stem: &[u8], cycle: &[u8]) -> usize
-    ensures { result ≡ first (length stem.now + length cycle.now) (badStep m (given stem.now cycle.now)) }
+fn first_bad(m: &Machine, stem: &[u8], cycle: &[u8]) -> usize
+    ensures { result ≡ first (length stem.now + length cycle.now) (badStep m.now (given stem.now cycle.now)) }
 {
     for i in 0..stem.len() + cycle.len() {
         if bad_step(m, stem, cycle, i) {
@@ -142,8 +142,8 @@ fn first_bad(m: Machine, stem: &[u8], cycle: &[u8]) -> usize
 }
 
 // The lowest set without a state of the loop, the number of sets where there is none.
-fn first_missed(m: Machine, cycle: &[u8]) -> usize
-    ensures { result ≡ first m.sets (missedSet m (given [] cycle.now)) }
+fn first_missed(m: &Machine, cycle: &[u8]) -> usize
+    ensures { result ≡ first m.now.sets (missedSet m.now (given [] cycle.now)) }
 {
     for k in 0..m.sets {
         if !visits(m, k, cycle) {
@@ -154,8 +154,8 @@ fn first_missed(m: Machine, cycle: &[u8]) -> usize
 }
 
 // 13 to 15 of a lasso; the spot's set is counted from 1.
-pub fn lasso_fits(m: Machine, stem: &[u8], cycle: &[u8]) -> Validity
-    ensures { testedOf result ≡ lassoValidity m (given stem.now cycle.now) }
+pub fn lasso_fits(m: &Machine, stem: &[u8], cycle: &[u8]) -> Validity
+    ensures { testedOf result ≡ lassoValidity m.now (given stem.now cycle.now) }
 {
     if cycle.len() == 0 {
         return Validity::Refused(machine::refuse(machine::BAD_LASSO_LENGTH, 0, 0, 0));

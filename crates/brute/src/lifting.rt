@@ -23,12 +23,12 @@ fn raise(most: usize, e: u16) -> u16
 }
 
 // Raises entry number e where it fails its line.
-fn lift_entry(p: Pair, table: &mut [u16], e: usize)
-    requires { (wellFormed p ≡ true) × ((e < entries p) × (entries p ≤ length table.old)) }
-    ensures { table.new ≡ liftedAt p e table.old }
+fn lift_entry(p: &Pair, table: &mut [u16], e: usize)
+    requires { (wellFormed p.now ≡ true) × ((e < entries p.now) × (entries p.now ≤ length table.old)) }
+    ensures { table.new ≡ liftedAt p.now e table.old }
 {
-    let concrete = p.concrete;
-    let abstraction = p.abstraction;
+    let concrete = &p.concrete;
+    let abstraction = &p.abstraction;
     let pairs = concrete.states * abstraction.states;
     let c = e % pairs / abstraction.states;
     let a = e % abstraction.states;
@@ -38,12 +38,12 @@ fn lift_entry(p: Pair, table: &mut [u16], e: usize)
 }
 
 // Raises each entry that fails, in the order of the entries.
-fn sweep(p: Pair, table: &mut [u16])
-    requires { (wellFormed p ≡ true) × (entries p ≤ length table.old) }
-    ensures { table.new ≡ swept p (entries p) table.old }
+fn sweep(p: &Pair, table: &mut [u16])
+    requires { (wellFormed p.now ≡ true) × (entries p.now ≤ length table.old) }
+    ensures { table.new ≡ swept p.now (entries p.now) table.old }
 {
-    let concrete = p.concrete;
-    let abstraction = p.abstraction;
+    let concrete = &p.concrete;
+    let abstraction = &p.abstraction;
     for e in 0..abstraction.sets * (concrete.states * abstraction.states) {
         lift_entry(p, table, e);
     }
@@ -63,8 +63,8 @@ fn put_zeros(n: usize, table: &mut [u16])
 pub fn lift(p: Pair, table: &mut [u16])
     ensures { table.new ≡ liftedTable p table.old }
 {
-    let concrete = p.concrete;
-    let abstraction = p.abstraction;
+    let concrete = &p.concrete;
+    let abstraction = &p.abstraction;
     if table.len() < machine::TABLE_ROOM {
         return;
     }
@@ -76,10 +76,10 @@ pub fn lift(p: Pair, table: &mut [u16])
     let count = abstraction.sets * pairs;
     put_zeros(count, table);
     for _ in 0..count * (concrete.sets * pairs + 2) {
-        let passed = lines(p, table);
+        let passed = lines(&p, table);
         if let Validity::Valid = passed {
             return;
         }
-        sweep(p, table);
+        sweep(&p, table);
     }
 }

@@ -46,29 +46,24 @@ pub fn value_at(table: &[u16], i: usize) -> u16
 }
 
 // The entry of (c, a) in section j.
-pub fn entry_at(p: Pair, table: &[u16], j: usize, c: usize, a: usize) -> u16
-    requires { (wellFormed p ≡ true) × ((j < 7) × ((c < 256) × (a ≤ 64))) }
-    ensures { result ≡ entry p table.now j c a }
+pub fn entry_at(p: &Pair, table: &[u16], j: usize, c: usize, a: usize) -> u16
+    requires { (wellFormed p.now ≡ true) × ((j < 7) × ((c < 256) × (a ≤ 64))) }
+    ensures { result ≡ entry p.now table.now j c a }
 {
-    let concrete = p.concrete;
-    let abstraction = p.abstraction;
+    let concrete = &p.concrete;
+    let abstraction = &p.abstraction;
     value_at(table, (j * concrete.states + c) * abstraction.states + a)
 }
 
-// The l and k of an entry that is not 0, by counting down.
+// The l and k of an entry that is not 0.
 fn level_of(m: usize, e: u16) -> Level
     requires { (0 < m) × (0 < e) }
     ensures { result ≡ record { level = levelOf m e; set = setOf m e } }
 {
-    let mut rest = e as usize;
-    let mut level: usize = 1;
-    while rest > m {
-        rest -= m;
-        level += 1;
-    }
+    let rest = e as usize - 1;
     Level {
-        level: level,
-        set: rest - 1,
+        level: rest / m + 1,
+        set: rest % m,
     }
 }
 
@@ -91,12 +86,12 @@ fn hits(t: Target, m: usize, e: u16) -> bool
 }
 
 // Whether some successor of a is matched with d and has, beside it in section j, an entry that the line steps into.
-fn finds(p: Pair, table: &[u16], t: Target, j: usize, d: usize, a: usize) -> bool
-    requires { (wellFormed p ≡ true) × ((j < 7) × (d ≤ 64)) }
-    ensures { result ≡ someIn (nA p) (successors p.abstraction a) (inTarget p table.now t j d) }
+fn finds(p: &Pair, table: &[u16], t: Target, j: usize, d: usize, a: usize) -> bool
+    requires { (wellFormed p.now ≡ true) × ((j < 7) × (d ≤ 64)) }
+    ensures { result ≡ someIn (nA p.now) (successors p.now.abstraction a) (inTarget p.now table.now t j d) }
 {
-    let concrete = p.concrete;
-    let abstraction = p.abstraction;
+    let concrete = &p.concrete;
+    let abstraction = &p.abstraction;
     for b in 0..abstraction.states {
         if has_move(abstraction, a, b) {
             if is_matched(p, d, b) {
@@ -110,11 +105,11 @@ fn finds(p: Pair, table: &[u16], t: Target, j: usize, d: usize, a: usize) -> boo
 }
 
 // Whether (c, a) steps into the entries of section j that the line asks for.
-pub fn steps_into(p: Pair, table: &[u16], t: Target, j: usize, c: usize, a: usize) -> bool
-    requires { (wellFormed p ≡ true) × (j < 7) }
-    ensures { result ≡ steps p (inTarget p table.now t j) c a }
+pub fn steps_into(p: &Pair, table: &[u16], t: Target, j: usize, c: usize, a: usize) -> bool
+    requires { (wellFormed p.now ≡ true) × (j < 7) }
+    ensures { result ≡ steps p.now (inTarget p.now table.now t j) c a }
 {
-    let concrete = p.concrete;
+    let concrete = &p.concrete;
     for d in 0..concrete.states {
         if has_move(concrete, c, d) {
             if !finds(p, table, t, j, d, a) {
@@ -126,11 +121,11 @@ pub fn steps_into(p: Pair, table: &[u16], t: Target, j: usize, c: usize, a: usiz
 }
 
 // Entry 0: a is in set j, and the pair steps into the non-blank pairs of the next section.
-pub fn goal_holds(p: Pair, table: &[u16], j: usize, c: usize, a: usize) -> bool
-    requires { (wellFormed p ≡ true) × (j < setsA p) }
-    ensures { result ≡ goalLine p table.now j c a }
+pub fn goal_holds(p: &Pair, table: &[u16], j: usize, c: usize, a: usize) -> bool
+    requires { (wellFormed p.now ≡ true) × (j < setsA p.now) }
+    ensures { result ≡ goalLine p.now table.now j c a }
 {
-    let abstraction = p.abstraction;
+    let abstraction = &p.abstraction;
     if !in_set(abstraction, j, a) {
         return false;
     }
@@ -145,11 +140,11 @@ pub fn goal_holds(p: Pair, table: &[u16], j: usize, c: usize, a: usize) -> bool
 }
 
 // Entry e > 0: if c is in set k, the pair steps into entries that are 0 or have a smaller l, else into those that are at most e.
-fn rank_holds(p: Pair, table: &[u16], j: usize, e: u16, c: usize, a: usize) -> bool
-    requires { (wellFormed p ≡ true) × ((j < 7) × (0 < e)) }
-    ensures { result ≡ rankLine p table.now j e c a }
+fn rank_holds(p: &Pair, table: &[u16], j: usize, e: u16, c: usize, a: usize) -> bool
+    requires { (wellFormed p.now ≡ true) × ((j < 7) × (0 < e)) }
+    ensures { result ≡ rankLine p.now table.now j e c a }
 {
-    let concrete = p.concrete;
+    let concrete = &p.concrete;
     let rank = level_of(concrete.sets, e);
     if in_set(concrete, rank.set, c) {
         steps_into(p, table, Target::Lower(rank.level), j, c, a)
@@ -159,12 +154,12 @@ fn rank_holds(p: Pair, table: &[u16], j: usize, e: u16, c: usize, a: usize) -> b
 }
 
 // Whether the entry of (c, a) in section j passes.
-pub fn entry_passes(p: Pair, table: &[u16], j: usize, c: usize, a: usize) -> bool
-    requires { (wellFormed p ≡ true) × ((j < setsA p) × ((c ≤ 64) × (a ≤ 64))) }
-    ensures { result ≡ passes p table.now j c a }
+pub fn entry_passes(p: &Pair, table: &[u16], j: usize, c: usize, a: usize) -> bool
+    requires { (wellFormed p.now ≡ true) × ((j < setsA p.now) × ((c ≤ 64) × (a ≤ 64))) }
+    ensures { result ≡ passes p.now table.now j c a }
 {
-    let concrete = p.concrete;
-    let abstraction = p.abstraction;
+    let concrete = &p.concrete;
+    let abstraction = &p.abstraction;
     let e = entry_at(p, table, j, c, a);
     if e == machine::BLANK {
         return true;
@@ -182,11 +177,11 @@ pub fn entry_passes(p: Pair, table: &[u16], j: usize, c: usize, a: usize) -> boo
 }
 
 // The lowest a whose entry beside c in section j fails, nA where none does.
-fn failing_state(p: Pair, table: &[u16], j: usize, c: usize) -> usize
-    requires { (wellFormed p ≡ true) × ((j < setsA p) × (c ≤ 64)) }
-    ensures { result ≡ first (nA p) (λ a. not (passes p table.now j c a)) }
+fn failing_state(p: &Pair, table: &[u16], j: usize, c: usize) -> usize
+    requires { (wellFormed p.now ≡ true) × ((j < setsA p.now) × (c ≤ 64)) }
+    ensures { result ≡ first (nA p.now) (λ a. not (passes p.now table.now j c a)) }
 {
-    let abstraction = p.abstraction;
+    let abstraction = &p.abstraction;
     for a in 0..abstraction.states {
         if !entry_passes(p, table, j, c, a) {
             return a;
@@ -196,12 +191,12 @@ fn failing_state(p: Pair, table: &[u16], j: usize, c: usize) -> usize
 }
 
 // The lowest c in whose row of section j an entry fails, nC where none does.
-fn failing_row(p: Pair, table: &[u16], j: usize) -> usize
-    requires { (wellFormed p ≡ true) × (j < setsA p) }
-    ensures { result ≡ first (nC p) (λ c. not (every (nA p) (passes p table.now j c))) }
+fn failing_row(p: &Pair, table: &[u16], j: usize) -> usize
+    requires { (wellFormed p.now ≡ true) × (j < setsA p.now) }
+    ensures { result ≡ first (nC p.now) (λ c. not (every (nA p.now) (passes p.now table.now j c))) }
 {
-    let concrete = p.concrete;
-    let abstraction = p.abstraction;
+    let concrete = &p.concrete;
+    let abstraction = &p.abstraction;
     for c in 0..concrete.states {
         if failing_state(p, table, j, c) < abstraction.states {
             return c;
@@ -211,12 +206,12 @@ fn failing_row(p: Pair, table: &[u16], j: usize) -> usize
 }
 
 // The lowest section in which an entry fails, n where none does.
-fn failing_section(p: Pair, table: &[u16]) -> usize
-    requires { wellFormed p ≡ true }
-    ensures { result ≡ first (setsA p) (λ j. not (every (nC p) (λ c. every (nA p) (passes p table.now j c)))) }
+fn failing_section(p: &Pair, table: &[u16]) -> usize
+    requires { wellFormed p.now ≡ true }
+    ensures { result ≡ first (setsA p.now) (λ j. not (every (nC p.now) (λ c. every (nA p.now) (passes p.now table.now j c)))) }
 {
-    let concrete = p.concrete;
-    let abstraction = p.abstraction;
+    let concrete = &p.concrete;
+    let abstraction = &p.abstraction;
     for j in 0..abstraction.sets {
         if failing_row(p, table, j) < concrete.states {
             return j;
@@ -226,11 +221,11 @@ fn failing_section(p: Pair, table: &[u16]) -> usize
 }
 
 // 12, with the first entry that fails; the spot's section is counted from 1.
-pub fn lines(p: Pair, table: &[u16]) -> Validity
-    requires { wellFormed p ≡ true }
-    ensures { testedOf result ≡ linesValidity p table.now }
+pub fn lines(p: &Pair, table: &[u16]) -> Validity
+    requires { wellFormed p.now ≡ true }
+    ensures { testedOf result ≡ linesValidity p.now table.now }
 {
-    let abstraction = p.abstraction;
+    let abstraction = &p.abstraction;
     let j = failing_section(p, table);
     if j < abstraction.sets {
         let c = failing_row(p, table, j);
@@ -241,12 +236,12 @@ pub fn lines(p: Pair, table: &[u16]) -> Validity
 }
 
 // How many of the n x P entries are not blank.
-fn covered(p: Pair, table: &[u16]) -> usize
-    requires { wellFormed p ≡ true }
-    ensures { result ≡ coveredCount p table.now }
+fn covered(p: &Pair, table: &[u16]) -> usize
+    requires { wellFormed p.now ≡ true }
+    ensures { result ≡ coveredCount p.now table.now }
 {
-    let concrete = p.concrete;
-    let abstraction = p.abstraction;
+    let concrete = &p.concrete;
+    let abstraction = &p.abstraction;
     let mut found: usize = 0;
     for e in 0..abstraction.sets * (concrete.states * abstraction.states) {
         if value_at(table, e) != machine::BLANK {
@@ -257,11 +252,11 @@ fn covered(p: Pair, table: &[u16]) -> usize
 }
 
 // Whether c has an abstract start state beside it that is not blank in section 1.
-fn start_covered(p: Pair, table: &[u16], c: usize) -> bool
-    requires { (wellFormed p ≡ true) × (c ≤ 64) }
-    ensures { result ≡ startCovered p table.now c }
+fn start_covered(p: &Pair, table: &[u16], c: usize) -> bool
+    requires { (wellFormed p.now ≡ true) × (c ≤ 64) }
+    ensures { result ≡ startCovered p.now table.now c }
 {
-    let abstraction = p.abstraction;
+    let abstraction = &p.abstraction;
     for a in 0..abstraction.states {
         if has_start(abstraction, a) {
             if entry_at(p, table, 0, c, a) != machine::BLANK {
@@ -273,11 +268,11 @@ fn start_covered(p: Pair, table: &[u16], c: usize) -> bool
 }
 
 // The lowest concrete start state that has none, nC where each has one.
-fn lacking_start(p: Pair, table: &[u16]) -> usize
-    requires { wellFormed p ≡ true }
-    ensures { result ≡ lackingStart p table.now }
+fn lacking_start(p: &Pair, table: &[u16]) -> usize
+    requires { wellFormed p.now ≡ true }
+    ensures { result ≡ lackingStart p.now table.now }
 {
-    let concrete = p.concrete;
+    let concrete = &p.concrete;
     for c in 0..concrete.states {
         if has_start(concrete, c) {
             if !start_covered(p, table, c) {
@@ -289,12 +284,12 @@ fn lacking_start(p: Pair, table: &[u16]) -> usize
 }
 
 // What is said of a table that passes each line.
-fn start_verdict(p: Pair, table: &[u16]) -> Verdict
-    requires { wellFormed p ≡ true }
-    ensures verdict { verdictOf result ≡ answer (startVerdict p table.now) }
-    ensures empty { emptySetOf result ≡ hasEmptySet p.concrete }
+fn start_verdict(p: &Pair, table: &[u16]) -> Verdict
+    requires { wellFormed p.now ≡ true }
+    ensures verdict { verdictOf result ≡ answer (startVerdict p.now table.now) }
+    ensures empty { emptySetOf result ≡ hasEmptySet p.now.concrete }
 {
-    let concrete = p.concrete;
+    let concrete = &p.concrete;
     let c = lacking_start(p, table);
     let empty = has_empty_set(concrete);
     if c < concrete.states {
@@ -316,9 +311,9 @@ pub fn plain_verdict(p: Pair, table: &[u16]) -> Verdict
     if let Validity::Refused(r) = valid {
         return Verdict::Refused(r);
     }
-    let passed = lines(p, table);
+    let passed = lines(&p, table);
     if let Validity::Refused(r) = passed {
         return Verdict::Refused(r);
     }
-    start_verdict(p, table)
+    start_verdict(&p, table)
 }

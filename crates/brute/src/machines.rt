@@ -9,66 +9,63 @@ ghost use Rattle.machine.specs.WellFormed.{countsOk, beyond, stateBeyond, setBey
 use machine::{Machine, Pair, Validity};
 
 // The successor mask of state s; a machine has 64, and past these an empty one.
-pub fn successors_of(m: Machine, s: usize) -> u64
-    ensures { result ≡ successors m s }
+pub fn successors_of(m: &Machine, s: usize) -> u64
+    ensures { result ≡ successors m.now s }
 {
-    let masks = m.successors;
-    if s < 64 { masks[s] } else { 0 }
+    if s < 64 { m.successors[s] } else { 0 }
 }
 
 // Whether t is a successor of s.
-pub fn has_move(m: Machine, s: usize, t: usize) -> bool
-    ensures { result ≡ moves m s t }
+pub fn has_move(m: &Machine, s: usize, t: usize) -> bool
+    ensures { result ≡ moves m.now s t }
 {
     mask::has(successors_of(m, s), t)
 }
 
 // Whether s is a start state.
-pub fn has_start(m: Machine, s: usize) -> bool
-    ensures { result ≡ starts m s }
+pub fn has_start(m: &Machine, s: usize) -> bool
+    ensures { result ≡ starts m.now s }
 {
     mask::has(m.start, s)
 }
 
 // The mask of set k; a machine has 8, and past these an empty one.
-pub fn set_of(m: Machine, k: usize) -> u64
-    ensures { result ≡ fairSet m k }
+pub fn set_of(m: &Machine, k: usize) -> u64
+    ensures { result ≡ fairSet m.now k }
 {
-    let masks = m.fairness;
-    if k < 8 { masks[k] } else { 0 }
+    if k < 8 { m.fairness[k] } else { 0 }
 }
 
 // Whether s is in set k.
-pub fn in_set(m: Machine, k: usize, s: usize) -> bool
-    ensures { result ≡ inFairSet m k s }
+pub fn in_set(m: &Machine, k: usize, s: usize) -> bool
+    ensures { result ≡ inFairSet m.now k s }
 {
     mask::has(set_of(m, k), s)
 }
 
 // The observation of state s; past the 64 of a machine it is 0.
-pub fn observed(m: Machine, s: usize) -> u8
-    ensures { result ≡ observation m s }
+pub fn observed(m: &Machine, s: usize) -> u8
+    ensures { result ≡ observation m.now s }
 {
-    let bytes = m.observations;
-    if s < 64 { bytes[s] } else { 0 }
+    if s < 64 { m.observations[s] } else { 0 }
 }
 
 // Whether (c, a) is matched.
-pub fn is_matched(p: Pair, c: usize, a: usize) -> bool
-    ensures { result ≡ matched p c a }
+pub fn is_matched(p: &Pair, c: usize, a: usize) -> bool
+    ensures { result ≡ matched p.now c a }
 {
     machine::same_observation(
         p.hidden,
-        observed(p.concrete, c),
-        observed(p.abstraction, a),
+        observed(&p.concrete, c),
+        observed(&p.abstraction, a),
     )
 }
 
 // ---- Well-formedness
 
 // Whether a machine has 1 to 64 states and 1 to `limit` sets.
-fn has_counts(limit: usize, m: Machine) -> bool
-    ensures { result ≡ countsOk limit m.states m.sets }
+fn has_counts(limit: usize, m: &Machine) -> bool
+    ensures { result ≡ countsOk limit m.now.states m.now.sets }
 {
     if m.states == 0 {
         return false;
@@ -86,6 +83,10 @@ fn has_counts(limit: usize, m: Machine) -> bool
 fn has_past(n: usize, m: u64) -> bool
     ensures { result ≡ beyond n m }
 {
+    // most masks have states below n alone
+    if m <= mask::full(n) {
+        return false;
+    }
     for s in 0..64 {
         if mask::has(m, s) {
             if n <= s {
@@ -97,8 +98,8 @@ fn has_past(n: usize, m: u64) -> bool
 }
 
 // Whether state s has something beyond the counts: a successor, or anything at all where the machine has no such state.
-fn state_past(m: Machine, s: usize) -> bool
-    ensures { result ≡ stateBeyond m.states m.observations m.successors s }
+fn state_past(m: &Machine, s: usize) -> bool
+    ensures { result ≡ stateBeyond m.now.states m.now.observations m.now.successors s }
 {
     if s < m.states {
         return has_past(m.states, successors_of(m, s));
@@ -110,8 +111,8 @@ fn state_past(m: Machine, s: usize) -> bool
 }
 
 // Whether some state has something beyond the counts.
-fn states_past(m: Machine) -> bool
-    ensures { result ≡ some 64 (stateBeyond m.states m.observations m.successors) }
+fn states_past(m: &Machine) -> bool
+    ensures { result ≡ some 64 (stateBeyond m.now.states m.now.observations m.now.successors) }
 {
     for s in 0..64 {
         if state_past(m, s) {
@@ -122,8 +123,8 @@ fn states_past(m: Machine) -> bool
 }
 
 // Whether set k has something beyond the counts: a state, or anything at all where the machine has no such set.
-fn set_past(m: Machine, k: usize) -> bool
-    ensures { result ≡ setBeyond m.states m.sets m.fairness k }
+fn set_past(m: &Machine, k: usize) -> bool
+    ensures { result ≡ setBeyond m.now.states m.now.sets m.now.fairness k }
 {
     if k < m.sets {
         return has_past(m.states, set_of(m, k));
@@ -132,8 +133,8 @@ fn set_past(m: Machine, k: usize) -> bool
 }
 
 // Whether some set has something beyond the counts.
-fn sets_past(m: Machine) -> bool
-    ensures { result ≡ some 8 (setBeyond m.states m.sets m.fairness) }
+fn sets_past(m: &Machine) -> bool
+    ensures { result ≡ some 8 (setBeyond m.now.states m.now.sets m.now.fairness) }
 {
     for k in 0..8 {
         if set_past(m, k) {
@@ -144,8 +145,8 @@ fn sets_past(m: Machine) -> bool
 }
 
 // Whether a bit or an entry of a machine lies beyond its counts.
-fn is_past(m: Machine) -> bool
-    ensures { result ≡ beyondCounts m }
+fn is_past(m: &Machine) -> bool
+    ensures { result ≡ beyondCounts m.now }
 {
     if has_past(m.states, m.start) {
         return true;
@@ -157,8 +158,8 @@ fn is_past(m: Machine) -> bool
 }
 
 // The lowest state without a successor, 64 where there is none.
-fn stuck(m: Machine) -> usize
-    ensures { result ≡ stuckState m.states m.successors }
+fn stuck(m: &Machine) -> usize
+    ensures { result ≡ stuckState m.now.states m.now.successors }
 {
     for s in 0..64 {
         if s < m.states {
@@ -171,8 +172,8 @@ fn stuck(m: Machine) -> usize
 }
 
 // 9, 10 and 11 of machine number i of a pair.
-fn content(i: usize, m: Machine) -> Validity
-    ensures { testedOf result ≡ contentValidity i m }
+fn content(i: usize, m: &Machine) -> Validity
+    ensures { testedOf result ≡ contentValidity i m.now }
 {
     if is_past(m) {
         return Validity::Refused(machine::refuse(machine::BEYOND_COUNTS, i, 0, 0));
@@ -200,8 +201,8 @@ fn has_state(members: u64) -> bool
 }
 
 // The lowest set without a state, counted from 0; 8 where there is none.
-fn empty_set(m: Machine) -> usize
-    ensures { result ≡ emptySet m.sets m.fairness }
+fn empty_set(m: &Machine) -> usize
+    ensures { result ≡ emptySet m.now.sets m.now.fairness }
 {
     for k in 0..8 {
         if k < m.sets {
@@ -214,15 +215,15 @@ fn empty_set(m: Machine) -> usize
 }
 
 // Whether a machine has a set without a state.
-pub fn has_empty_set(m: Machine) -> bool
-    ensures { result ≡ hasEmptySet m }
+pub fn has_empty_set(m: &Machine) -> bool
+    ensures { result ≡ hasEmptySet m.now }
 {
     empty_set(m) < 8
 }
 
 // 9, 10 and 11 of machine number i of a pair, and then 21 if `nonempty`.
-fn content_and_sets(nonempty: bool, i: usize, m: Machine) -> Validity
-    ensures { testedOf result ≡ contentTests nonempty i m }
+fn content_and_sets(nonempty: bool, i: usize, m: &Machine) -> Validity
+    ensures { testedOf result ≡ contentTests nonempty i m.now }
 {
     let first = content(i, m);
     if let Validity::Refused(r) = first {
@@ -240,11 +241,11 @@ fn content_and_sets(nonempty: bool, i: usize, m: Machine) -> Validity
 }
 
 // 5, then these of the concrete machine and of the abstract one.
-fn tests(nonempty: bool, p: Pair) -> Validity
-    ensures { testedOf result ≡ pairTests nonempty p }
+fn tests(nonempty: bool, p: &Pair) -> Validity
+    ensures { testedOf result ≡ pairTests nonempty p.now }
 {
-    let c = p.concrete;
-    let a = p.abstraction;
+    let c = &p.concrete;
+    let a = &p.abstraction;
     if !has_counts(8, c) {
         return Validity::Refused(machine::refuse(machine::BAD_COUNTS, 0, 0, 0));
     }
@@ -262,12 +263,12 @@ fn tests(nonempty: bool, p: Pair) -> Validity
 pub fn validity(p: Pair) -> Validity
     ensures { testedOf result ≡ pairValidity p }
 {
-    tests(false, p)
+    tests(false, &p)
 }
 
 // 5, 9, 10, 11 and 21 of a pair.
 pub fn nonempty_validity(p: Pair) -> Validity
     ensures { testedOf result ≡ nonemptyValidity p }
 {
-    tests(true, p)
+    tests(true, &p)
 }

@@ -18,7 +18,7 @@ const PAIR_ROOM: usize = 4096;
 // Whether (c, a) meets the rule of X(l, k) over a set that is given as a table: it is a goal, or steps into level l - 1, whose entries in
 // `ranks` are at most `low`, or has c outside set k and steps into the set.
 fn is_kept(
-    p: Pair,
+    p: &Pair,
     lifted: &[u16],
     j: usize,
     ranks: &[u16],
@@ -28,8 +28,8 @@ fn is_kept(
     c: usize,
     a: usize,
 ) -> bool
-    requires { (wellFormed p ≡ true) × (j < setsA p) }
-    ensures { result ≡ keeps p lifted.now j ranks.now low k set.now c a }
+    requires { (wellFormed p.now ≡ true) × (j < setsA p.now) }
+    ensures { result ≡ keeps p.now lifted.now j ranks.now low k set.now c a }
 {
     if !is_matched(p, c, a) {
         return false;
@@ -40,7 +40,7 @@ fn is_kept(
     if steps_into(p, ranks, Target::AtMost(low), 0, c, a) {
         return true;
     }
-    if in_set(p.concrete, k, c) {
+    if in_set(&p.concrete, k, c) {
         return false;
     }
     steps_into(p, set, Target::NonBlank, 0, c, a)
@@ -48,12 +48,12 @@ fn is_kept(
 
 // The first pair of a set that does not meet the rule of X(l, k) over it, the number of pairs where each does; rank number i + 1 is that of l
 // and k.
-fn first_unkept(p: Pair, lifted: &[u16], j: usize, ranks: &[u16], i: usize, set: &[u16]) -> usize
-    requires { (wellFormed p ≡ true) × ((j < setsA p) × (i < setsC p * pairs p)) }
-    ensures { result ≡ unkept p lifted.now j ranks.now i set.now }
+fn first_unkept(p: &Pair, lifted: &[u16], j: usize, ranks: &[u16], i: usize, set: &[u16]) -> usize
+    requires { (wellFormed p.now ≡ true) × ((j < setsA p.now) × (i < setsC p.now * pairs p.now)) }
+    ensures { result ≡ unkept p.now lifted.now j ranks.now i set.now }
 {
-    let concrete = p.concrete;
-    let abstraction = p.abstraction;
+    let concrete = &p.concrete;
+    let abstraction = &p.abstraction;
     let pairs = concrete.states * abstraction.states;
     let low = i / concrete.sets * concrete.sets;
     let k = i % concrete.sets;
@@ -70,12 +70,12 @@ fn first_unkept(p: Pair, lifted: &[u16], j: usize, ranks: &[u16], i: usize, set:
 }
 
 // Whether each pair of set number x meets that rule over it.
-fn is_closed(p: Pair, lifted: &[u16], j: usize, ranks: &[u16], i: usize, x: u64) -> bool
-    requires { (wellFormed p ≡ true) × ((j < setsA p) × (i < setsC p * pairs p)) }
-    ensures { result ≡ closed p lifted.now j ranks.now i x }
+fn is_closed(p: &Pair, lifted: &[u16], j: usize, ranks: &[u16], i: usize, x: u64) -> bool
+    requires { (wellFormed p.now ≡ true) × ((j < setsA p.now) × (i < setsC p.now * pairs p.now)) }
+    ensures { result ≡ closed p.now lifted.now j ranks.now i x }
 {
-    let concrete = p.concrete;
-    let abstraction = p.abstraction;
+    let concrete = &p.concrete;
+    let abstraction = &p.abstraction;
     let pairs = concrete.states * abstraction.states;
     let mut set = [machine::BLANK; 64];
     put_entries(x, 1, pairs, &mut set);
@@ -83,12 +83,12 @@ fn is_closed(p: Pair, lifted: &[u16], j: usize, ranks: &[u16], i: usize, x: u64)
 }
 
 // The number of the largest such set: the greatest number, as the union of such sets is one.
-fn largest_set(p: Pair, lifted: &[u16], j: usize, ranks: &[u16], i: usize) -> u64
-    requires { (wellFormed p ≡ true) × ((j < setsA p) × (i < setsC p * pairs p)) }
-    ensures { result ≡ largest p lifted.now j ranks.now i (fullMask (min (pairs p) 64)) }
+fn largest_set(p: &Pair, lifted: &[u16], j: usize, ranks: &[u16], i: usize) -> u64
+    requires { (wellFormed p.now ≡ true) × ((j < setsA p.now) × (i < setsC p.now * pairs p.now)) }
+    ensures { result ≡ largest p.now lifted.now j ranks.now i (fullMask (min (pairs p.now) 64)) }
 {
-    let concrete = p.concrete;
-    let abstraction = p.abstraction;
+    let concrete = &p.concrete;
+    let abstraction = &p.abstraction;
     let mut x = mask::full(concrete.states * abstraction.states);
     while x > 0 {
         if is_closed(p, lifted, j, ranks, i, x) {
@@ -101,12 +101,12 @@ fn largest_set(p: Pair, lifted: &[u16], j: usize, ranks: &[u16], i: usize) -> u6
 
 // Strikes out of a set the pairs that do not meet the rule, the first such pair each time. Pairs of a set that meets it are never struck out of
 // a larger one, so that the largest is left.
-fn strike_out(p: Pair, lifted: &[u16], j: usize, ranks: &[u16], i: usize, set: &mut [u16])
-    requires { (wellFormed p ≡ true) × ((j < setsA p) × ((i < setsC p * pairs p) × (pairs p ≤ length set.old))) }
-    ensures { set.new ≡ struck p lifted.now j ranks.now i (pairs p) set.old }
+fn strike_out(p: &Pair, lifted: &[u16], j: usize, ranks: &[u16], i: usize, set: &mut [u16])
+    requires { (wellFormed p.now ≡ true) × ((j < setsA p.now) × ((i < setsC p.now * pairs p.now) × (pairs p.now ≤ length set.old))) }
+    ensures { set.new ≡ struck p.now lifted.now j ranks.now i (pairs p.now) set.old }
 {
-    let concrete = p.concrete;
-    let abstraction = p.abstraction;
+    let concrete = &p.concrete;
+    let abstraction = &p.abstraction;
     let pairs = concrete.states * abstraction.states;
     for _ in 0..pairs {
         let e = first_unkept(p, lifted, j, ranks, i, set);
@@ -118,12 +118,12 @@ fn strike_out(p: Pair, lifted: &[u16], j: usize, ranks: &[u16], i: usize, set: &
 }
 
 // Puts X(l, k) into `set`, which has all pairs.
-fn put_largest(p: Pair, lifted: &[u16], j: usize, ranks: &[u16], i: usize, set: &mut [u16])
-    requires { (wellFormed p ≡ true) × ((j < setsA p) × ((i < setsC p * pairs p) × (pairs p ≤ length set.old))) }
-    ensures { set.new ≡ largestSet p lifted.now j ranks.now i set.old }
+fn put_largest(p: &Pair, lifted: &[u16], j: usize, ranks: &[u16], i: usize, set: &mut [u16])
+    requires { (wellFormed p.now ≡ true) × ((j < setsA p.now) × ((i < setsC p.now * pairs p.now) × (pairs p.now ≤ length set.old))) }
+    ensures { set.new ≡ largestSet p.now lifted.now j ranks.now i set.old }
 {
-    let concrete = p.concrete;
-    let abstraction = p.abstraction;
+    let concrete = &p.concrete;
+    let abstraction = &p.abstraction;
     let pairs = concrete.states * abstraction.states;
     if pairs <= 12 {
         put_entries(largest_set(p, lifted, j, ranks, i), 1, pairs, set);
@@ -147,12 +147,12 @@ fn mark(n: usize, set: &[u16], r: u16, ranks: &mut [u16])
 }
 
 // Gives each pair of section j the least rank whose X(l, k) has it, goals included.
-fn rank_pairs(p: Pair, lifted: &[u16], j: usize, ranks: &mut [u16])
-    requires { (wellFormed p ≡ true) × ((j < setsA p) × (pairs p ≤ length ranks.old)) }
-    ensures { ranks.new ≡ ranked p lifted.now j (setsC p * pairs p) ranks.old }
+fn rank_pairs(p: &Pair, lifted: &[u16], j: usize, ranks: &mut [u16])
+    requires { (wellFormed p.now ≡ true) × ((j < setsA p.now) × (pairs p.now ≤ length ranks.old)) }
+    ensures { ranks.new ≡ ranked p.now lifted.now j (setsC p.now * pairs p.now) ranks.old }
 {
-    let concrete = p.concrete;
-    let abstraction = p.abstraction;
+    let concrete = &p.concrete;
+    let abstraction = &p.abstraction;
     let pairs = concrete.states * abstraction.states;
     for i in 0..concrete.sets * pairs {
         let mut set = [0u16; PAIR_ROOM];
@@ -162,11 +162,11 @@ fn rank_pairs(p: Pair, lifted: &[u16], j: usize, ranks: &mut [u16])
 }
 
 // The rank of pair number e in section j, 0 for a goal.
-fn rank_of(p: Pair, lifted: &[u16], j: usize, ranks: &[u16], e: usize) -> u16
-    requires { (wellFormed p ≡ true) × (j < setsA p) }
-    ensures { result ≡ rankOf p lifted.now j ranks.now e }
+fn rank_of(p: &Pair, lifted: &[u16], j: usize, ranks: &[u16], e: usize) -> u16
+    requires { (wellFormed p.now ≡ true) × (j < setsA p.now) }
+    ensures { result ≡ rankOf p.now lifted.now j ranks.now e }
 {
-    let abstraction = p.abstraction;
+    let abstraction = &p.abstraction;
     let c = e / abstraction.states;
     let a = e % abstraction.states;
     if is_matched(p, c, a) {
@@ -188,12 +188,12 @@ fn shown(exact: bool, e: u16) -> u16
 }
 
 // Whether section j of a table has the ranks; or, where they need not be exact, covers the pairs that have one.
-fn section_ranked(p: Pair, exact: bool, lifted: &[u16], j: usize, table: &[u16]) -> bool
-    requires { (wellFormed p ≡ true) × (j < setsA p) }
-    ensures { result ≡ sectionRanked p exact lifted.now table.now j }
+fn section_ranked(p: &Pair, exact: bool, lifted: &[u16], j: usize, table: &[u16]) -> bool
+    requires { (wellFormed p.now ≡ true) × (j < setsA p.now) }
+    ensures { result ≡ sectionRanked p.now exact lifted.now table.now j }
 {
-    let concrete = p.concrete;
-    let abstraction = p.abstraction;
+    let concrete = &p.concrete;
+    let abstraction = &p.abstraction;
     let pairs = concrete.states * abstraction.states;
     let mut ranks = [machine::BLANK; PAIR_ROOM];
     rank_pairs(p, lifted, j, &mut ranks);
@@ -217,13 +217,13 @@ pub const COVERED: bool = false;
 pub fn is_ranked(p: Pair, exact: bool, lifted: &[u16], table: &[u16]) -> bool
     ensures { result ≡ tableRanked p exact lifted.now table.now }
 {
-    let abstraction = p.abstraction;
+    let abstraction = &p.abstraction;
     let valid = validity(p);
     if let Validity::Refused(_) = valid {
         return false;
     }
     for j in 0..abstraction.sets {
-        if !section_ranked(p, exact, lifted, j, table) {
+        if !section_ranked(&p, exact, lifted, j, table) {
             return false;
         }
     }

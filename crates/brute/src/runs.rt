@@ -40,9 +40,9 @@ fn staying_key(present: usize, a: usize, e: u16) -> u32
 
 // Of the states of a mask, the matched one of least entry in section j beside d, and none that is blank; of equal ones the state `present`, then
 // the lowest number.
-fn least_partner(p: Pair, table: &[u16], present: usize, moves: u64, j: usize, d: usize) -> Partner
-    requires { (wellFormed p ≡ true) × ((j < 7) × (d < 256)) }
-    ensures { result ≡ singleStep present moves (nonBlank p table.now j d) (entry p table.now j d) }
+fn least_partner(p: &Pair, table: &[u16], present: usize, moves: u64, j: usize, d: usize) -> Partner
+    requires { (wellFormed p.now ≡ true) × ((j < 7) × (d < 256)) }
+    ensures { result ≡ singleStep present moves (nonBlank p.now table.now j d) (entry p.now table.now j d) }
 {
     let mut best = Partner::Nobody;
     // twice a blank entry: every other has a lower key
@@ -62,11 +62,11 @@ fn least_partner(p: Pair, table: &[u16], present: usize, moves: u64, j: usize, d
 }
 
 // The section after the change: the next one where the pair's entry is 0.
-fn section_after(p: Pair, table: &[u16], c: usize, at: Spot) -> usize
-    requires { (wellFormed p ≡ true) × ((c < 256) × ((at.state ≤ 64) × (at.section < setsA p))) }
-    ensures { result ≡ sectionAfter p table.now c (asPlace at) }
+fn section_after(p: &Pair, table: &[u16], c: usize, at: Spot) -> usize
+    requires { (wellFormed p.now ≡ true) × ((c < 256) × ((at.state ≤ 64) × (at.section < setsA p.now))) }
+    ensures { result ≡ sectionAfter p.now table.now c (asPlace at) }
 {
-    let abstraction = p.abstraction;
+    let abstraction = &p.abstraction;
     if entry_at(p, table, at.section, c, at.state) == 0 {
         machine::next_section(abstraction.sets, at.section)
     } else {
@@ -75,12 +75,12 @@ fn section_after(p: Pair, table: &[u16], c: usize, at: Spot) -> usize
 }
 
 // The place at the next moment.
-fn step_to(p: Pair, table: &[u16], c: usize, at: Spot, d: usize) -> Spot
-    requires { (wellFormed p ≡ true) × ((c < 256) × ((d < 256) × ((at.state ≤ 64) × (at.section < setsA p)))) }
-    ensures { asPlace result ≡ stepTo p table.now c (asPlace at) d }
+fn step_to(p: &Pair, table: &[u16], c: usize, at: Spot, d: usize) -> Spot
+    requires { (wellFormed p.now ≡ true) × ((c < 256) × ((d < 256) × ((at.state ≤ 64) × (at.section < setsA p.now)))) }
+    ensures { asPlace result ≡ stepTo p.now table.now c (asPlace at) d }
 {
     let j = section_after(p, table, c, at);
-    let moves = successors_of(p.abstraction, at.state);
+    let moves = successors_of(&p.abstraction, at.state);
     let found = least_partner(p, table, at.state, moves, j, d);
     Spot {
         state: machine::state_of(found),
@@ -89,11 +89,11 @@ fn step_to(p: Pair, table: &[u16], c: usize, at: Spot, d: usize) -> Spot
 }
 
 // The place at moment t, by the rule from the start.
-fn place_at(p: Pair, table: &[u16], stem: &[u8], cycle: &[u8], t: usize) -> Spot
-    requires { wellFormed p ≡ true }
-    ensures { asPlace result ≡ placeAt p table.now (given stem.now cycle.now) t }
+fn place_at(p: &Pair, table: &[u16], stem: &[u8], cycle: &[u8], t: usize) -> Spot
+    requires { wellFormed p.now ≡ true }
+    ensures { asPlace result ≡ placeAt p.now table.now (given stem.now cycle.now) t }
 {
-    let abstraction = p.abstraction;
+    let abstraction = &p.abstraction;
     let found = least_partner(
         p,
         table,
@@ -115,9 +115,9 @@ fn place_at(p: Pair, table: &[u16], stem: &[u8], cycle: &[u8], t: usize) -> Spot
 }
 
 // Whether a and j are the same at the loop starts after x and after y rounds.
-fn same_place(p: Pair, table: &[u16], stem: &[u8], cycle: &[u8], x: usize, y: usize) -> bool
-    requires { (wellFormed p ≡ true) × ((length stem.now + length cycle.now ≤ 64) × ((x ≤ 449) × (y ≤ 449))) }
-    ensures { result ≡ samePlace p table.now (given stem.now cycle.now) x y }
+fn same_place(p: &Pair, table: &[u16], stem: &[u8], cycle: &[u8], x: usize, y: usize) -> bool
+    requires { (wellFormed p.now ≡ true) × ((length stem.now + length cycle.now ≤ 64) × ((x ≤ 449) × (y ≤ 449))) }
+    ensures { result ≡ samePlace p.now table.now (given stem.now cycle.now) x y }
 {
     let u = place_at(p, table, stem, cycle, stem.len() + x * cycle.len());
     let v = place_at(p, table, stem, cycle, stem.len() + y * cycle.len());
@@ -128,9 +128,9 @@ fn same_place(p: Pair, table: &[u16], stem: &[u8], cycle: &[u8], x: usize, y: us
 }
 
 // The first round with the same place as round y, y where none before it has.
-fn earlier_round(p: Pair, table: &[u16], stem: &[u8], cycle: &[u8], y: usize) -> usize
-    requires { (wellFormed p ≡ true) × ((length stem.now + length cycle.now ≤ 64) × (y ≤ 449)) }
-    ensures { result ≡ first y (λ x. samePlace p table.now (given stem.now cycle.now) x y) }
+fn earlier_round(p: &Pair, table: &[u16], stem: &[u8], cycle: &[u8], y: usize) -> usize
+    requires { (wellFormed p.now ≡ true) × ((length stem.now + length cycle.now ≤ 64) × (y ≤ 449)) }
+    ensures { result ≡ first y (λ x. samePlace p.now table.now (given stem.now cycle.now) x y) }
 {
     for x in 0..y {
         if same_place(p, table, stem, cycle, x, y) {
@@ -141,9 +141,9 @@ fn earlier_round(p: Pair, table: &[u16], stem: &[u8], cycle: &[u8], y: usize) ->
 }
 
 // The first round whose place occurred before.
-fn last_round(p: Pair, table: &[u16], stem: &[u8], cycle: &[u8]) -> usize
-    requires { (wellFormed p ≡ true) × (length stem.now + length cycle.now ≤ 64) }
-    ensures { result ≡ lastRound p table.now (given stem.now cycle.now) }
+fn last_round(p: &Pair, table: &[u16], stem: &[u8], cycle: &[u8]) -> usize
+    requires { (wellFormed p.now ≡ true) × (length stem.now + length cycle.now ≤ 64) }
+    ensures { result ≡ lastRound p.now table.now (given stem.now cycle.now) }
 {
     for y in 0..449 {
         if earlier_round(p, table, stem, cycle, y) < y {
@@ -157,21 +157,21 @@ fn last_round(p: Pair, table: &[u16], stem: &[u8], cycle: &[u8]) -> usize
 pub fn plain_play(p: Pair, table: &[u16], stem: &[u8], cycle: &[u8]) -> Played
     ensures { playedOf result ≡ playAnswer p table.now (given stem.now cycle.now) }
 {
-    let abstraction = p.abstraction;
+    let abstraction = &p.abstraction;
     let valid = validity(p);
     if let Validity::Refused(r) = valid {
         return Played::Refused(r);
     }
-    let passed = lines(p, table);
+    let passed = lines(&p, table);
     if let Validity::Refused(r) = passed {
         return Played::Refused(r);
     }
-    let fits = lasso_fits(p.concrete, stem, cycle);
+    let fits = lasso_fits(&p.concrete, stem, cycle);
     if let Validity::Refused(r) = fits {
         return Played::Refused(r);
     }
     let found = least_partner(
-        p,
+        &p,
         table,
         machine::NO_STATE,
         abstraction.start,
@@ -181,8 +181,8 @@ pub fn plain_play(p: Pair, table: &[u16], stem: &[u8], cycle: &[u8]) -> Played
     if let Partner::Nobody = found {
         return Played::Refused(machine::refuse(machine::NO_START_PARTNER, 0, 0, 0));
     }
-    let y = last_round(p, table, stem, cycle);
-    let x = earlier_round(p, table, stem, cycle, y);
+    let y = last_round(&p, table, stem, cycle);
+    let x = earlier_round(&p, table, stem, cycle, y);
     Played::Run(stem.len() + x * cycle.len(), (y - x) * cycle.len())
 }
 
@@ -203,7 +203,7 @@ pub fn is_run(p: Pair, table: &[u16], stem: &[u8], cycle: &[u8], run: &[u8], n: 
         return false;
     }
     for t in 0..n {
-        let at = place_at(p, table, stem, cycle, t);
+        let at = place_at(&p, table, stem, cycle, t);
         if byte_at(run, t) as usize != at.state {
             return false;
         }

@@ -36,11 +36,12 @@ struct Step {
 // ---- A turn
 
 // Whether each entry from a number on is as it was lent.
-fn is_kept(from: usize, table: &[u16]) -> bool
+fn is_kept(from: usize, table: &[u16; 28672]) -> bool
     ensures { result ≡ keptFrom from table.now }
 {
     for e in from..machine::TABLE_ROOM {
-        if brute::value_at(table, e) != MARK {
+        // as u32: of two u16 the kit's own compiler makes a far slower test
+        if table[e] as u32 != MARK as u32 {
             return false;
         }
     }
@@ -72,7 +73,7 @@ fn rows_fit(p: Pair, given: &[u16], next: &[u64; 448]) -> bool
 }
 
 // Whether the table was written only by a turn that is finished: n entries, the ranks over the family.
-fn table_fits(p: Pair, n: usize, finished: bool, given: &[u16], table: &[u16]) -> bool
+fn table_fits(p: Pair, n: usize, finished: bool, given: &[u16], table: &[u16; 28672]) -> bool
     ensures { result ≡ tableFits p n finished given.now table.now }
 {
     if !finished {
@@ -91,7 +92,7 @@ fn turn_agrees(
     said: Refusal,
     family: &[u64; 448],
     next: &[u64; 448],
-    table: &[u16],
+    table: &[u16; 28672],
 ) -> bool
     ensures { result ≡ turnAgrees p k said family.now next.now table.now }
 {
@@ -178,17 +179,17 @@ fn plain_look_up(k: Known, given: &[u16], section: usize, c: usize, a: usize) ->
 
 // One look-up.
 fn compare_look_up(
-    p: Pair,
+    p: &Pair,
     k: Known,
     given: &[u16],
-    family: [u64; 448],
+    family: &[u64; 448],
     section: usize,
     c: usize,
     a: usize,
 ) -> Tally
-    ensures { result ≡ lookUpTally p k given.now family section c a }
+    ensures { result ≡ lookUpTally p.now k given.now family.now section c a }
 {
-    let said = looked_four(progress::look_up(p, family, section, c, a));
+    let said = looked_four(progress::look_up(*p, *family, section, c, a));
     let plain = plain_look_up(k, given, section, c, a);
     of_look_up(says_yes(said), same_four(said, plain))
 }
@@ -206,7 +207,7 @@ fn compare_look_ups(p: Pair, k: Known, family: [u64; 448]) -> Tally
         let c = i % section / row;
         sum = add(
             sum,
-            compare_look_up(p, k, &given, family, i / section, c, i % row),
+            compare_look_up(&p, k, &given, &family, i / section, c, i % row),
         );
     }
     sum

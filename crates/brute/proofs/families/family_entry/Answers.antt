@@ -7,11 +7,11 @@ use Rattle.brute.specs.FamiliesLaws.{entry-held, entry-struck, entry-unmatched}
 use Rattle.brute.proofs.families.family_entry.Goals as goal
 use Rattle.brute.proofs.families.family_entry.Goals.{Start}
 
-well : (c : Start) → WellPair c.args.p
-well c = well-pair c.args.p c.requires.0
+well : (c : Start) → WellPair c.args.p.now
+well c = well-pair c.args.p.now c.requires.0
 
-place : (c : Start) → Located c.args.p c.args.e
-place c = located c.args.p (well c) c.args.e c.requires.1
+place : (c : Start) → Located c.args.p.now c.args.e
+place c = located c.args.p.now (well c) c.args.e c.requires.1
 
 pub overflow_mul-pairs : goal.overflow_mul-pairs
 overflow_mul-pairs c = omega (arith, pairs-small _ (well (goal.at.overflow_mul-pairs c).Start))
@@ -29,7 +29,7 @@ pub nonzero_rem-a : goal.nonzero_rem-a
 nonzero_rem-a c = (well (goal.at.nonzero_rem-a c).Start).abstraction.states-low
 
 pub returns-then-not-is_matched : goal.returns-then-not-is_matched
-returns-then-not-is_matched c = let x = c.args in entry-unmatched x.p x.family.now x.e (sym c.is_matched.ensures ∙ c.if-not-is_matched.true)
+returns-then-not-is_matched c = let x = c.args in entry-unmatched x.p.now x.family.now x.e (sym c.is_matched.ensures ∙ c.if-not-is_matched.true)
 
 pub overflow_mul-j : goal.overflow_mul-j
 overflow_mul-j c = let q = place (goal.at.overflow_mul-j c).Start in omega (arith, q.in-section, (well (goal.at.overflow_mul-j c).Start).abstraction.sets-high)
@@ -44,7 +44,7 @@ pub bounds-family-j : goal.bounds-family-j
 bounds-family-j c = let q = place (goal.at.bounds-family-j c).Start in omega (arith, q.in-section, q.in-row, (well (goal.at.bounds-family-j c).Start).abstraction.sets-high, (well (goal.at.bounds-family-j c).Start).concrete.states-high)
 
 pub returns-then-has : goal.returns-then-has
-returns-then-has c = let x = c.args in entry-held x.p x.family.now x.e (sym c.is_matched.ensures ∙ c.if-not-is_matched.false) (sym c.has.ensures ∙ c.if-has.true)
+returns-then-has c = let x = c.args in entry-held x.p.now x.family.now x.e (sym c.is_matched.ensures ∙ c.if-not-is_matched.false) (sym c.has.ensures ∙ c.if-has.true)
 
 pub returns-else-has : goal.returns-else-has
-returns-else-has c = let x = c.args in entry-struck x.p x.family.now x.e (sym c.is_matched.ensures ∙ c.if-not-is_matched.false) (sym c.has.ensures ∙ c.if-has.false)
+returns-else-has c = let x = c.args in entry-struck x.p.now x.family.now x.e (sym c.is_matched.ensures ∙ c.if-not-is_matched.false) (sym c.has.ensures ∙ c.if-has.false)

@@ -8,7 +8,7 @@ use Rattle.machine.specs.PlayerLaws.{Entered, bad-entry, bad-start, bad-state, c
 use Rattle.brute.proofs.lassos.bad_step.Goals as goal
 use Rattle.brute.proofs.lassos.bad_step.Goals.{Joined-i-eq0, else-i-eq0+else-not-has_move, then-i-eq0+else-not-has_start}
 
-entered : (c : Joined-i-eq0) → let x = c.args in Entered x.m (given x.stem.now x.cycle.now) x.i
+entered : (c : Joined-i-eq0) → let x = c.args in Entered x.m.now (given x.stem.now x.cycle.now) x.i
 entered c = elim c.if-i-eq0.branch [
   | then-i-eq0+else-not-has_start w ↦ good-start _ _ _ _ c.moment_at-s.ensures w.if-i-eq0.true _ w.has_start.ensures (ap not w.if-not-has_start.false)
   | else-i-eq0+else-not-has_move w ↦ good-entry _ _ _ _ c.moment_at-s.ensures w.if-i-eq0.false _ w.moment_at.ensures _ w.has_move.ensures (ap not w.if-not-has_move.false)

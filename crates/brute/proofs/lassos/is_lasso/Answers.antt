@@ -16,11 +16,11 @@ use Rattle.brute.proofs.lassos.is_lasso.Goals.{After-has_move}
 stepped : (c : After-has_move)
     → let x = c.args in
     let l = given x.stem.now x.cycle.now in
-    c.has_move.result ≡ moves x.m (moment l c.loop-t.t) (moment l (suc c.loop-t.t))
+    c.has_move.result ≡ moves x.m.now (moment l c.loop-t.t) (moment l (suc c.loop-t.t))
 stepped c = c.has_move.ensures ∙ rw (c.moment_at-s.ensures, c.moment_at.ensures, add-one)
 
 pub returns-then-cycle-eq0 : goal.returns-then-cycle-eq0
-returns-then-cycle-eq0 c = let x = c.args in sym (lasso-empty x.m (given x.stem.now x.cycle.now) c.if-cycle-eq0.true)
+returns-then-cycle-eq0 c = let x = c.args in sym (lasso-empty x.m.now (given x.stem.now x.cycle.now) c.if-cycle-eq0.true)
 
 pub loop-t-init : goal.loop-t-init
 loop-t-init c = (search rules, below_none _)
@@ -28,13 +28,13 @@ loop-t-init c = (search rules, below_none _)
 pub returns-then-s-m : goal.returns-then-s-m
 returns-then-s-m c =
     let x = c.args in
-    sym (lasso-not x.m (given x.stem.now x.cycle.now) c.loop-t.t (omega arith) (λ g. omega (arith, g.0, c.moment_at-s.ensures)))
+    sym (lasso-not x.m.now (given x.stem.now x.cycle.now) c.loop-t.t (omega arith) (λ g. omega (arith, g.0, c.moment_at-s.ensures)))
 
 pub returns-then-not-has_move : goal.returns-then-not-has_move
 returns-then-not-has_move c =
     let x = c.args in
     let l = given x.stem.now x.cycle.now in
-    sym (lasso-not x.m l c.loop-t.t (omega arith) (λ g. clash (sym (stepped (goal.at.returns-then-not-has_move c).After-has_move) ∙ c.if-not-has_move.true) g.1))
+    sym (lasso-not x.m.now l c.loop-t.t (omega arith) (λ g. clash (sym (stepped (goal.at.returns-then-not-has_move c).After-has_move) ∙ c.if-not-has_move.true) g.1))
 
 pub loop-t-preserved : goal.loop-t-preserved
 loop-t-preserved c =
@@ -45,4 +45,4 @@ loop-t-preserved c =
 pub returns : goal.returns
 returns c =
     let x = c.args in
-    sym (lasso-of x.m (given x.stem.now x.cycle.now) (omega arith) (λ k h. c.loop-t.invariant.1 k (omega arith)))
+    sym (lasso-of x.m.now (given x.stem.now x.cycle.now) (omega arith) (λ k h. c.loop-t.invariant.1 k (omega arith)))

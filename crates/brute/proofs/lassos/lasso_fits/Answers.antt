@@ -15,26 +15,26 @@ use Rattle.brute.proofs.lassos.lasso_fits.Goals.{After-first_missed-k, Else-stem
 fit : (c : Else-stem-cycle-gt64) → badLength (given c.args.stem.now c.args.cycle.now) ≡ false
 fit c = length-whole (given c.args.stem.now c.args.cycle.now) c.if-cycle-eq0.false ∙ le-ltb 64 _ c.if-stem-cycle-gt64.false
 
-missed : (c : After-first_missed-k) → let x = c.args in c.first_missed-k.result ≡ first x.m.sets (missedSet x.m (given x.stem.now x.cycle.now))
-missed c = let x = c.args in c.first_missed-k.ensures ∙ missed-loop x.m x.stem.now x.cycle.now
+missed : (c : After-first_missed-k) → let x = c.args in c.first_missed-k.result ≡ first x.m.now.sets (missedSet x.m.now (given x.stem.now x.cycle.now))
+missed c = let x = c.args in c.first_missed-k.ensures ∙ missed-loop x.m.now x.stem.now x.cycle.now
 
 pub returns-then-cycle-eq0 : goal.returns-then-cycle-eq0
 unfolding testedOf
 returns-then-cycle-eq0 c =
     let l = given c.args.stem.now c.args.cycle.now in
-    ap refused c.refuse.ensures ∙ sym (refused-length c.args.m l (length-empty l c.if-cycle-eq0.true))
+    ap refused c.refuse.ensures ∙ sym (refused-length c.args.m.now l (length-empty l c.if-cycle-eq0.true))
 
 pub returns-then-stem-cycle-gt64 : goal.returns-then-stem-cycle-gt64
 unfolding testedOf
 returns-then-stem-cycle-gt64 c =
     let l = given c.args.stem.now c.args.cycle.now in
-    ap refused c.refuse-then-stem-cycle-gt64.ensures ∙ sym (refused-length c.args.m l (length-over l c.if-stem-cycle-gt64.true))
+    ap refused c.refuse-then-stem-cycle-gt64.ensures ∙ sym (refused-length c.args.m.now l (length-over l c.if-stem-cycle-gt64.true))
 
 pub returns-then-i-stem : goal.returns-then-i-stem
 unfolding testedOf
 returns-then-i-stem c =
     let l = given c.args.stem.now c.args.cycle.now in
-    ap refused c.refuse-then-i-stem.ensures ∙ sym (refused-step c.args.m l (fit (goal.at.returns-then-i-stem c).Else-stem-cycle-gt64) _ c.first_bad-i.ensures c.if-i-stem.true)
+    ap refused c.refuse-then-i-stem.ensures ∙ sym (refused-step c.args.m.now l (fit (goal.at.returns-then-i-stem c).Else-stem-cycle-gt64) _ c.first_bad-i.ensures c.if-i-stem.true)
 
 pub returns-then-k-m : goal.returns-then-k-m
 unfolding testedOf
@@ -42,11 +42,11 @@ returns-then-k-m c =
     let l = given c.args.stem.now c.args.cycle.now in
     let f = fit (goal.at.returns-then-k-m c).Else-stem-cycle-gt64 in
     ap refused c.refuse-then-k-m.ensures
-    ∙ sym (refused-set c.args.m l f _ c.first_bad-i.ensures c.if-i-stem.false _ (missed (goal.at.returns-then-k-m c).After-first_missed-k) c.if-k-m.true)
+    ∙ sym (refused-set c.args.m.now l f _ c.first_bad-i.ensures c.if-i-stem.false _ (missed (goal.at.returns-then-k-m c).After-first_missed-k) c.if-k-m.true)
 
 pub returns : goal.returns
 unfolding testedOf
 returns c =
     let l = given c.args.stem.now c.args.cycle.now in
     let f = fit (goal.at.returns c).Else-stem-cycle-gt64 in
-    sym (not-refused c.args.m l f _ c.first_bad-i.ensures c.if-i-stem.false _ (missed (goal.at.returns c).After-first_missed-k) c.if-k-m.false)
+    sym (not-refused c.args.m.now l f _ c.first_bad-i.ensures c.if-i-stem.false _ (missed (goal.at.returns c).After-first_missed-k) c.if-k-m.false)

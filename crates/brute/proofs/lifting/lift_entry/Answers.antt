@@ -6,11 +6,11 @@ use Rattle.brute.specs.LiftingLaws.{Located, lifted-failing, lifted-passing, loc
 use Rattle.brute.proofs.lifting.lift_entry.Goals as goal
 use Rattle.brute.proofs.lifting.lift_entry.Goals.{Start}
 
-well : (c : Start) → WellPair c.args.p
-well c = well-pair c.args.p c.requires.0
+well : (c : Start) → WellPair c.args.p.now
+well c = well-pair c.args.p.now c.requires.0
 
-place : (c : Start) → Located c.args.p c.args.e
-place c = located c.args.p (well c) c.args.e c.requires.1.0
+place : (c : Start) → Located c.args.p.now c.args.e
+place c = located c.args.p.now (well c) c.args.e c.requires.1.0
 
 pub overflow_mul-pairs : goal.overflow_mul-pairs
 overflow_mul-pairs c = omega (arith, pairs-small _ (well (goal.at.overflow_mul-pairs c).Start))
@@ -42,9 +42,9 @@ raise-requires c = ranks-small _ (well (goal.at.raise-requires c).Start)
 pub returns-then-not-entry_passes : goal.returns-then-not-entry_passes
 returns-then-not-entry_passes c =
     let x = c.args in
-    lifted-failing x.p x.e x.table.now (sym c.entry_passes.ensures ∙ c.if-not-entry_passes.true) c.raise.ensures
+    lifted-failing x.p.now x.e x.table.now (sym c.entry_passes.ensures ∙ c.if-not-entry_passes.true) c.raise.ensures
 
 pub returns-else-not-entry_passes : goal.returns-else-not-entry_passes
 returns-else-not-entry_passes c =
     let x = c.args in
-    lifted-passing x.p x.e x.table.now (sym c.entry_passes.ensures ∙ c.if-not-entry_passes.false)
+    lifted-passing x.p.now x.e x.table.now (sym c.entry_passes.ensures ∙ c.if-not-entry_passes.false)

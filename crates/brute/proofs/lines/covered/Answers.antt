@@ -14,8 +14,8 @@ use Rattle.brute.proofs.lines.covered.Goals as goal
 use Rattle.brute.proofs.lines.covered.Invariants.{counted}
 use Rattle.brute.proofs.lines.covered.Goals.{Start, else-value_at, then-value_at}
 
-well : (c : Start) → WellPair c.args.p
-well c = well-pair c.args.p c.requires
+well : (c : Start) → WellPair c.args.p.now
+well c = well-pair c.args.p.now c.requires
 
 pub overflow_mul-e-end : goal.overflow_mul-e-end
 overflow_mul-e-end c = omega (arith, pairs-small _ (well (goal.at.overflow_mul-e-end c).Start))
@@ -47,5 +47,5 @@ loop-e-preserved c =
 pub returns : goal.returns
 unfolding coveredCount
 returns c =
-    let p = c.args.p in
+    let p = c.args.p.now in
     let e : c.loop-e.e ≡ setsA p * (nC p * nA p) = omega arith in rw (← e) c.loop-e.invariant.1

@@ -7,8 +7,8 @@ use Rattle.brute.specs.TargetLaws.{place-small}
 use Rattle.brute.proofs.lines.entry_at.Goals as goal
 use Rattle.brute.proofs.lines.entry_at.Goals.{Start}
 
-room : (c : Start) → (c.args.j * c.args.p.concrete.states ≤ 384) × ((c.args.j * c.args.p.concrete.states + c.args.c) * c.args.p.abstraction.states ≤ 40896)
-room c = let x = c.args in place-small x.p (well-pair x.p c.requires.0) x.j x.c (omega arith) (omega arith)
+room : (c : Start) → (c.args.j * c.args.p.now.concrete.states ≤ 384) × ((c.args.j * c.args.p.now.concrete.states + c.args.c) * c.args.p.now.abstraction.states ≤ 40896)
+room c = let x = c.args in place-small x.p.now (well-pair x.p.now c.requires.0) x.j x.c (omega arith) (omega arith)
 
 pub overflow_mul-j : goal.overflow_mul-j
 overflow_mul-j c = omega (arith, room (goal.at.overflow_mul-j c).Start)

@@ -8,8 +8,8 @@ use Rattle.machine.specs.WellFormedLaws.{WellPair, well-pair}
 use Rattle.brute.proofs.lines.failing_section.Goals as goal
 use Rattle.brute.proofs.lines.failing_section.Goals.{Start}
 
-well : (c : Start) → WellPair c.args.p
-well c = well-pair c.args.p c.requires
+well : (c : Start) → WellPair c.args.p.now
+well c = well-pair c.args.p.now c.requires
 
 pub loop-j-init : goal.loop-j-init
 loop-j-init c = below_none _

@@ -8,8 +8,8 @@ use Rattle.machine.specs.WellFormedLaws.{WellPair, well-pair}
 use Rattle.brute.proofs.lines.failing_state.Goals as goal
 use Rattle.brute.proofs.lines.failing_state.Goals.{Start}
 
-well : (c : Start) → WellPair c.args.p
-well c = well-pair c.args.p c.requires.0
+well : (c : Start) → WellPair c.args.p.now
+well c = well-pair c.args.p.now c.requires.0
 
 pub loop-a-init : goal.loop-a-init
 loop-a-init c = below_none _

@@ -8,8 +8,8 @@ use Rattle.brute.specs.TargetLaws.{partner-no, partner-some, target-in, target-o
 use Rattle.brute.proofs.lines.finds.Goals as goal
 use Rattle.brute.proofs.lines.finds.Goals.{Start, then-has_move+then-is_matched+else-hits, then-has_move+else-is_matched, else-has_move}
 
-well : (c : Start) → WellPair c.args.p
-well c = well-pair c.args.p c.requires.0
+well : (c : Start) → WellPair c.args.p.now
+well c = well-pair c.args.p.now c.requires.0
 
 pub loop-b-init : goal.loop-b-init
 loop-b-init c = below_none _
@@ -23,8 +23,8 @@ hits-requires c = let w = well (goal.at.hits-requires c).Start in w.concrete.set
 pub returns-then-hits : goal.returns-then-hits
 returns-then-hits c =
     let x = c.args in
-    sym (partner-some x.p _ x.a c.loop-b.b (omega arith) (sym c.has_move.ensures ∙ c.if-has_move.true)
-    (target-in x.p x.table.now x.t x.j x.d c.loop-b.b (sym c.is_matched.ensures ∙ c.if-is_matched.true) c.entry_at.ensures
+    sym (partner-some x.p.now _ x.a c.loop-b.b (omega arith) (sym c.has_move.ensures ∙ c.if-has_move.true)
+    (target-in x.p.now x.table.now x.t x.j x.d c.loop-b.b (sym c.is_matched.ensures ∙ c.if-is_matched.true) c.entry_at.ensures
     (sym c.hits.ensures ∙ c.if-hits.true)))
 
 pub loop-b-preserved : goal.loop-b-preserved
@@ -32,10 +32,10 @@ loop-b-preserved c =
     let x = c.args in
     below_more _ _ c.loop-b.invariant (λ t. elim c.if-has_move.branch [
       | then-has_move+then-is_matched+else-hits w ↦
-          target-in x.p x.table.now x.t x.j x.d c.loop-b.b (sym w.is_matched.ensures ∙ w.if-is_matched.true) w.entry_at.ensures (sym w.hits.ensures ∙ w.if-hits.false)
-      | then-has_move+else-is_matched w ↦ target-out x.p x.table.now x.t x.j x.d c.loop-b.b (sym w.is_matched.ensures ∙ w.if-is_matched.false)
+          target-in x.p.now x.table.now x.t x.j x.d c.loop-b.b (sym w.is_matched.ensures ∙ w.if-is_matched.true) w.entry_at.ensures (sym w.hits.ensures ∙ w.if-hits.false)
+      | then-has_move+else-is_matched w ↦ target-out x.p.now x.table.now x.t x.j x.d c.loop-b.b (sym w.is_matched.ensures ∙ w.if-is_matched.false)
       | else-has_move w ↦ absurd (clash (sym c.has_move.ensures ∙ w.if-has_move.false) t)
     ])
 
 pub returns : goal.returns
-returns c = let x = c.args in sym (partner-no x.p _ x.a (λ k h. c.loop-b.invariant k (omega arith)))
+returns c = let x = c.args in sym (partner-no x.p.now _ x.a (λ k h. c.loop-b.invariant k (omega arith)))

@@ -7,8 +7,8 @@ use Rattle.machine.specs.WellFormedLaws.{WellPair, well-pair}
 use Rattle.brute.proofs.lines.lacking_start.Goals as goal
 use Rattle.brute.proofs.lines.lacking_start.Goals.{Start, else-has_start, then-has_start+else-not-start_covered}
 
-well : (c : Start) → WellPair c.args.p
-well c = well-pair c.args.p c.requires
+well : (c : Start) → WellPair c.args.p.now
+well c = well-pair c.args.p.now c.requires
 
 pub loop-c-init : goal.loop-c-init
 loop-c-init c = below_none _
@@ -19,19 +19,19 @@ start_covered-requires c = let w = well (goal.at.start_covered-requires c).Start
 pub returns-then-not-start_covered : goal.returns-then-not-start_covered
 returns-then-not-start_covered c =
     let x = c.args in
-    sym (lacking-is x.p x.table.now c.loop-c.c (omega arith)
-    (lacks-is x.p x.table.now c.loop-c.c (sym c.has_start.ensures ∙ c.if-has_start.true) (sym c.start_covered.ensures ∙ c.if-not-start_covered.true))
+    sym (lacking-is x.p.now x.table.now c.loop-c.c (omega arith)
+    (lacks-is x.p.now x.table.now c.loop-c.c (sym c.has_start.ensures ∙ c.if-has_start.true) (sym c.start_covered.ensures ∙ c.if-not-start_covered.true))
     c.loop-c.invariant)
 
 pub loop-c-preserved : goal.loop-c-preserved
 loop-c-preserved c =
     let x = c.args in
     below_more _ _ c.loop-c.invariant (elim c.if-has_start.branch [
-      | then-has_start+else-not-start_covered w ↦ lacks-covered x.p x.table.now c.loop-c.c (sym w.start_covered.ensures ∙ w.if-not-start_covered.false)
-      | else-has_start w ↦ lacks-not x.p x.table.now c.loop-c.c (sym c.has_start.ensures ∙ w.if-has_start.false)
+      | then-has_start+else-not-start_covered w ↦ lacks-covered x.p.now x.table.now c.loop-c.c (sym w.start_covered.ensures ∙ w.if-not-start_covered.false)
+      | else-has_start w ↦ lacks-not x.p.now x.table.now c.loop-c.c (sym c.has_start.ensures ∙ w.if-has_start.false)
     ])
 
 pub returns : goal.returns
 returns c =
     let x = c.args in
-    sym (lacking-none x.p x.table.now (λ k h. c.loop-c.invariant k (omega arith)))
+    sym (lacking-none x.p.now x.table.now (λ k h. c.loop-c.invariant k (omega arith)))

@@ -8,8 +8,8 @@ use Rattle.brute.specs.TargetLaws.{lines-at, lines-none}
 use Rattle.brute.proofs.lines.lines.Goals as goal
 use Rattle.brute.proofs.lines.lines.Goals.{Start}
 
-well : (c : Start) → WellPair c.args.p
-well c = well-pair c.args.p c.requires
+well : (c : Start) → WellPair c.args.p.now
+well c = well-pair c.args.p.now c.requires
 
 pub failing_section-j-requires : goal.failing_section-j-requires
 failing_section-j-requires c = c.requires
@@ -25,10 +25,10 @@ unfolding testedOf
 returns-then-j-abstraction c =
     let x = c.args in
     ap refused c.refuse.ensures
-    ∙ sym (lines-at x.p x.table.now _ c.failing_section-j.ensures _ _ c.failing_row-c.ensures c.failing_state-a.ensures c.if-j-abstraction.true)
+    ∙ sym (lines-at x.p.now x.table.now _ c.failing_section-j.ensures _ _ c.failing_row-c.ensures c.failing_state-a.ensures c.if-j-abstraction.true)
 
 pub returns : goal.returns
 unfolding testedOf
 returns c =
     let x = c.args in
-    sym (lines-none x.p x.table.now _ c.failing_section-j.ensures c.if-j-abstraction.false)
+    sym (lines-none x.p.now x.table.now _ c.failing_section-j.ensures c.if-j-abstraction.false)

@@ -8,11 +8,11 @@ use Rattle.brute.specs.TargetLaws.{rank-inside, rank-outside}
 use Rattle.brute.proofs.lines.rank_holds.Goals as goal
 use Rattle.brute.proofs.lines.rank_holds.Goals.{After-in_set, Start}
 
-well : (c : Start) → WellPair c.args.p
-well c = well-pair c.args.p c.requires.0
+well : (c : Start) → WellPair c.args.p.now
+well c = well-pair c.args.p.now c.requires.0
 
 -- set k, asked at c
-asked : (c : After-in_set) → let x = c.args in c.in_set.result ≡ inFairSet x.p.concrete (setOf (setsC x.p) x.e) x.c
+asked : (c : After-in_set) → let x = c.args in c.in_set.result ≡ inFairSet x.p.now.concrete (setOf (setsC x.p.now) x.e) x.c
 asked c = c.in_set.ensures ∙ rw c.level_of-rank.ensures
 
 pub level_of-rank-requires : goal.level_of-rank-requires
@@ -28,9 +28,9 @@ pub returns-then-in_set : goal.returns-then-in_set
 returns-then-in_set c =
     let x = c.args in
     c.steps_into.ensures ∙ rw c.level_of-rank.ensures
-    (sym (rank-inside x.p x.table.now x.j x.c x.a x.e (sym (asked (goal.at.returns-then-in_set c).After-in_set) ∙ c.if-in_set.true)))
+    (sym (rank-inside x.p.now x.table.now x.j x.c x.a x.e (sym (asked (goal.at.returns-then-in_set c).After-in_set) ∙ c.if-in_set.true)))
 
 pub returns-else-in_set : goal.returns-else-in_set
 returns-else-in_set c =
     let x = c.args in
-    c.steps_into-else-in_set.ensures ∙ sym (rank-outside x.p x.table.now x.j x.c x.a x.e (sym (asked (goal.at.returns-else-in_set c).After-in_set) ∙ c.if-in_set.false))
+    c.steps_into-else-in_set.ensures ∙ sym (rank-outside x.p.now x.table.now x.j x.c x.a x.e (sym (asked (goal.at.returns-else-in_set c).After-in_set) ∙ c.if-in_set.false))

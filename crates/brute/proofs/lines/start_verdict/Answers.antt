@@ -19,7 +19,7 @@ unfolding verdictOf emptySetOf
 returns-then-c-concrete c =
     let x = c.args in
     record {
-      verdict = sym (ap answer (start-lacking x.p x.table.now _ _ c.covered.ensures c.lacking_start-c.ensures c.if-c-concrete.true));
+      verdict = sym (ap answer (start-lacking x.p.now x.table.now _ _ c.covered.ensures c.lacking_start-c.ensures c.if-c-concrete.true));
       empty = c.has_empty_set-empty.ensures;
     }
 
@@ -28,6 +28,6 @@ unfolding verdictOf emptySetOf
 returns-else-c-concrete c =
     let x = c.args in
     record {
-      verdict = sym (ap answer (start-carried x.p x.table.now _ _ c.covered-else-c-concrete.ensures c.lacking_start-c.ensures c.if-c-concrete.false));
+      verdict = sym (ap answer (start-carried x.p.now x.table.now _ _ c.covered-else-c-concrete.ensures c.lacking_start-c.ensures c.if-c-concrete.false));
       empty = c.has_empty_set-empty.ensures;
     }

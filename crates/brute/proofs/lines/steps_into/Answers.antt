@@ -8,8 +8,8 @@ use Rattle.brute.specs.TargetLaws.{steps-all, steps-not}
 use Rattle.brute.proofs.lines.steps_into.Goals as goal
 use Rattle.brute.proofs.lines.steps_into.Goals.{Start, else-has_move, then-has_move+else-not-finds}
 
-well : (c : Start) → WellPair c.args.p
-well c = well-pair c.args.p c.requires.0
+well : (c : Start) → WellPair c.args.p.now
+well c = well-pair c.args.p.now c.requires.0
 
 pub loop-d-init : goal.loop-d-init
 loop-d-init c = below_none _
@@ -20,7 +20,7 @@ finds-requires c = let w = well (goal.at.finds-requires c).Start in (c.requires.
 pub returns-then-not-finds : goal.returns-then-not-finds
 returns-then-not-finds c =
     let x = c.args in
-    sym (steps-not x.p _ x.c x.a c.loop-d.d (omega arith) (sym c.has_move.ensures ∙ c.if-has_move.true) (sym c.finds.ensures ∙ c.if-not-finds.true))
+    sym (steps-not x.p.now _ x.c x.a c.loop-d.d (omega arith) (sym c.has_move.ensures ∙ c.if-has_move.true) (sym c.finds.ensures ∙ c.if-not-finds.true))
 
 pub loop-d-preserved : goal.loop-d-preserved
 loop-d-preserved c =
@@ -30,4 +30,4 @@ loop-d-preserved c =
     ])
 
 pub returns : goal.returns
-returns c = let x = c.args in sym (steps-all x.p _ x.c x.a (λ k h. c.loop-d.invariant k (omega arith)))
+returns c = let x = c.args in sym (steps-all x.p.now _ x.c x.a (λ k h. c.loop-d.invariant k (omega arith)))

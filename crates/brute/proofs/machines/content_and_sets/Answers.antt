@@ -10,23 +10,23 @@ pub returns-in-Refused : goal.returns-in-Refused
 unfolding testedOf
 returns-in-Refused c =
     let x = c.args in
-    sym (tests-stopped x.i x.m x.nonempty (tested-refused c.content-first.ensures c.in-Refused.is))
+    sym (tests-stopped x.i x.m.now x.nonempty (tested-refused c.content-first.ensures c.in-Refused.is))
 
 pub returns-then-not-nonempty : goal.returns-then-not-nonempty
 unfolding testedOf
 returns-then-not-nonempty c =
     let x = c.args in
-    sym (tests-any x.i x.m x.nonempty c.if-not-nonempty.true (tested-valid c.content-first.ensures c.in_default.is))
+    sym (tests-any x.i x.m.now x.nonempty c.if-not-nonempty.true (tested-valid c.content-first.ensures c.in_default.is))
 
 pub returns-then-k-lt8 : goal.returns-then-k-lt8
 unfolding testedOf
 returns-then-k-lt8 c =
     let x = c.args in
     ap refused c.refuse.ensures
-    ∙ sym (tests-empty x.i x.m x.nonempty c.if-not-nonempty.false (tested-valid c.content-first.ensures c.in_default.is) c.empty_set-k.result c.empty_set-k.ensures _ c.if-k-lt8.true (omega arith))
+    ∙ sym (tests-empty x.i x.m.now x.nonempty c.if-not-nonempty.false (tested-valid c.content-first.ensures c.in_default.is) c.empty_set-k.result c.empty_set-k.ensures _ c.if-k-lt8.true (omega arith))
 
 pub returns-else-k-lt8 : goal.returns-else-k-lt8
 unfolding testedOf
 returns-else-k-lt8 c =
     let x = c.args in
-    sym (tests-nonempty x.i x.m x.nonempty c.if-not-nonempty.false (tested-valid c.content-first.ensures c.in_default.is) c.empty_set-k.result c.empty_set-k.ensures c.if-k-lt8.false)
+    sym (tests-nonempty x.i x.m.now x.nonempty c.if-not-nonempty.false (tested-valid c.content-first.ensures c.in_default.is) c.empty_set-k.result c.empty_set-k.ensures c.if-k-lt8.false)

@@ -14,7 +14,7 @@ loop-k-init c = below_none _
 pub returns-then-not-has_state : goal.returns-then-not-has_state
 unfolding fairSet
 returns-then-not-has_state c =
-    let m = c.args.m in
+    let m = c.args.m.now in
     sym (empty-at 8 m.sets m.fairness c.loop-k.k (omega arith) (omega arith)
     (sym c.set_of.ensures ∙ stateless-zero _ (sym c.has_state.ensures ∙ c.if-not-has_state.true)) c.loop-k.invariant)
 
@@ -29,5 +29,5 @@ loop-k-preserved c =
 pub returns : goal.returns
 unfolding fairSet
 returns c =
-    let m = c.args.m in
+    let m = c.args.m.now in
     sym (empty-none 8 m.sets m.fairness (λ k h. c.loop-k.invariant k (omega arith)))

@@ -10,21 +10,21 @@ use Rattle.brute.proofs.machines.has_counts.Goals as goal
 pub returns-then-m-eq0 : goal.returns-then-m-eq0
 unfolding countsOk
 returns-then-m-eq0 c =
-    let m = c.args.m in
+    let m = c.args.m.now in
     sym (and-false-l _ (and-false-l _ (lt-leb 1 m.states (omega arith))))
 
 pub returns-then-m-gt64 : goal.returns-then-m-gt64
 unfolding countsOk
-returns-then-m-gt64 c = sym (and-false-l _ (and-false-r (leb 1 c.args.m.states) (lt-leb _ 64 c.if-m-gt64.true)))
+returns-then-m-gt64 c = sym (and-false-l _ (and-false-r (leb 1 c.args.m.now.states) (lt-leb _ 64 c.if-m-gt64.true)))
 
 pub returns-then-m-eq0-2 : goal.returns-then-m-eq0-2
 unfolding countsOk
 returns-then-m-eq0-2 c =
-    let m = c.args.m in
+    let m = c.args.m.now in
     sym (and-false-r _ (and-false-l _ (lt-leb 1 m.sets (omega arith))))
 
 pub returns : goal.returns
 unfolding countsOk
 returns c =
-    let m = c.args.m in
+    let m = c.args.m.now in
     sym (and-true-l _ (and-i (le-leb 1 m.states (omega arith)) (le-leb m.states 64 (omega arith))) ∙ and-true-l _ (le-leb 1 m.sets (omega arith)))

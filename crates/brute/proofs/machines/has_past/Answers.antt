@@ -7,8 +7,12 @@ use Rattle.mask.specs.Bounded.{someIn}
 use Rattle.mask.specs.BoundedLaws.{some-none, some-of}
 use Rattle.mask.specs.LogicLaws.{and-false-l, and-false-r, and-i}
 use Rattle.machine.specs.WellFormed.{beyond}
+use Rattle.brute.specs.MachineLaws.{full-not-beyond}
 use Rattle.brute.proofs.machines.has_past.Goals as goal
 use Rattle.brute.proofs.machines.has_past.Goals.{else-has, then-has+else-n-s}
+
+pub returns-then-m-full : goal.returns-then-m-full
+returns-then-m-full c = sym (full-not-beyond _ _ (rw (← c.full.ensures) c.if-m-full.true))
 
 pub loop-s-init : goal.loop-s-init
 loop-s-init c = below_none _

@@ -10,4 +10,4 @@ returns-then-s-lt64 c = refl
 
 pub returns-else-s-lt64 : goal.returns-else-s-lt64
 unfolding observation
-returns-else-s-lt64 c = past-end c.args.m.observations 64 c.args.s (search rules) c.if-s-lt64.false
+returns-else-s-lt64 c = past-end c.args.m.now.observations 64 c.args.s (search rules) c.if-s-lt64.false

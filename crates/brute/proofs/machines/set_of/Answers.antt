@@ -10,4 +10,4 @@ returns-then-k-lt8 c = refl
 
 pub returns-else-k-lt8 : goal.returns-else-k-lt8
 unfolding fairSet
-returns-else-k-lt8 c = past-end c.args.m.fairness 8 c.args.k (search rules) c.if-k-lt8.false
+returns-else-k-lt8 c = past-end c.args.m.now.fairness 8 c.args.k (search rules) c.if-k-lt8.false

@@ -10,11 +10,11 @@ use Rattle.brute.proofs.machines.set_past.Goals as goal
 pub returns-then-k-m : goal.returns-then-k-m
 unfolding setBeyond
 returns-then-k-m c =
-    let e : c.set_of.result ≡ get_or c.args.m.fairness c.args.k 0 = fair-at _ _ c.set_of.ensures in
+    let e : c.set_of.result ≡ get_or c.args.m.now.fairness c.args.k 0 = fair-at _ _ c.set_of.ensures in
     rw (lt-ltb _ _ c.if-k-m.true, ← e) c.has_past.ensures
 
 pub returns : goal.returns
 unfolding setBeyond
 returns c =
-    let e : c.set_of-2.result ≡ get_or c.args.m.fairness c.args.k 0 = fair-at _ _ c.set_of-2.ensures in
+    let e : c.set_of-2.result ≡ get_or c.args.m.now.fairness c.args.k 0 = fair-at _ _ c.set_of-2.ensures in
     rw (le-ltb _ _ c.if-k-m.false, ← e) (sym (not-is _))

@@ -10,18 +10,18 @@ use Rattle.brute.proofs.machines.state_past.Goals as goal
 pub returns-then-s-m : goal.returns-then-s-m
 unfolding stateBeyond
 returns-then-s-m c =
-    let e : c.successors_of.result ≡ get_or c.args.m.successors c.args.s 0 = successors-at _ _ c.successors_of.ensures in
+    let e : c.successors_of.result ≡ get_or c.args.m.now.successors c.args.s 0 = successors-at _ _ c.successors_of.ensures in
     rw (lt-ltb _ _ c.if-s-m.true, ← e) c.has_past.ensures
 
 pub returns-then-observed-ne0 : goal.returns-then-observed-ne0
 unfolding stateBeyond
 returns-then-observed-ne0 c =
-    let e : c.observed.result ≡ get_or c.args.m.observations c.args.s 0 = observation-at _ _ c.observed.ensures in
+    let e : c.observed.result ≡ get_or c.args.m.now.observations c.args.s 0 = observation-at _ _ c.observed.ensures in
     rw (le-ltb _ _ c.if-s-m.false, ← e) (sym (or-l _ (not-i (ne_eqb _ 0 c.if-observed-ne0.true))))
 
 pub returns : goal.returns
 unfolding stateBeyond
 returns c =
-    let e : c.observed.result ≡ get_or c.args.m.observations c.args.s 0 = observation-at _ _ c.observed.ensures in
-    let f : c.successors_of-2.result ≡ get_or c.args.m.successors c.args.s 0 = successors-at _ _ c.successors_of-2.ensures in
+    let e : c.observed.result ≡ get_or c.args.m.now.observations c.args.s 0 = observation-at _ _ c.observed.ensures in
+    let f : c.successors_of-2.result ≡ get_or c.args.m.now.successors c.args.s 0 = successors-at _ _ c.successors_of-2.ensures in
     rw (le-ltb _ _ c.if-s-m.false, ← e, ← f) (sym (or-false-l _ (not-f (eq-eqb _ 0 c.if-observed-ne0.false)) ∙ not-is _))

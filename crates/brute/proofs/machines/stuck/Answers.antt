@@ -13,7 +13,7 @@ loop-s-init c = below_none _
 pub returns-then-successors_of-eq0 : goal.returns-then-successors_of-eq0
 unfolding successors
 returns-then-successors_of-eq0 c =
-    let m = c.args.m in
+    let m = c.args.m.now in
     sym (empty-at 64 m.states m.successors c.loop-s.s (omega arith) (omega arith) (sym c.successors_of.ensures ∙ c.if-successors_of-eq0.true) c.loop-s.invariant)
 
 pub loop-s-preserved : goal.loop-s-preserved
@@ -27,5 +27,5 @@ loop-s-preserved c =
 pub returns : goal.returns
 unfolding successors
 returns c =
-    let m = c.args.m in
+    let m = c.args.m.now in
     sym (empty-none 64 m.states m.successors (λ k h. c.loop-s.invariant k (omega arith)))

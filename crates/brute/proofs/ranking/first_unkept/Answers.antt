@@ -13,11 +13,11 @@ use Rattle.brute.specs.RankingLaws.{unkept-is, unkept-none}
 use Rattle.brute.proofs.ranking.first_unkept.Goals as goal
 use Rattle.brute.proofs.ranking.first_unkept.Goals.{Start, else-value_at, then-value_at+else-not-is_kept}
 
-well : (c : Start) → WellPair c.args.p
-well c = well-pair c.args.p c.requires.0
+well : (c : Start) → WellPair c.args.p.now
+well c = well-pair c.args.p.now c.requires.0
 
-low-small : (c : Start) → let x = c.args in x.i / setsC x.p * setsC x.p ≤ 32768
-low-small c = let x = c.args in omega (arith, div-mul-le_self x.i (setsC x.p), ranks-small x.p (well c), c.requires.1.1)
+low-small : (c : Start) → let x = c.args in x.i / setsC x.p.now * setsC x.p.now ≤ 32768
+low-small c = let x = c.args in omega (arith, div-mul-le_self x.i (setsC x.p.now), ranks-small x.p.now (well c), c.requires.1.1)
 
 pub overflow_mul-pairs : goal.overflow_mul-pairs
 overflow_mul-pairs c = omega (arith, pairs-small _ (well (goal.at.overflow_mul-pairs c).Start))
@@ -49,7 +49,7 @@ is_kept-requires c = (c.requires.0, c.requires.1.0)
 pub returns-then-not-is_kept : goal.returns-then-not-is_kept
 returns-then-not-is_kept c =
     let x = c.args in
-    sym (unkept-is x.p x.lifted.now x.j x.ranks.now x.i x.set.now c.loop-e.e c.loop-e-test.true
+    sym (unkept-is x.p.now x.lifted.now x.j x.ranks.now x.i x.set.now c.loop-e.e c.loop-e-test.true
     (and-i (not-i (ne_eqb _ _ (λ e. c.if-value_at.true (c.value_at.ensures ∙ e)))) (not-i (sym c.is_kept.ensures ∙ c.if-not-is_kept.true))) c.loop-e.invariant.1)
 
 pub overflow_step-e : goal.overflow_step-e
@@ -67,4 +67,4 @@ loop-e-preserved c = (
 pub returns : goal.returns
 returns c =
     let x = c.args in
-    sym (unkept-none x.p x.lifted.now x.j x.ranks.now x.i x.set.now (λ q h. c.loop-e.invariant.1 q (omega arith)))
+    sym (unkept-none x.p.now x.lifted.now x.j x.ranks.now x.i x.set.now (λ q h. c.loop-e.invariant.1 q (omega arith)))

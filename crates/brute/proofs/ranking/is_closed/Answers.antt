@@ -5,9 +5,9 @@ use Rattle.brute.specs.RankingLaws.{closed-is}
 use Rattle.brute.proofs.ranking.is_closed.Goals as goal
 
 pub overflow_mul-pairs : goal.overflow_mul-pairs
-overflow_mul-pairs c = omega (arith, pairs-small c.args.p (well-pair _ c.requires.0))
+overflow_mul-pairs c = omega (arith, pairs-small c.args.p.now (well-pair _ c.requires.0))
 
 pub returns : goal.returns
 returns c =
     let x = c.args in
-    closed-is x.p x.lifted.now x.j x.ranks.now x.i x.x c.put_entries.ensures c.first_unkept.ensures
+    closed-is x.p.now x.lifted.now x.j x.ranks.now x.i x.x c.put_entries.ensures c.first_unkept.ensures

@@ -6,8 +6,8 @@ use Rattle.brute.specs.RankingLaws.{rank-entry, rank-goal, rank-unmatched}
 use Rattle.brute.proofs.ranking.rank_of.Goals as goal
 use Rattle.brute.proofs.ranking.rank_of.Goals.{Start, else-is_matched, then-is_matched+else-goal_holds}
 
-well : (c : Start) → WellPair c.args.p
-well c = well-pair c.args.p c.requires.0
+well : (c : Start) → WellPair c.args.p.now
+well c = well-pair c.args.p.now c.requires.0
 
 pub nonzero_div-c : goal.nonzero_div-c
 nonzero_div-c c = let w = well (goal.at.nonzero_div-c c).Start in omega (arith, w.abstraction.states-low)
@@ -18,12 +18,12 @@ nonzero_rem-a c = let w = well (goal.at.nonzero_rem-a c).Start in omega (arith, 
 pub returns-then-goal_holds : goal.returns-then-goal_holds
 returns-then-goal_holds c =
     let x = c.args in
-    sym (rank-goal x.p x.lifted.now x.j x.ranks.now x.e (sym c.is_matched.ensures ∙ c.if-is_matched.true) (sym c.goal_holds.ensures ∙ c.if-goal_holds.true))
+    sym (rank-goal x.p.now x.lifted.now x.j x.ranks.now x.e (sym c.is_matched.ensures ∙ c.if-is_matched.true) (sym c.goal_holds.ensures ∙ c.if-goal_holds.true))
 
 pub returns : goal.returns
 returns c =
     let x = c.args in
     c.value_at.ensures ∙ sym (elim c.if-is_matched.branch [
-      | then-is_matched+else-goal_holds w ↦ rank-entry x.p x.lifted.now x.j x.ranks.now x.e (sym w.goal_holds.ensures ∙ w.if-goal_holds.false)
-      | else-is_matched w ↦ rank-unmatched x.p x.lifted.now x.j x.ranks.now x.e (sym c.is_matched.ensures ∙ w.if-is_matched.false)
+      | then-is_matched+else-goal_holds w ↦ rank-entry x.p.now x.lifted.now x.j x.ranks.now x.e (sym w.goal_holds.ensures ∙ w.if-goal_holds.false)
+      | else-is_matched w ↦ rank-unmatched x.p.now x.lifted.now x.j x.ranks.now x.e (sym c.is_matched.ensures ∙ w.if-is_matched.false)
     ])

@@ -11,8 +11,8 @@ use Rattle.brute.specs.RankingLaws.{ranked-start, ranked-step}
 use Rattle.brute.proofs.ranking.rank_pairs.Goals as goal
 use Rattle.brute.proofs.ranking.rank_pairs.Goals.{Start}
 
-well : (c : Start) → WellPair c.args.p
-well c = well-pair c.args.p c.requires.0
+well : (c : Start) → WellPair c.args.p.now
+well c = well-pair c.args.p.now c.requires.0
 
 pub overflow_mul-pairs : goal.overflow_mul-pairs
 overflow_mul-pairs c = omega (arith, pairs-small _ (well (goal.at.overflow_mul-pairs c).Start))
@@ -21,7 +21,7 @@ pub overflow_mul-i-end : goal.overflow_mul-i-end
 overflow_mul-i-end c = omega (arith, ranks-small _ (well (goal.at.overflow_mul-i-end c).Start))
 
 pub loop-i-init : goal.loop-i-init
-loop-i-init c = let x = c.args in (search rules, refl, ranked-start x.p x.lifted.now x.j x.ranks.now)
+loop-i-init c = let x = c.args in (search rules, refl, ranked-start x.p.now x.lifted.now x.j x.ranks.now)
 
 pub put_largest-requires : goal.put_largest-requires
 put_largest-requires c =
@@ -47,7 +47,7 @@ loop-i-preserved c =
     let l = c.loop-i in (
       search rules,
       c.mark.auto.ranks ∙ l.invariant.1,
-      ranked-step x.p x.lifted.now x.j x.ranks.now l.i l.invariant.2 c.put_largest.ensures c.mark.ensures,
+      ranked-step x.p.now x.lifted.now x.j x.ranks.now l.i l.invariant.2 c.put_largest.ensures c.mark.ensures,
     )
 
 pub shape_of-ranks : goal.shape_of-ranks
@@ -55,5 +55,5 @@ shape_of-ranks c = c.loop-i.invariant.1
 
 pub returns : goal.returns
 returns c =
-    let p = c.args.p in
+    let p = c.args.p.now in
     let e : c.loop-i.i ≡ setsC p * pairs p = omega arith in rw (← e) c.loop-i.invariant.2

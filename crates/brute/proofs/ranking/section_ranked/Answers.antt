@@ -13,19 +13,19 @@ use Rattle.brute.specs.RankingLaws.{section-all, section-not}
 use Rattle.brute.proofs.ranking.section_ranked.Goals as goal
 use Rattle.brute.proofs.ranking.section_ranked.Goals.{After-shown, Start}
 
-well : (c : Start) → WellPair c.args.p
-well c = well-pair c.args.p c.requires.0
+well : (c : Start) → WellPair c.args.p.now
+well c = well-pair c.args.p.now c.requires.0
 
-fits : (c : Start) → let x = c.args in x.j * pairs x.p + pairs x.p ≤ tableRoom
-fits c = section-fits c.args.p (well c) c.args.j c.requires.1
+fits : (c : Start) → let x = c.args in x.j * pairs x.p.now + pairs x.p.now ≤ tableRoom
+fits c = section-fits c.args.p.now (well c) c.args.j c.requires.1
 
 -- what counts of the rank and of the entry that are compared
 rank-is : (c : After-shown) → let x = c.args in
-    c.shown-rank.result ≡ shownEntry x.exact (rankOf x.p x.lifted.now x.j c.rank_pairs.new.ranks c.loop-e.e)
+    c.shown-rank.result ≡ shownEntry x.exact (rankOf x.p.now x.lifted.now x.j c.rank_pairs.new.ranks c.loop-e.e)
 rank-is c = c.shown-rank.ensures ∙ ap (shownEntry c.args.exact) c.rank_of.ensures
 
 entry-is : (c : After-shown) → let x = c.args in
-    c.shown.result ≡ shownEntry x.exact (get_or x.table.now (x.j * pairs x.p + c.loop-e.e) 0)
+    c.shown.result ≡ shownEntry x.exact (get_or x.table.now (x.j * pairs x.p.now + c.loop-e.e) 0)
 entry-is c = c.shown.ensures ∙ ap (shownEntry c.args.exact) c.value_at.ensures
 
 pub overflow_mul-pairs : goal.overflow_mul-pairs
@@ -50,7 +50,7 @@ overflow_add-j c = omega (arith, fits (goal.at.overflow_add-j c).Start)
 pub returns-then-rank-shown : goal.returns-then-rank-shown
 returns-then-rank-shown c =
     let x = c.args in
-    sym (section-not x.p x.exact x.lifted.now x.table.now x.j c.rank_pairs.ensures c.loop-e.e c.loop-e-test.true
+    sym (section-not x.p.now x.exact x.lifted.now x.table.now x.j c.rank_pairs.ensures c.loop-e.e c.loop-e-test.true
     (λ z. c.if-rank-shown.true (rank-is (goal.at.returns-then-rank-shown c).After-shown ∙ z ∙ sym (entry-is (goal.at.returns-then-rank-shown c).After-shown))))
 
 pub overflow_step-e : goal.overflow_step-e
@@ -62,4 +62,4 @@ loop-e-preserved c = (search rules, below_more _ _ c.loop-e.invariant.1 (sym (ra
 pub returns : goal.returns
 returns c =
     let x = c.args in
-    sym (section-all x.p x.exact x.lifted.now x.table.now x.j c.rank_pairs.ensures (λ q h. c.loop-e.invariant.1 q (omega arith)))
+    sym (section-all x.p.now x.exact x.lifted.now x.table.now x.j c.rank_pairs.ensures (λ q h. c.loop-e.invariant.1 q (omega arith)))

@@ -17,16 +17,16 @@ pub returns-then-earlier_round-y : goal.returns-then-earlier_round-y
 returns-then-earlier_round-y c =
     let a = c.args in
     let l = given a.stem.now a.cycle.now in
-    sym (last-is a.p a.table.now l c.loop-y.y (omega arith)
-    (round-found a.p a.table.now l c.loop-y.y (rw (← c.earlier_round.ensures) c.if-earlier_round-y.true)) c.loop-y.invariant.1)
+    sym (last-is a.p.now a.table.now l c.loop-y.y (omega arith)
+    (round-found a.p.now a.table.now l c.loop-y.y (rw (← c.earlier_round.ensures) c.if-earlier_round-y.true)) c.loop-y.invariant.1)
 
 pub loop-y-preserved : goal.loop-y-preserved
 loop-y-preserved c =
     let a = c.args in
     let l = given a.stem.now a.cycle.now in
-    (search rules, below_more _ _ c.loop-y.invariant.1 (round-none a.p a.table.now l c.loop-y.y (rw (← c.earlier_round.ensures) c.if-earlier_round-y.false)))
+    (search rules, below_more _ _ c.loop-y.invariant.1 (round-none a.p.now a.table.now l c.loop-y.y (rw (← c.earlier_round.ensures) c.if-earlier_round-y.false)))
 
 pub returns : goal.returns
 returns c =
     let a = c.args in
-    sym (last-none a.p a.table.now (given a.stem.now a.cycle.now) (λ k h. c.loop-y.invariant.1 k (omega arith)))
+    sym (last-none a.p.now a.table.now (given a.stem.now a.cycle.now) (λ k h. c.loop-y.invariant.1 k (omega arith)))

@@ -29,8 +29,8 @@ loop-a-preserved c =
     let x = c.args in
     let T = x.table.now in
     let l = c.loop-a in
-    let q = wanted x.p T x.moves x.j x.d in
-    let e = entry x.p T x.j x.d in
+    let q = wanted x.p.now T x.moves x.j x.d in
+    let e = entry x.p.now T x.j x.d in
     let key = staying x.present e in
     let bound = 2 * blank - 1 in
     let bit = sym c.has.ensures in (
@@ -40,17 +40,17 @@ loop-a-preserved c =
             let m = sym w.is_matched.ensures ∙ w.if-is_matched.true in
             let k : w.staying_key-key.result ≡ key l.a = keyed x.present e l.a _ _ w.entry_at.ensures w.staying_key-key.ensures in
             let h : key l.a < l.limit = rw (← k) w.if-key-limit.true in
-            let n : covers x.p T x.j x.d l.a ≡ true =
-            covers-of x.p T x.j x.d l.a (λ z. omega (arith, l.invariant.1.limit-le, staying-low x.present e l.a)) in
-            rw (w.best-is, w.limit-is, k) (scan-take q key bound l.a l.best l.limit l.invariant.1 (and-i (bit ∙ w.if-has.true) (nonBlank-of x.p T x.j x.d l.a m n)) h)
+            let n : covers x.p.now T x.j x.d l.a ≡ true =
+            covers-of x.p.now T x.j x.d l.a (λ z. omega (arith, l.invariant.1.limit-le, staying-low x.present e l.a)) in
+            rw (w.best-is, w.limit-is, k) (scan-take q key bound l.a l.best l.limit l.invariant.1 (and-i (bit ∙ w.if-has.true) (nonBlank-of x.p.now T x.j x.d l.a m n)) h)
         | then-has+then-is_matched+else-key-limit w ↦ rw (w.best-is, w.limit-is) (scan-keep q key bound l.a l.best l.limit l.invariant.1
             (λ t. omega (
               arith,
               staying-high x.present e l.a,
-              entry-below x.p T (small (goal.at.loop-a-preserved c).At-loop-a) x.j x.d l.a (nonBlank-at x.p T x.j x.d l.a (and-r _ _ t)).1,
+              entry-below x.p.now T (small (goal.at.loop-a-preserved c).At-loop-a) x.j x.d l.a (nonBlank-at x.p.now T x.j x.d l.a (and-r _ _ t)).1,
             ))
             (rw (← keyed x.present e l.a _ _ w.entry_at.ensures w.staying_key-key.ensures) w.if-key-limit.false))
-        | then-has+else-is_matched w ↦ rw (w.best-is, w.limit-is) (scan-miss q key bound l.a l.best l.limit l.invariant.1 (refute _ (λ t. clash (sym w.is_matched.ensures ∙ w.if-is_matched.false) (nonBlank-at x.p T x.j x.d l.a (and-r _ _ t)).0)))
+        | then-has+else-is_matched w ↦ rw (w.best-is, w.limit-is) (scan-miss q key bound l.a l.best l.limit l.invariant.1 (refute _ (λ t. clash (sym w.is_matched.ensures ∙ w.if-is_matched.false) (nonBlank-at x.p.now T x.j x.d l.a (and-r _ _ t)).0)))
         | else-has w ↦ rw (w.best-is, w.limit-is) (scan-miss q key bound l.a l.best l.limit l.invariant.1 (and-false-l _ (bit ∙ w.if-has.false)))
       ],
     )

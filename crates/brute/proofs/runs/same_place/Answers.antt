@@ -34,9 +34,9 @@ place_at-v-requires c = c.requires.0
 pub returns-then-u-v : goal.returns-then-u-v
 returns-then-u-v c =
     let a = c.args in
-    sym (place-other a.p a.table.now (given a.stem.now a.cycle.now) a.x a.y _ _ c.place_at-u.ensures c.place_at-v.ensures c.if-u-v.true)
+    sym (place-other a.p.now a.table.now (given a.stem.now a.cycle.now) a.x a.y _ _ c.place_at-u.ensures c.place_at-v.ensures c.if-u-v.true)
 
 pub returns : goal.returns
 returns c =
     let a = c.args in
-    sym (place-same a.p a.table.now (given a.stem.now a.cycle.now) a.x a.y _ _ c.place_at-u.ensures c.place_at-v.ensures c.if-u-v.false)
+    sym (place-same a.p.now a.table.now (given a.stem.now a.cycle.now) a.x a.y _ _ c.place_at-u.ensures c.place_at-v.ensures c.if-u-v.false)

@@ -7,8 +7,8 @@ use Rattle.machine.specs.WellFormedLaws.{WellPair, well-pair}
 use Rattle.brute.proofs.runs.section_after.Goals as goal
 use Rattle.brute.proofs.runs.section_after.Goals.{Start}
 
-well : (c : Start) → WellPair c.args.p
-well c = well-pair c.args.p c.requires.0
+well : (c : Start) → WellPair c.args.p.now
+well c = well-pair c.args.p.now c.requires.0
 
 pub entry_at-requires : goal.entry_at-requires
 entry_at-requires c = let w = well (goal.at.entry_at-requires c).Start in (c.requires.0, omega (arith, w.abstraction.sets-high))

@@ -7,8 +7,8 @@ use Rattle.brute.specs.ScanLaws.{step-is}
 use Rattle.brute.proofs.runs.step_to.Goals as goal
 use Rattle.brute.proofs.runs.step_to.Goals.{Start}
 
-well : (c : Start) → WellPair c.args.p
-well c = well-pair c.args.p c.requires.0
+well : (c : Start) → WellPair c.args.p.now
+well c = well-pair c.args.p.now c.requires.0
 
 pub section_after-j-requires : goal.section_after-j-requires
 section_after-j-requires c = (c.requires.0, omega arith)
@@ -17,9 +17,9 @@ pub least_partner-found-requires : goal.least_partner-found-requires
 least_partner-found-requires c =
     let x = c.args in
     let w = well (goal.at.least_partner-found-requires c).Start in
-    (c.requires.0, omega (arith, c.section_after-j.ensures, section-lt x.p x.table.now x.c (asPlace x.at) c.requires.1.1.1.1, w.abstraction.sets-high))
+    (c.requires.0, omega (arith, c.section_after-j.ensures, section-lt x.p.now x.table.now x.c (asPlace x.at) c.requires.1.1.1.1, w.abstraction.sets-high))
 
 pub returns : goal.returns
 returns c =
     let x = c.args in
-    rw c.state_of.ensures (step-is x.p x.table.now x.c x.d _ (asPlace x.at) _ _ c.section_after-j.ensures c.successors_of-moves.ensures c.least_partner-found.ensures)
+    rw c.state_of.ensures (step-is x.p.now x.table.now x.c x.d _ (asPlace x.at) _ _ c.section_after-j.ensures c.successors_of-moves.ensures c.least_partner-found.ensures)
