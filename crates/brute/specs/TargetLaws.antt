@@ -1,7 +1,8 @@
--- Laws of the place of an entry, and of the sets that a line steps into.
-use Rattle.std.specs.Prelude.{Bool, false, true, List, ◌≡◌, ◌*◌, ◌+◌, ◌<◌, ◌≤◌, ℕ}
-use Rattle.std.proofs.Common.{◌∙◌, add-one, arith}
+-- Laws of an entry's l and k as they are counted down, of the place of an entry, and of the sets that a line steps into.
+use Rattle.std.specs.Prelude.{Bool, false, true, List, ◌≡◌, ◌*◌, ◌+◌, ◌-◌, ◌/◌, ◌<◌, ◌≤◌, ℕ}
+use Rattle.std.proofs.Common.{◌∙◌, ap, mod-eq_of_lt, add-one, arith}
 use Rattle.std.proofs.Math.Path.{refl, sym}
+use Rattle.std.proofs.Math.Nat.{add-mod_right, div-eq_of_lt, div-eq-sub-div}
 use borrow.Author.Tests.{eq-eqb, le-leb, le-ltb, lt-leb, lt-ltb, ne_eqb}
 use Rattle.mask.specs.Bounded.{every, first, someIn}
 use Rattle.mask.specs.BoundedLaws.{everyIn-at, everyIn-of, someIn-none, someIn-of}
@@ -21,6 +22,29 @@ use Rattle.machine.specs.declared.Pair.{Pair}
 use Rattle.brute.specs.Lines.{hit, inTarget}
 use Rattle.brute.specs.declared.lines.Target.{Target}
 use Rattle.brute.specs.declared.lines.Target.TheVariants.{AtMost, Lower, NonBlank}
+
+-- ---- l and k
+-- (l − 1) × m + k, counted down by m
+pub level-down : (m r : ℕ) → 0 < m → m < r → levelOf m r ≡ levelOf m (r - m) + 1
+unfolding levelOf
+level-down m r h k =
+    let e : r - 1 - m ≡ r - m - 1 = omega arith in
+    omega (arith, div-eq-sub-div {m = m} {n = r - 1} h (omega arith), ap (λ (x : ℕ). x / m) e)
+
+pub set-down : (m r : ℕ) → m < r → setOf m r ≡ setOf m (r - m)
+unfolding setOf
+set-down m r k =
+    let e : r - 1 ≡ (r - m - 1) + m = omega arith in
+    rw e (add-mod_right (r - m - 1) m)
+
+-- the first m entries have l = 1
+pub level-one : (m r : ℕ) → 0 < r → r ≤ m → levelOf m r ≡ 1
+unfolding levelOf
+level-one m r h k = omega (arith, div-eq_of_lt {n = r - 1} {m = m} (omega arith))
+
+pub set-one : (m r : ℕ) → 0 < r → r ≤ m → setOf m r ≡ r - 1
+unfolding setOf
+set-one m r h k = mod-eq_of_lt (omega arith)
 
 -- ---- the place of an entry
 pub place-small : (p : Pair) → WellPair p → (j c : ℕ) → j < 7 → c < 256 → (j * nC p ≤ 384) × ((j * nC p + c) * nA p ≤ 40896)
