@@ -20,7 +20,7 @@ use Rattle.machine.specs.Verdict.{carried, linesVerdict, checkVerdict}
 use Rattle.machine.specs.VerdictLaws.{check-lines, check-said}
 use Rattle.machine.specs.EntriesLaws.{entry-same, covers-same, each-same, verdict-same}
 use Rattle.theory.specs.RankLaws.{table-entries, table_is}
-use Rattle.theory.specs.RankTheorems.{rank-is-goal, rank-is-figure2, rank-is-least, table-holds-ranks, solver-table-passes, solver-table-covers, carried-exactly}
+use Rattle.theory.proofs.RankTheorems.{rank-is-goal, rank-is-figure2, rank-is-least, table-holds-ranks, solver-table-passes, solver-table-covers, carried-exactly}
 use Rattle.machine.specs.Lassos.{SameObservations}
 use Rattle.soundness.specs.PlayLaws.{observations-zero}
 use Rattle.soundness.specs.Theorems.{carried-is-sound, check-unread, player-unread}

@@ -3,11 +3,8 @@ pub mod Statements
 pub mod Fixpoint
 pub mod GameLaws
 pub mod FamilyLaws
-pub mod Figure2Laws
-pub mod FixpointTheorems
 pub mod TowerLaws
 pub mod RankLaws
 pub mod PassLaws
 pub mod CoverLaws
 pub mod CarriedLaws
-pub mod RankTheorems

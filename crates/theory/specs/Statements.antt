@@ -1,5 +1,5 @@
 -- What is shown of the game over the definitions of document 01, and of document 000's figure 2. Each statement is a type with its hypotheses in it,
--- and FixpointTheorems.antt and RankTheorems.antt give a proof of each: what is shown of well-formed machines only has `wellFormed p ≡ true`, and
+-- and FixpointTheorems.antt and RankTheorems.antt of proofs/ give a proof of each: what is shown of well-formed machines only has `wellFormed p ≡ true`, and
 -- the others hold for machines of any content.
 use Rattle.std.specs.Prelude.{true, false, List, [], ◌⊎◌, ◌↔◌, ◌≡◌, ℕ, suc, ◌+◌, ◌-◌, ◌*◌, ◌≤◌, ◌<◌, get_or}
 use Rattle.machine.specs.declared.Pair.{Pair}

@@ -8,7 +8,7 @@ use Rattle.theory.specs.Figure2.{IterateY}
 use Rattle.theory.specs.Statements.{PairsOf, TurnsAreIterates, LevelsAreIterates, RoundsAreIterates, XIsInnermost}
 use Rattle.theory.specs.GameLaws.{Within-trans, inX-at, inX-of, xOver-is, level-grows, level-within-x, level-levels, levels-level}
 use Rattle.theory.specs.FamilyLaws.{family-is, family-reached, family-stays}
-use Rattle.theory.specs.Figure2Laws.{IsFam, figure2-is, turns-are, levels-are, rounds-are, x-is-nu}
+use Rattle.theory.proofs.Figure2Laws.{IsFam, figure2-is, turns-are, levels-are, rounds-are, x-is-nu}
 
 module _ (p : Pair) where
   pub x-is-largest : XIsLargest p

@@ -10,7 +10,7 @@ use Rattle.machine.specs.Table.{blank, coveredCount}
 use Rattle.theory.specs.Statements.{RankOfGoals, RankIsBlank, RankIsFirst, RankIsGoal, RankIsFigure2, RankIsLeast, RankIsBounded, TableHoldsRanks}
 use Rattle.theory.specs.Statements.{SolverTablePasses, SolverTableCovers, CarriedExactly, NotCarriedIsLowest, PlaceComesBack}
 use Rattle.theory.specs.FamilyLaws.{family-is}
-use Rattle.theory.specs.Figure2Laws.{figure2-is, figure-goal-is, figure-x-is}
+use Rattle.theory.proofs.Figure2Laws.{figure2-is, figure-goal-is, figure-x-is}
 use Rattle.theory.specs.TowerLaws.{place-back}
 use Rattle.theory.specs.RankLaws.{first-same, goal-zero, rank-placed, rank-bounded, table-rank, table_is, section-ranked, rank-covered, rank-blank}
 use Rattle.theory.specs.PassLaws.{table-passes}

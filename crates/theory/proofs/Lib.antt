@@ -1,0 +1,3 @@
+pub mod Figure2Laws
+pub mod FixpointTheorems
+pub mod RankTheorems
