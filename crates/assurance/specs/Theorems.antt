@@ -27,8 +27,8 @@ use Rattle.soundness.specs.Theorems.{carried-is-sound, check-unread, player-unre
 use Rattle.codec.specs.Format.{fileOf}
 use Rattle.codec.specs.Writer.{writeAnswer, writeBuffer}
 use Rattle.codec.specs.WriterLaws.{with-room}
-use Rattle.codec.specs.FileLaws.{write-read, read-write, written-reads, read-writes, first-block, first-block-tells-size, entries-unread, taken-fits, taken-hidden, stored-test, stored-matched, taken-representable, Was, was-taken, was-well}
-use Rattle.codec.specs.PlacesLaws.{blocks-told, first-told, lowest-told, damaged-told, misplaced-told, joined-told, exchanged-told, overwritten-told}
+use Rattle.codec.proofs.FileLaws.{write-read, read-write, written-reads, read-writes, first-block, first-block-tells-size, entries-unread, taken-fits, taken-hidden, stored-test, stored-matched, taken-representable, Was, was-taken, was-well}
+use Rattle.codec.proofs.PlacesLaws.{blocks-told, first-told, lowest-told, damaged-told, misplaced-told, joined-told, exchanged-told, overwritten-told}
 use Rattle.solver.specs.Solver.{solveValidity, solvedTable}
 use Rattle.solver.specs.SolverLaws.{solve-long, solved-refused}
 use Rattle.solver.specs.SolvedLaws.{solve-takes, solved-same, solved-room}

@@ -14,13 +14,8 @@ pub mod FrontLaws
 pub mod FormatLaws
 pub mod BlockLaws
 pub mod WriterLaws
-pub mod ReaderLaws
 pub mod AnswersLaws
 pub mod OutcomesLaws
 -- the file laws
 pub mod Statements
 pub mod PayloadLaws
-pub mod WriteReadLaws
-pub mod ReadWriteLaws
-pub mod FileLaws
-pub mod PlacesLaws

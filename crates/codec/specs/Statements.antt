@@ -1,4 +1,4 @@
--- The file laws, as statements over the definitions that the calls' contracts cite. FileLaws.antt and PlacesLaws.antt prove each. Machines, tables and files are
+-- The file laws, as statements over the definitions that the calls' contracts cite. FileLaws.antt and PlacesLaws.antt of proofs/ prove each. Machines, tables and files are
 -- any numbers and lists; where a law needs what the code's types give of them, it says so.
 use Rattle.std.specs.Prelude.{Bool, true, false, cond, List, ◌++◌, ◌⊎◌, ◌≡◌, ℕ, ◌+◌, ◌*◌, ◌/◌, ◌≤◌, ◌<◌, ◌%◌, ◌^◌, length, get_or, take, drop, eqb, leb}
 use Rattle.mask.specs.Logic.{and}

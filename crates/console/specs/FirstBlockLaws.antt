@@ -14,9 +14,9 @@ use Rattle.machine.specs.Table.{tableRoom}
 use Rattle.machine.specs.Verdict.{checkVerdict}
 use Rattle.codec.specs.Format.{payloadMost}
 use Rattle.codec.specs.Reader.{damagedNumber, firstValidity, payloadDemanded, demanded, sizeOf, readValidity, readAnswer}
-use Rattle.codec.specs.ReaderLaws.{block-refuses, first-valid, first-refuses, demanded-is, payload-fits, machines-fit}
+use Rattle.codec.proofs.ReaderLaws.{block-refuses, first-valid, first-refuses, demanded-is, payload-fits, machines-fit}
 use Rattle.codec.specs.OutcomesLaws.{outcome-refused}
-use Rattle.codec.specs.FileLaws.{first-block-tells-size}
+use Rattle.codec.proofs.FileLaws.{first-block-tells-size}
 use Rattle.codec.specs.Writer.{fileRoom}
 use Rattle.verdict.specs.Outcomes.{fileOutcome, outcomeNumber}
 use Rattle.console.specs.FirstBlock.{sizeNumber}

@@ -13,7 +13,7 @@ use Rattle.machine.specs.WellFormed.{machineValidity}
 use Rattle.machine.specs.WellFormedLaws.{both-valid}
 use Rattle.machine.specs.Table.{tableRoom}
 use Rattle.codec.specs.Reader.{pairOf, readValidity}
-use Rattle.codec.specs.FileLaws.{read-well}
+use Rattle.codec.proofs.FileLaws.{read-well}
 use Rattle.hanoi.specs.Text.{textRoom, hoaText, textAnswer, textBuffer}
 use Rattle.hanoi.specs.CallLaws.{text-given, text-left}
 use Rattle.hanoi.specs.Theorems.{text-fits}

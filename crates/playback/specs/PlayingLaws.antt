@@ -14,7 +14,7 @@ use Rattle.machine.specs.Player.{Played, played, runRoom, run, allValidity, play
 use Rattle.codec.specs.Reader.{taken, pairOf, readAnswer}
 use Rattle.codec.specs.Outcomes.{Outcome, says, noTable, tableIn, outcomeBy}
 use Rattle.codec.specs.OutcomesLaws.{outcome-refused, outcome-bare, outcome-taken, outcome-says, outcome-none}
-use Rattle.codec.specs.FileLaws.{was-taken}
+use Rattle.codec.proofs.FileLaws.{was-taken}
 use Rattle.soundness.specs.PlayLaws.{play-at}
 use Rattle.player.specs.declared.Played as player
 use Rattle.player.specs.Answers.{playedOf}

@@ -23,7 +23,7 @@ use Rattle.codec.specs.Writer.{fileRoom, writeAnswer, writeBuffer}
 use Rattle.codec.specs.WriterLaws.{with-room, answer-small}
 use Rattle.codec.specs.Answers.{readOf}
 use Rattle.codec.specs.AnswersLaws.{read-taken, read-refused}
-use Rattle.codec.specs.FileLaws.{Was, was-taken, was-long, was-well, write-answers}
+use Rattle.codec.proofs.FileLaws.{Was, was-taken, was-long, was-well, write-answers}
 use Rattle.solver.specs.Solver.{solveValidity, solvedTable}
 use Rattle.solver.specs.SolverLaws.{solve-long}
 use Rattle.solver.specs.SolvedLaws.{solved-same, solved-room}

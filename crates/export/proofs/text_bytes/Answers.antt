@@ -4,7 +4,7 @@ use native.Mathlib.Omega.{arith}
 use Rattle.machine.specs.Refusals.{refused}
 use Rattle.codec.specs.Answers.{sizedOf}
 use Rattle.codec.specs.AnswersLaws.{refusal-of}
-use Rattle.codec.specs.FileLaws.{machines-taken, machines-pair, machines-refused}
+use Rattle.codec.proofs.FileLaws.{machines-taken, machines-pair, machines-refused}
 use Rattle.export.specs.ExportingLaws.{first-machine, second-machine, export-short, export-unread, export-neither, export-written}
 use Rattle.export.proofs.text_bytes.Goals as goal
 

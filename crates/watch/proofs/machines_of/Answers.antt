@@ -3,7 +3,7 @@ use mathlib.Core.Path.{sym, ap, ◌∙◌}
 use Rattle.machine.specs.Refusals.{refused, testedOf}
 use Rattle.machine.specs.RefusalsLaws.{refused-not-answer}
 use Rattle.codec.specs.AnswersLaws.{refusal-of}
-use Rattle.codec.specs.FileLaws.{machines-taken, machines-pair, machines-refused}
+use Rattle.codec.proofs.FileLaws.{machines-taken, machines-pair, machines-refused}
 use Rattle.watch.proofs.machines_of.Goals as goal
 
 pub returns-in_default : goal.returns-in_default

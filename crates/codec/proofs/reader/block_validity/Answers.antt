@@ -3,7 +3,7 @@
 use mathlib.Core.Path.{sym, ap, ◌∙◌}
 use native.Mathlib.Omega.{arith}
 use Rattle.machine.specs.Refusals.{refused, testedOf}
-use Rattle.codec.specs.ReaderLaws.{block-damaged, block-misplaced, block-valid}
+use Rattle.codec.proofs.ReaderLaws.{block-damaged, block-misplaced, block-valid}
 use Rattle.codec.proofs.reader.block_validity.Goals as goal
 
 pub returns : goal.returns

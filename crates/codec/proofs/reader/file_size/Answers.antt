@@ -5,7 +5,7 @@ use Rattle.machine.specs.Refusals.{answer}
 use Rattle.machine.specs.RefusalsLaws.{tested-valid, tested-refused, then-refused, then-of}
 use Rattle.codec.specs.Reader.{sizeOf}
 use Rattle.codec.specs.Answers.{sizedOf}
-use Rattle.codec.specs.ReaderLaws.{first-valid, demanded-is}
+use Rattle.codec.proofs.ReaderLaws.{first-valid, demanded-is}
 use Rattle.codec.proofs.reader.file_size.Goals as goal
 
 pub payload_demanded-requires : goal.payload_demanded-requires

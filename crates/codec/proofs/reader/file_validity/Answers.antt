@@ -3,7 +3,7 @@ use mathlib.Core.Path.{◌≡◌, sym, ap, ◌∙◌}
 use Rattle.machine.specs.Refusals.{valid, refused, testedOf}
 use Rattle.machine.specs.RefusalsLaws.{then-of, then-refused, given-at, given-refused}
 use Rattle.codec.specs.Reader.{firstValidity, demanded, sizeOf}
-use Rattle.codec.specs.ReaderLaws.{wrong-length-is}
+use Rattle.codec.proofs.ReaderLaws.{wrong-length-is}
 use Rattle.codec.specs.AnswersLaws.{sized-bytes, sized-refused}
 use Rattle.codec.proofs.reader.file_validity.Goals as goal
 use Rattle.codec.proofs.reader.file_validity.Goals.{In-Bytes}

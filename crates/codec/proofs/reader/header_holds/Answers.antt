@@ -5,7 +5,7 @@ use borrow.Author.Tests.{le-leb, lt-leb}
 use lib.Dec.{leb}
 use Rattle.mask.specs.LogicLaws.{and-true-l, and-false-l, and-false-r}
 use Rattle.codec.specs.Reader.{headerHolds}
-use Rattle.codec.specs.ReaderLaws.{zeros-header}
+use Rattle.codec.proofs.ReaderLaws.{zeros-header}
 use Rattle.codec.proofs.reader.header_holds.Goals as goal
 
 pub returns-then-not-letters_hold : goal.returns-then-not-letters_hold

@@ -4,7 +4,7 @@ use native.Mathlib.Omega.{arith}
 use Rattle.mask.specs.LogicLaws.{not-i, not-f}
 use Rattle.machine.specs.Refusals.{refused, testedOf}
 use Rattle.machine.specs.RefusalsLaws.{tested-valid, tested-refused, then-of, then-refused}
-use Rattle.codec.specs.ReaderLaws.{fitting, blocks-then}
+use Rattle.codec.proofs.ReaderLaws.{fitting, blocks-then}
 use Rattle.codec.proofs.reader.later_validity.Goals as goal
 
 pub later_blocks-blocks-requires : goal.later_blocks-blocks-requires

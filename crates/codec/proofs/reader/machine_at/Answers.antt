@@ -1,6 +1,6 @@
 -- Each array is zeros that are filled from the front, as the definition's tables are.
 use native.Mathlib.Omega.{arith}
-use Rattle.codec.specs.ReaderLaws.{machine-is}
+use Rattle.codec.proofs.ReaderLaws.{machine-is}
 use Rattle.codec.proofs.reader.machine_at.Goals as goal
 
 pub returns : goal.returns

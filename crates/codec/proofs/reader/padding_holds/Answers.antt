@@ -5,7 +5,7 @@ use native.Mathlib.Omega.{arith}
 use lib.ListN.{length, get_or}
 use lib.Dec.{eqb}
 use Rattle.mask.specs.Bounded.{every}
-use Rattle.codec.specs.ReaderLaws.{fitting, padding-is}
+use Rattle.codec.proofs.ReaderLaws.{fitting, padding-is}
 use Rattle.codec.proofs.reader.padding_holds.Goals as goal
 
 pub payload_demanded-len-requires : goal.payload_demanded-len-requires

@@ -2,7 +2,7 @@
 use mathlib.Core.Path.{ap₂, ◌∙◌}
 use native.Mathlib.Omega.{arith}
 use Rattle.codec.specs.Reader.{machineAt}
-use Rattle.codec.specs.ReaderLaws.{in-range, machines-fit, pair_is}
+use Rattle.codec.proofs.ReaderLaws.{in-range, machines-fit, pair_is}
 use Rattle.codec.proofs.reader.pair_at.Goals as goal
 
 pub machine_at-requires : goal.machine_at-requires

@@ -1,7 +1,7 @@
 -- The counts are bytes, so no product and no sum overflows.
 use native.Mathlib.Omega.{arith}
 use Rattle.codec.specs.Format.{payloadLength}
-use Rattle.codec.specs.ReaderLaws.{pairs-room, entries-room}
+use Rattle.codec.proofs.ReaderLaws.{pairs-room, entries-room}
 use Rattle.codec.proofs.reader.payload_length.Goals as goal
 
 pub overflow_mul-result : goal.overflow_mul-result

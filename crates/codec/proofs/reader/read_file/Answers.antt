@@ -3,7 +3,7 @@ use mathlib.Core.Path.{◌≡◌, sym, ap, ◌∙◌}
 use Rattle.machine.specs.Refusals.{andThen, refused, valid}
 use Rattle.machine.specs.RefusalsLaws.{then-refused, tested-valid, tested-refused, buffer-kept}
 use Rattle.codec.specs.Reader.{firstValidity, blocksValidity, readAnswer, readTable}
-use Rattle.codec.specs.ReaderLaws.{read-short, tests-refused, read-pair}
+use Rattle.codec.proofs.ReaderLaws.{read-short, tests-refused, read-pair}
 use Rattle.codec.specs.AnswersLaws.{shown-refused}
 use Rattle.codec.proofs.reader.read_file.Goals as goal
 use Rattle.codec.proofs.reader.read_file.Goals.{In-Valid}

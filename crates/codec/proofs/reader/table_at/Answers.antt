@@ -5,7 +5,7 @@ use native.Mathlib.Omega.{arith}
 use Rattle.codec.specs.Format.{numberAt}
 use Rattle.codec.specs.Loading.{entriesPlace, entriesCount}
 use Rattle.mask.specs.Tables.{front}
-use Rattle.codec.specs.ReaderLaws.{pairs-room, entries-fit, entries-end, table_is}
+use Rattle.codec.proofs.ReaderLaws.{pairs-room, entries-fit, entries-end, table_is}
 use Rattle.codec.proofs.reader.table_at.Goals as goal
 use Rattle.codec.proofs.reader.table_at.Goals.{After-payload_length-at}
 

@@ -12,7 +12,7 @@ use Rattle.codec.specs.Format.{payloadRoom}
 use Rattle.codec.specs.Reader.{firstValidity, blocksValidity, demanded, pairOf}
 use Rattle.codec.specs.Answers.{readOf}
 use Rattle.codec.specs.Loading.{Loaded}
-use Rattle.codec.specs.ReaderLaws.{FirstValid, first-valid, blocks-valid, few-blocks, loaded, table-after}
+use Rattle.codec.proofs.ReaderLaws.{FirstValid, first-valid, blocks-valid, few-blocks, loaded, table-after}
 use Rattle.codec.specs.AnswersLaws.{shown-taken, shown-refused}
 use Rattle.codec.proofs.reader.take_show.Goals as goal
 use Rattle.codec.proofs.reader.take_show.Goals.{In-Valid, After-join, After-pair_validity}

@@ -24,7 +24,7 @@ use Rattle.codec.specs.Reader.{checkHolds, numberFound, BlockHolds, payloadByte,
 use Rattle.codec.specs.Statements.{AreBytes}
 use Rattle.codec.specs.NumberLaws.{number-byte}
 use Rattle.codec.specs.FormatLaws.{payload-length, blocked-length, check-cong, front-at, front-number, front-payload, block-check, blocked-at}
-use Rattle.codec.specs.ReaderLaws.{FirstValid, BlocksValid, Fitting, first-valid, blocks-valid, fitting, in-range}
+use Rattle.codec.proofs.ReaderLaws.{FirstValid, BlocksValid, Fitting, first-valid, blocks-valid, fitting, in-range}
 use Rattle.codec.specs.PayloadLaws.{Stands, Parts, parts-join, stands-join, stands-cons, stands-nil, machine-stands, numbers-stand}
 
 -- ---- the blocks of a file that is not refused

@@ -26,7 +26,7 @@ use Rattle.codec.specs.Reader.{checkHolds, numberFound, BlockHolds, payloadOf, h
 use Rattle.codec.specs.Statements.{Representable, WriteRead}
 use Rattle.codec.specs.NumberLaws.{number-is}
 use Rattle.codec.specs.FormatLaws.{header-length, payload-length, payload-small, blocks-small, blocked-length, file-length, check-cong, check-lt, front-at, front-number, block-check, blocked-at, blocks-hold, blocked-payload}
-use Rattle.codec.specs.ReaderLaws.{block-valid, later-valid, blocks-then, table-after}
+use Rattle.codec.proofs.ReaderLaws.{block-valid, later-valid, blocks-then, table-after}
 use Rattle.codec.specs.PayloadLaws.{Stands, parts-of, machine-reads, numbers-read}
 
 -- ---- what is written: the blocks of a payload of at most 116 blocks hold

@@ -13,9 +13,9 @@ use Rattle.machine.specs.Table.{tableRoom}
 use Rattle.machine.specs.WellFormedLaws.{pair-refuses}
 use Rattle.codec.specs.Reader.{taken, numberFound, damagedNumber, BlockHolds, blockValidity, firstValidity, demanded, laterBlocks, paddingHolds, blocksValidity, pairOf, readValidity, readAnswer}
 use Rattle.codec.specs.Statements.{Told, BlocksTold, FirstTold, LowestTold, AlikeBefore, MisplacedTold, DamagedTold, joined, JoinedTold, exchanged, ExchangedTold, overwritten, OverwrittenTold}
-use Rattle.codec.specs.ReaderLaws.{block-damaged, block-misplaced, block-valid, block-refuses, check-same, found-same, first-valid, first-refuses, blocks-then, later-hold, tests-refused}
-use Rattle.codec.specs.ReadWriteLaws.{Whole, whole, all-blocks}
-use Rattle.codec.specs.FileLaws.{Was, was-taken, ragged, not-ragged, first-same, demanded-same}
+use Rattle.codec.proofs.ReaderLaws.{block-damaged, block-misplaced, block-valid, block-refuses, check-same, found-same, first-valid, first-refuses, blocks-then, later-hold, tests-refused}
+use Rattle.codec.proofs.ReadWriteLaws.{Whole, whole, all-blocks}
+use Rattle.codec.proofs.FileLaws.{Was, was-taken, ragged, not-ragged, first-same, demanded-same}
 
 -- ---- what 3, 7 and 19 mean
 -- the other numbers tell nothing here

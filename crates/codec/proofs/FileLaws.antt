@@ -31,10 +31,10 @@ use Rattle.codec.specs.Statements.{Representable, AreBytes, WriteRead, ReadWrite
 use Rattle.codec.specs.FormatLaws.{file-length, file-cong}
 use Rattle.codec.specs.WriterLaws as writer
 use Rattle.codec.specs.WriterLaws.{with-room, same-tests, answer-valid}
-use Rattle.codec.specs.ReaderLaws.{block-refuses, check-same, found-same, first-valid, blocks-valid, blocks-then, few-blocks, table-after, wrong-length-is}
+use Rattle.codec.proofs.ReaderLaws.{block-refuses, check-same, found-same, first-valid, blocks-valid, blocks-then, few-blocks, table-after, wrong-length-is}
 use Rattle.codec.specs.PayloadLaws.{machine-representable}
-use Rattle.codec.specs.WriteReadLaws as written
-use Rattle.codec.specs.ReadWriteLaws.{whole, joined-bytes, file-same}
+use Rattle.codec.proofs.WriteReadLaws as written
+use Rattle.codec.proofs.ReadWriteLaws.{whole, joined-bytes, file-same}
 
 -- what is written reads back
 pub write-read : WriteRead

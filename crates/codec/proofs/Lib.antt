@@ -1,0 +1,5 @@
+pub mod ReaderLaws
+pub mod ReadWriteLaws
+pub mod WriteReadLaws
+pub mod FileLaws
+pub mod PlacesLaws
