@@ -34,7 +34,7 @@ use Rattle.solver.specs.SolverLaws.{solve-long, solved-refused}
 use Rattle.solver.specs.SolvedLaws.{solve-takes, solved-same, solved-room}
 use Rattle.progress.specs.Turns.{lookUpAnswer}
 use Rattle.progress.specs.TurnsLaws.{first-refused, turn-refused}
-use Rattle.hanoi.specs.Theorems.{text-tells-machine, text-fits, longest-text}
+use Rattle.hanoi.proofs.Theorems.{text-tells-machine, text-fits, longest-text}
 use Rattle.progress.specs.Theorems.{turns-finish, only-finished-writes, finished-settles, struck-out-is-final, finished-tells, first-is-matched, solver-is-turns}
 use Rattle.restore.specs.Restoring.{restored, restoreBuffer}
 use Rattle.restore.specs.RestoringLaws.{restore-valid, restore-made, restore-empty}

@@ -15,8 +15,8 @@ use Rattle.machine.specs.Table.{tableRoom}
 use Rattle.codec.specs.Reader.{pairOf, readValidity}
 use Rattle.codec.proofs.FileLaws.{read-well}
 use Rattle.hanoi.specs.Text.{textRoom, hoaText, textAnswer, textBuffer}
-use Rattle.hanoi.specs.CallLaws.{text-given, text-left}
-use Rattle.hanoi.specs.Theorems.{text-fits}
+use Rattle.hanoi.proofs.CallLaws.{text-given, text-left}
+use Rattle.hanoi.proofs.Theorems.{text-fits}
 use Rattle.export.specs.Exporting.{machineIn, whichValidity, exportValidity, exportAnswer, exportBuffer}
 
 -- ---- which machine it is

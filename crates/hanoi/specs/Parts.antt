@@ -1,4 +1,4 @@
--- The parts of the text as the code puts them, over masks and lists; TextLaws.antt says that together they are the text.
+-- The parts of the text as the code puts them, over masks and lists; TextLaws.antt of proofs/ says that together they are the text.
 use Rattle.std.specs.Prelude.{cond, ℕ, ◌-◌, eqb, get_or}
 use mathlib.Core.List.{List, [], ◌∷◌, ◌++◌, map, flat_map, flatten}
 use Rattle.mask.specs.Bits.{hasBit}

@@ -1,4 +1,4 @@
--- What is shown of the text of a machine. Each statement is a type; Theorems.antt gives its proof, by name.
+-- What is shown of the text of a machine. Each statement is a type; Theorems.antt of proofs/ gives its proof, by name.
 use Rattle.std.specs.Prelude.{◌≡◌, ℕ, ◌-◌, ◌^◌, ◌≤◌, length, replicate}
 use Rattle.machine.specs.declared.Machine.{Machine}
 use Rattle.machine.specs.Refusals.{valid}

@@ -4,7 +4,7 @@ use Rattle.machine.specs.WellFormedLaws.{WellMachine, valid-machine}
 use Rattle.hanoi.specs.Text.{hoaText}
 use Rattle.hanoi.specs.Parts.{textParts}
 use Rattle.hanoi.specs.PutLaws.{Left, left-next, left-room, left-done}
-use Rattle.hanoi.specs.CallLaws.{text-start}
+use Rattle.hanoi.proofs.CallLaws.{text-start}
 use Rattle.hanoi.proofs.put_text.Goals as goal
 use Rattle.hanoi.proofs.put_text.Goals.{Start}
 

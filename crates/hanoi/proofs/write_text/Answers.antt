@@ -5,7 +5,7 @@ use Rattle.machine.specs.Refusals.{refused}
 use Rattle.machine.specs.RefusalsLaws.{tested-valid, tested-refused}
 use Rattle.machine.specs.WellFormedLaws.{valid-machine}
 use Rattle.codec.specs.Answers.{sizedOf}
-use Rattle.hanoi.specs.CallLaws.{text-short, text-stopped, text-placed}
+use Rattle.hanoi.proofs.CallLaws.{text-short, text-stopped, text-placed}
 use Rattle.hanoi.proofs.write_text.Goals as goal
 
 pub returns-then-out-lt-TEXT_ROOM : goal.returns-then-out-lt-TEXT_ROOM

@@ -17,8 +17,8 @@ use Rattle.codec.specs.Statements.{RepresentableMachine}
 use Rattle.hanoi.specs.Words.{numbers, chosen, statesOf, spread, joined}
 use Rattle.hanoi.specs.Text.{line, startLine, name, namesLine, infinitely, acceptance, literal, label, setsWith, inBraces, stateLines, hoaText}
 use Rattle.hanoi.specs.Statements.{TextFits, LongestText, largest, TextTellsMachine}
-use Rattle.hanoi.specs.FitsLaws.{text-most}
-use Rattle.hanoi.specs.TellsLaws as tells
+use Rattle.hanoi.proofs.FitsLaws.{text-most}
+use Rattle.hanoi.proofs.TellsLaws as tells
 
 pub text-tells-machine : TextTellsMachine
 text-tells-machine = tells.text-tells-machine

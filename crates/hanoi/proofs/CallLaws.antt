@@ -12,8 +12,8 @@ use Rattle.hanoi.specs.Text.{textRoom, hoaText, textValidity, textAnswer, textBu
 use Rattle.hanoi.specs.Parts.{textParts}
 use Rattle.hanoi.specs.Puts.{Placed}
 use Rattle.hanoi.specs.PutLaws.{Left, left-parts}
-use Rattle.hanoi.specs.TextLaws.{text-parts}
-use Rattle.hanoi.specs.FitsLaws.{text-most}
+use Rattle.hanoi.proofs.TextLaws.{text-parts}
+use Rattle.hanoi.proofs.FitsLaws.{text-most}
 
 -- the parts of a well-formed machine's text, and their room
 pub text-start : (out : List ℕ) (m : Machine) → WellMachine 8 m

@@ -9,7 +9,7 @@ use Rattle.mask.specs.LogicLaws.{clash, cond-cases, or-l, or-false, or-false-l}
 use Rattle.text.specs.Decimal.{decimal, isDigit}
 use Rattle.text.specs.EndsLaws.{begun, decimal-begun, number-told}
 use Rattle.hanoi.specs.Words.{ascii, numbers, below, chosen, spread, joined}
-use Rattle.hanoi.specs.LinesLaws.{spread-end, spread-next, joined-end, joined-next}
+use Rattle.hanoi.proofs.LinesLaws.{spread-end, spread-next, joined-end, joined-next}
 
 -- ---- numbers that stand one blank apart, in front of a byte that is neither a digit nor a blank
 -- numbers of at most 20 digits

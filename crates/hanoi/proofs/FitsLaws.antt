@@ -20,7 +20,7 @@ use Rattle.hanoi.specs.WordsLaws.{states-mask}
 use Rattle.hanoi.specs.Text.{line, startLine, infinitely, acceptance, literal, label, hoaText}
 use Rattle.hanoi.specs.Parts.{items, startLines, braces, stateText, setsMask, linesAt, linesBelow, headText}
 use Rattle.hanoi.specs.Statements.{mostLength}
-use Rattle.hanoi.specs.TextLaws.{text-parts}
+use Rattle.hanoi.proofs.TextLaws.{text-parts}
 use Rattle.hanoi.specs.PartsLaws.{braces-none, braces-some}
 
 -- ---- numbers that are written, and those of them that pass a test

@@ -22,8 +22,8 @@ use Rattle.hanoi.specs.Words.{ascii, numbers, below, chosen, statesOf, spread, j
 use Rattle.hanoi.specs.Text.{startLine, literal, label, setsWith, inBraces, stateLines, hoaText}
 use Rattle.hanoi.specs.Statements.{TextTellsMachine}
 use Rattle.hanoi.specs.Parts.{startLines, namesWord, countWord, literals}
-use Rattle.hanoi.specs.LinesLaws.{start-next, braces-next, braces-end, state-lines, text-lines, middle, head-behind}
-use Rattle.hanoi.specs.CutLaws.{Small, small-none, small-next, joined-told, chosen-small, chosen-told}
+use Rattle.hanoi.proofs.LinesLaws.{start-next, braces-next, braces-end, state-lines, text-lines, middle, head-behind}
+use Rattle.hanoi.proofs.CutLaws.{Small, small-none, small-next, joined-told, chosen-small, chosen-told}
 
 -- ---- the states of a mask
 states-small : (m : ℕ) → Small (statesOf m)

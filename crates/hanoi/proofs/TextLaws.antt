@@ -16,7 +16,7 @@ use Rattle.hanoi.specs.WordsLaws.{states-none, states-next, states-mask}
 use Rattle.hanoi.specs.Text.{label, setsWith, inBraces, stateLines, hoaText}
 use Rattle.hanoi.specs.Parts.{items, braces, stateText, setsMask, linesAt, linesBelow, headText, textParts}
 use Rattle.hanoi.specs.PartsLaws.{braces-none, braces-some}
-use Rattle.hanoi.specs.LinesLaws.{braces-next, braces-end, state-lines, text-lines}
+use Rattle.hanoi.proofs.LinesLaws.{braces-next, braces-end, state-lines, text-lines}
 
 -- ---- the sets of a state
 sets-are : (m : Machine) (s : ℕ) → m.sets ≤ 64 → setsWith m s ≡ statesOf (setsMask m.sets m.fairness s)

@@ -1,0 +1,9 @@
+pub mod LinesLaws
+pub mod TextLaws
+pub mod FitsLaws
+pub mod CallLaws
+pub mod CutLaws
+pub mod TellsLaws
+pub mod Theorems
+pub mod Example
+pub mod Distinct
