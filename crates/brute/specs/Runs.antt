@@ -7,10 +7,10 @@ use Rattle.brute.specs.declared.runs.Played.{Played}
 use Rattle.brute.specs.declared.runs.Played.TheVariants.{Run, Refused}
 
 -- the player's place, as the plain reading holds it
-abbrev pub asPlace : Spot → Place
-asPlace at = record { state = at.state; section = at.section }
+abbrev pub as_place : Spot → Place
+as_place at = record { state = at.state; section = at.section }
 
 -- what document 01 says for each case of the answer
-unfoldable pub playedOf : Played → Result Told.Played
-playedOf (Run p q) = answer (Told.played p q)
-playedOf (Refused r) = refused r
+unfoldable pub played_of : Played → Result Told.Played
+played_of (Run p q) = answer (Told.played p q)
+played_of (Refused r) = refused r

@@ -1,11 +1,11 @@
 // Families of sets of pairs, as the solver by turns takes them: 448 masks, row j x 64 + c for section j and concrete state c. Any content is one.
 ghost use Rattle.std.specs.Prelude.{true, ◌≡◌, ◌<◌};
-ghost use Rattle.mask.specs.Bits.{hasBit};
+ghost use Rattle.mask.specs.Bits.{has_bit};
 ghost use Rattle.mask.specs.Bounded.{every};
 ghost use Rattle.mask.specs.Logic.{not, or};
-ghost use Rattle.machine.specs.WellFormed.{wellFormed};
+ghost use Rattle.machine.specs.WellFormed.{well_formed};
 ghost use Rattle.machine.specs.Table.{entries};
-ghost use Rattle.brute.specs.Families.{isPair, holdsPairs, familyEntry, familyTable, rowNumber, numberedFamily};
+ghost use Rattle.brute.specs.Families.{is_pair, holds_pairs, family_entry, family_table, row_number, numbered_family};
 
 use crate::machines::{is_matched, validity};
 use crate::numbers::digit;
@@ -15,8 +15,8 @@ use machine::{Pair, Validity};
 
 // Entry number e: 0 for a matched pair whose bit is set, and else blank.
 fn family_entry(p: &Pair, family: &[u64; 448], e: usize) -> u16
-    requires { (wellFormed p.now ≡ true) × (e < entries p.now) }
-    ensures { result ≡ familyEntry p.now family.now e }
+    requires { (well_formed p.now ≡ true) × (e < entries p.now) }
+    ensures { result ≡ family_entry p.now family.now e }
 {
     let concrete = &p.concrete;
     let abstraction = &p.abstraction;
@@ -36,7 +36,7 @@ fn family_entry(p: &Pair, family: &[u64; 448], e: usize) -> u16
 
 // Puts n x P entries that cover the matched pairs of a family. A table that is short and one of machines that are not well formed are kept.
 pub fn put_family(p: Pair, family: &[u64; 448], table: &mut [u16])
-    ensures { table.new ≡ familyTable p family.now table.old }
+    ensures { table.new ≡ family_table p family.now table.old }
 {
     let concrete = &p.concrete;
     let abstraction = &p.abstraction;
@@ -56,7 +56,7 @@ pub fn put_family(p: Pair, family: &[u64; 448], table: &mut [u16])
 
 // Whether (c, a) is a matched pair of the machines, and j one of their sections.
 fn is_pair(p: &Pair, j: usize, c: usize, a: usize) -> bool
-    ensures { result ≡ isPair p.now j c a }
+    ensures { result ≡ is_pair p.now j c a }
 {
     let concrete = &p.concrete;
     let abstraction = &p.abstraction;
@@ -74,7 +74,7 @@ fn is_pair(p: &Pair, j: usize, c: usize, a: usize) -> bool
 
 // Whether each bit of a row stands for such a pair.
 fn row_holds(p: &Pair, j: usize, c: usize, row: u64) -> bool
-    ensures { result ≡ every 64 (λ a. or (not (hasBit row a)) (isPair p.now j c a)) }
+    ensures { result ≡ every 64 (λ a. or (not (has_bit row a)) (is_pair p.now j c a)) }
 {
     // most rows have no bit at all
     if row == 0 {
@@ -92,7 +92,7 @@ fn row_holds(p: &Pair, j: usize, c: usize, row: u64) -> bool
 
 // Whether each bit of a family stands for such a pair: it has no stray bits.
 pub fn holds_pairs(p: Pair, family: &[u64; 448]) -> bool
-    ensures { result ≡ holdsPairs p family.now }
+    ensures { result ≡ holds_pairs p family.now }
 {
     for e in 0..448 {
         if !row_holds(&p, e / 64, e % 64, family[e]) {
@@ -107,7 +107,7 @@ pub fn holds_pairs(p: Pair, family: &[u64; 448]) -> bool
 // The number of row e among those of n sections and nc concrete states, section by section; that after the last for any other row.
 fn row_number(n: u8, nc: u8, e: usize) -> usize
     requires { e < 448 }
-    ensures { result ≡ rowNumber n nc e }
+    ensures { result ≡ row_number n nc e }
 {
     let sections = n as usize;
     let width = nc as usize;
@@ -123,7 +123,7 @@ fn row_number(n: u8, nc: u8, e: usize) -> usize
 
 // Family number x of n sections and nc concrete states: each of their rows is a digit from 0 to `top`, and all other rows are the digit after these.
 pub fn numbered_family(n: u8, nc: u8, top: u32, x: u64) -> [u64; 448]
-    ensures { result ≡ numberedFamily n nc top x }
+    ensures { result ≡ numbered_family n nc top x }
 {
     let mut out = [0u64; 448];
     for e in 0..448 {

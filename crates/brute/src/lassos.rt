@@ -1,10 +1,10 @@
 // The plain reading of lassos and of endless play.
 ghost use Rattle.std.specs.Prelude.{[], ◌≡◌, ◌+◌, length, get_or};
 ghost use Rattle.mask.specs.Bounded.{every, some, first};
-ghost use Rattle.machine.specs.Machines.{observation, sameObservation, inFairSet};
-ghost use Rattle.machine.specs.Refusals.{testedOf};
-ghost use Rattle.machine.specs.Lassos.{moment, isLasso, isFair, isPlay, given};
-ghost use Rattle.machine.specs.Player.{badStep, missedSet, lassoValidity};
+ghost use Rattle.machine.specs.Machines.{observation, same_observation, in_fair_set};
+ghost use Rattle.machine.specs.Refusals.{tested_of};
+ghost use Rattle.machine.specs.Lassos.{moment, is_lasso, is_fair, is_play, given};
+ghost use Rattle.machine.specs.Player.{bad_step, missed_set, lasso_validity};
 
 use crate::machines::{has_move, has_start, in_set, observed};
 use machine::{Machine, Validity};
@@ -24,7 +24,7 @@ pub fn moment_at(stem: &[u8], cycle: &[u8], t: usize) -> u8
 
 // Whether stem and loop are a lasso.
 fn is_lasso(m: &Machine, stem: &[u8], cycle: &[u8]) -> bool
-    ensures { result ≡ isLasso m.now (given stem.now cycle.now) }
+    ensures { result ≡ is_lasso m.now (given stem.now cycle.now) }
 {
     if cycle.len() == 0 {
         return false;
@@ -43,7 +43,7 @@ fn is_lasso(m: &Machine, stem: &[u8], cycle: &[u8]) -> bool
 
 // Whether the loop has a state of set k.
 fn visits(m: &Machine, k: usize, cycle: &[u8]) -> bool
-    ensures { result ≡ some (length cycle.now) (λ i. inFairSet m.now k (get_or cycle.now i 0)) }
+    ensures { result ≡ some (length cycle.now) (λ i. in_fair_set m.now k (get_or cycle.now i 0)) }
 {
     for i in 0..cycle.len() {
         if in_set(m, k, cycle[i] as usize) {
@@ -55,7 +55,7 @@ fn visits(m: &Machine, k: usize, cycle: &[u8]) -> bool
 
 // Whether the loop has a state of each set; the stem makes no difference.
 fn is_fair(m: &Machine, cycle: &[u8]) -> bool
-    ensures { result ≡ isFair m.now (given [] cycle.now) }
+    ensures { result ≡ is_fair m.now (given [] cycle.now) }
 {
     for k in 0..m.sets {
         if !visits(m, k, cycle) {
@@ -67,7 +67,7 @@ fn is_fair(m: &Machine, cycle: &[u8]) -> bool
 
 // Whether stem and loop are a fair lasso from a start state.
 pub fn is_play(m: Machine, stem: &[u8], cycle: &[u8]) -> bool
-    ensures { result ≡ isPlay m (given stem.now cycle.now) }
+    ensures { result ≡ is_play m (given stem.now cycle.now) }
 {
     if !is_lasso(&m, stem, cycle) {
         return false;
@@ -89,7 +89,7 @@ pub fn same_until(
     round: &[u8],
     n: usize,
 ) -> bool
-    ensures { result ≡ every n (λ t. sameObservation hidden (observation m (moment (given stem.now cycle.now) t))
+    ensures { result ≡ every n (λ t. same_observation hidden (observation m (moment (given stem.now cycle.now) t))
         (observation k (moment (given run.now round.now) t))) }
 {
     for t in 0..n {
@@ -106,7 +106,7 @@ pub fn same_until(
 
 // Whether 14 holds at position i.
 fn bad_step(m: &Machine, stem: &[u8], cycle: &[u8], i: usize) -> bool
-    ensures { result ≡ badStep m.now (given stem.now cycle.now) i }
+    ensures { result ≡ bad_step m.now (given stem.now cycle.now) i }
 {
     let s = moment_at(stem, cycle, i) as usize;
     if s >= m.states {
@@ -131,7 +131,7 @@ fn bad_step(m: &Machine, stem: &[u8], cycle: &[u8], i: usize) -> bool
 
 // The lowest position at which 14 holds, the lasso's length where there is none.
 fn first_bad(m: &Machine, stem: &[u8], cycle: &[u8]) -> usize
-    ensures { result ≡ first (length stem.now + length cycle.now) (badStep m.now (given stem.now cycle.now)) }
+    ensures { result ≡ first (length stem.now + length cycle.now) (bad_step m.now (given stem.now cycle.now)) }
 {
     for i in 0..stem.len() + cycle.len() {
         if bad_step(m, stem, cycle, i) {
@@ -143,7 +143,7 @@ fn first_bad(m: &Machine, stem: &[u8], cycle: &[u8]) -> usize
 
 // The lowest set without a state of the loop, the number of sets where there is none.
 fn first_missed(m: &Machine, cycle: &[u8]) -> usize
-    ensures { result ≡ first m.now.sets (missedSet m.now (given [] cycle.now)) }
+    ensures { result ≡ first m.now.sets (missed_set m.now (given [] cycle.now)) }
 {
     for k in 0..m.sets {
         if !visits(m, k, cycle) {
@@ -155,7 +155,7 @@ fn first_missed(m: &Machine, cycle: &[u8]) -> usize
 
 // 13 to 15 of a lasso; the spot's set is counted from 1.
 pub fn lasso_fits(m: &Machine, stem: &[u8], cycle: &[u8]) -> Validity
-    ensures { testedOf result ≡ lassoValidity m.now (given stem.now cycle.now) }
+    ensures { tested_of result ≡ lasso_validity m.now (given stem.now cycle.now) }
 {
     if cycle.len() == 0 {
         return Validity::Refused(machine::refuse(machine::BAD_LASSO_LENGTH, 0, 0, 0));

@@ -2,9 +2,9 @@
 // after the greatest rank, until each line passes. Raising keeps every passing table at or above the one that is raised, so what is left
 // non-blank in the end is all that a passing table can cover; its entries need not be the ranks.
 ghost use Rattle.std.specs.Prelude.{true, ◌++◌, ◌≡◌, ◌<◌, ◌≤◌, length, drop, replicate};
-ghost use Rattle.machine.specs.WellFormed.{wellFormed};
+ghost use Rattle.machine.specs.WellFormed.{well_formed};
 ghost use Rattle.machine.specs.Table.{entries};
-ghost use Rattle.brute.specs.Lifting.{raised, liftedAt, swept, liftedTable};
+ghost use Rattle.brute.specs.Lifting.{raised, lifted_at, swept, lifted_table};
 
 use crate::lines::{entry_passes, lines};
 use crate::machines::validity;
@@ -24,8 +24,8 @@ fn raise(most: usize, e: u16) -> u16
 
 // Raises entry number e where it fails its line.
 fn lift_entry(p: &Pair, table: &mut [u16], e: usize)
-    requires { (wellFormed p.now ≡ true) × ((e < entries p.now) × (entries p.now ≤ length table.old)) }
-    ensures { table.new ≡ liftedAt p.now e table.old }
+    requires { (well_formed p.now ≡ true) × ((e < entries p.now) × (entries p.now ≤ length table.old)) }
+    ensures { table.new ≡ lifted_at p.now e table.old }
 {
     let concrete = &p.concrete;
     let abstraction = &p.abstraction;
@@ -39,7 +39,7 @@ fn lift_entry(p: &Pair, table: &mut [u16], e: usize)
 
 // Raises each entry that fails, in the order of the entries.
 fn sweep(p: &Pair, table: &mut [u16])
-    requires { (wellFormed p.now ≡ true) × (entries p.now ≤ length table.old) }
+    requires { (well_formed p.now ≡ true) × (entries p.now ≤ length table.old) }
     ensures { table.new ≡ swept p.now (entries p.now) table.old }
 {
     let concrete = &p.concrete;
@@ -61,7 +61,7 @@ fn put_zeros(n: usize, table: &mut [u16])
 
 // Lifts the n x P entries from 0 until each line passes. A table that is short and one of machines that are not well formed are kept.
 pub fn lift(p: Pair, table: &mut [u16])
-    ensures { table.new ≡ liftedTable p table.old }
+    ensures { table.new ≡ lifted_table p table.old }
 {
     let concrete = &p.concrete;
     let abstraction = &p.abstraction;

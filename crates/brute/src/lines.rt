@@ -1,16 +1,16 @@
 // The plain reading of document 01's "Line check".
 ghost use Rattle.std.specs.Prelude.{true, ◌≡◌, ◌<◌, ◌≤◌, get_or};
-ghost use Rattle.mask.specs.Bounded.{every, first, someIn};
+ghost use Rattle.mask.specs.Bounded.{every, first, some_in};
 ghost use Rattle.mask.specs.Logic.{not};
-ghost use Rattle.machine.specs.Machines.{successors, nC, nA, setsA};
-ghost use Rattle.machine.specs.Refusals.{answer, testedOf};
-ghost use Rattle.machine.specs.WellFormed.{hasEmptySet, wellFormed};
+ghost use Rattle.machine.specs.Machines.{successors, n_c, n_a, sets_a};
+ghost use Rattle.machine.specs.Refusals.{answer, tested_of};
+ghost use Rattle.machine.specs.WellFormed.{has_empty_set, well_formed};
 ghost use Rattle.machine.specs.Step.{steps};
-ghost use Rattle.machine.specs.Ranks.{levelOf, setOf};
-ghost use Rattle.machine.specs.Table.{entry, coveredCount};
-ghost use Rattle.machine.specs.Lines.{passes, goalLine, rankLine, linesValidity};
-ghost use Rattle.machine.specs.Verdict.{startCovered, lackingStart, startVerdict, checkVerdict, checkEmptySet};
-ghost use Rattle.brute.specs.Lines.{hit, inTarget, verdictOf, emptySetOf};
+ghost use Rattle.machine.specs.Ranks.{level_of, set_of};
+ghost use Rattle.machine.specs.Table.{entry, covered_count};
+ghost use Rattle.machine.specs.Lines.{passes, goal_line, rank_line, lines_validity};
+ghost use Rattle.machine.specs.Verdict.{start_covered, lacking_start, start_verdict, check_verdict, check_empty_set};
+ghost use Rattle.brute.specs.Lines.{hit, in_target, verdict_of, empty_set_of};
 
 use crate::machines::{has_empty_set, has_move, has_start, in_set, is_matched, validity};
 use machine::{Pair, Refusal, Validity};
@@ -47,7 +47,7 @@ pub fn value_at(table: &[u16], i: usize) -> u16
 
 // The entry of (c, a) in section j.
 pub fn entry_at(p: &Pair, table: &[u16], j: usize, c: usize, a: usize) -> u16
-    requires { (wellFormed p.now ≡ true) × ((j < 7) × ((c < 256) × (a ≤ 64))) }
+    requires { (well_formed p.now ≡ true) × ((j < 7) × ((c < 256) × (a ≤ 64))) }
     ensures { result ≡ entry p.now table.now j c a }
 {
     let concrete = &p.concrete;
@@ -58,7 +58,7 @@ pub fn entry_at(p: &Pair, table: &[u16], j: usize, c: usize, a: usize) -> u16
 // The l and k of an entry that is not 0.
 fn level_of(m: usize, e: u16) -> Level
     requires { (0 < m) × (0 < e) }
-    ensures { result ≡ record { level = levelOf m e; set = setOf m e } }
+    ensures { result ≡ record { level = level_of m e; set = set_of m e } }
 {
     let rest = e as usize - 1;
     Level {
@@ -87,8 +87,8 @@ fn hits(t: Target, m: usize, e: u16) -> bool
 
 // Whether some successor of a is matched with d and has, beside it in section j, an entry that the line steps into.
 fn finds(p: &Pair, table: &[u16], t: Target, j: usize, d: usize, a: usize) -> bool
-    requires { (wellFormed p.now ≡ true) × ((j < 7) × (d ≤ 64)) }
-    ensures { result ≡ someIn (nA p.now) (successors p.now.abstraction a) (inTarget p.now table.now t j d) }
+    requires { (well_formed p.now ≡ true) × ((j < 7) × (d ≤ 64)) }
+    ensures { result ≡ some_in (n_a p.now) (successors p.now.abstraction a) (in_target p.now table.now t j d) }
 {
     let concrete = &p.concrete;
     let abstraction = &p.abstraction;
@@ -106,8 +106,8 @@ fn finds(p: &Pair, table: &[u16], t: Target, j: usize, d: usize, a: usize) -> bo
 
 // Whether (c, a) steps into the entries of section j that the line asks for.
 pub fn steps_into(p: &Pair, table: &[u16], t: Target, j: usize, c: usize, a: usize) -> bool
-    requires { (wellFormed p.now ≡ true) × (j < 7) }
-    ensures { result ≡ steps p.now (inTarget p.now table.now t j) c a }
+    requires { (well_formed p.now ≡ true) × (j < 7) }
+    ensures { result ≡ steps p.now (in_target p.now table.now t j) c a }
 {
     let concrete = &p.concrete;
     for d in 0..concrete.states {
@@ -122,8 +122,8 @@ pub fn steps_into(p: &Pair, table: &[u16], t: Target, j: usize, c: usize, a: usi
 
 // Entry 0: a is in set j, and the pair steps into the non-blank pairs of the next section.
 pub fn goal_holds(p: &Pair, table: &[u16], j: usize, c: usize, a: usize) -> bool
-    requires { (wellFormed p.now ≡ true) × (j < setsA p.now) }
-    ensures { result ≡ goalLine p.now table.now j c a }
+    requires { (well_formed p.now ≡ true) × (j < sets_a p.now) }
+    ensures { result ≡ goal_line p.now table.now j c a }
 {
     let abstraction = &p.abstraction;
     if !in_set(abstraction, j, a) {
@@ -141,8 +141,8 @@ pub fn goal_holds(p: &Pair, table: &[u16], j: usize, c: usize, a: usize) -> bool
 
 // Entry e > 0: if c is in set k, the pair steps into entries that are 0 or have a smaller l, else into those that are at most e.
 fn rank_holds(p: &Pair, table: &[u16], j: usize, e: u16, c: usize, a: usize) -> bool
-    requires { (wellFormed p.now ≡ true) × ((j < 7) × (0 < e)) }
-    ensures { result ≡ rankLine p.now table.now j e c a }
+    requires { (well_formed p.now ≡ true) × ((j < 7) × (0 < e)) }
+    ensures { result ≡ rank_line p.now table.now j e c a }
 {
     let concrete = &p.concrete;
     let rank = level_of(concrete.sets, e);
@@ -155,7 +155,7 @@ fn rank_holds(p: &Pair, table: &[u16], j: usize, e: u16, c: usize, a: usize) -> 
 
 // Whether the entry of (c, a) in section j passes.
 pub fn entry_passes(p: &Pair, table: &[u16], j: usize, c: usize, a: usize) -> bool
-    requires { (wellFormed p.now ≡ true) × ((j < setsA p.now) × ((c ≤ 64) × (a ≤ 64))) }
+    requires { (well_formed p.now ≡ true) × ((j < sets_a p.now) × ((c ≤ 64) × (a ≤ 64))) }
     ensures { result ≡ passes p.now table.now j c a }
 {
     let concrete = &p.concrete;
@@ -176,10 +176,10 @@ pub fn entry_passes(p: &Pair, table: &[u16], j: usize, c: usize, a: usize) -> bo
     rank_holds(p, table, j, e, c, a)
 }
 
-// The lowest a whose entry beside c in section j fails, nA where none does.
+// The lowest a whose entry beside c in section j fails, n_a where none does.
 fn failing_state(p: &Pair, table: &[u16], j: usize, c: usize) -> usize
-    requires { (wellFormed p.now ≡ true) × ((j < setsA p.now) × (c ≤ 64)) }
-    ensures { result ≡ first (nA p.now) (λ a. not (passes p.now table.now j c a)) }
+    requires { (well_formed p.now ≡ true) × ((j < sets_a p.now) × (c ≤ 64)) }
+    ensures { result ≡ first (n_a p.now) (λ a. not (passes p.now table.now j c a)) }
 {
     let abstraction = &p.abstraction;
     for a in 0..abstraction.states {
@@ -190,10 +190,10 @@ fn failing_state(p: &Pair, table: &[u16], j: usize, c: usize) -> usize
     abstraction.states
 }
 
-// The lowest c in whose row of section j an entry fails, nC where none does.
+// The lowest c in whose row of section j an entry fails, n_c where none does.
 fn failing_row(p: &Pair, table: &[u16], j: usize) -> usize
-    requires { (wellFormed p.now ≡ true) × (j < setsA p.now) }
-    ensures { result ≡ first (nC p.now) (λ c. not (every (nA p.now) (passes p.now table.now j c))) }
+    requires { (well_formed p.now ≡ true) × (j < sets_a p.now) }
+    ensures { result ≡ first (n_c p.now) (λ c. not (every (n_a p.now) (passes p.now table.now j c))) }
 {
     let concrete = &p.concrete;
     let abstraction = &p.abstraction;
@@ -207,8 +207,8 @@ fn failing_row(p: &Pair, table: &[u16], j: usize) -> usize
 
 // The lowest section in which an entry fails, n where none does.
 fn failing_section(p: &Pair, table: &[u16]) -> usize
-    requires { wellFormed p.now ≡ true }
-    ensures { result ≡ first (setsA p.now) (λ j. not (every (nC p.now) (λ c. every (nA p.now) (passes p.now table.now j c)))) }
+    requires { well_formed p.now ≡ true }
+    ensures { result ≡ first (sets_a p.now) (λ j. not (every (n_c p.now) (λ c. every (n_a p.now) (passes p.now table.now j c)))) }
 {
     let concrete = &p.concrete;
     let abstraction = &p.abstraction;
@@ -222,8 +222,8 @@ fn failing_section(p: &Pair, table: &[u16]) -> usize
 
 // 12, with the first entry that fails; the spot's section is counted from 1.
 pub fn lines(p: &Pair, table: &[u16]) -> Validity
-    requires { wellFormed p.now ≡ true }
-    ensures { testedOf result ≡ linesValidity p.now table.now }
+    requires { well_formed p.now ≡ true }
+    ensures { tested_of result ≡ lines_validity p.now table.now }
 {
     let abstraction = &p.abstraction;
     let j = failing_section(p, table);
@@ -237,8 +237,8 @@ pub fn lines(p: &Pair, table: &[u16]) -> Validity
 
 // How many of the n x P entries are not blank.
 fn covered(p: &Pair, table: &[u16]) -> usize
-    requires { wellFormed p.now ≡ true }
-    ensures { result ≡ coveredCount p.now table.now }
+    requires { well_formed p.now ≡ true }
+    ensures { result ≡ covered_count p.now table.now }
 {
     let concrete = &p.concrete;
     let abstraction = &p.abstraction;
@@ -253,8 +253,8 @@ fn covered(p: &Pair, table: &[u16]) -> usize
 
 // Whether c has an abstract start state beside it that is not blank in section 1.
 fn start_covered(p: &Pair, table: &[u16], c: usize) -> bool
-    requires { (wellFormed p.now ≡ true) × (c ≤ 64) }
-    ensures { result ≡ startCovered p.now table.now c }
+    requires { (well_formed p.now ≡ true) × (c ≤ 64) }
+    ensures { result ≡ start_covered p.now table.now c }
 {
     let abstraction = &p.abstraction;
     for a in 0..abstraction.states {
@@ -267,10 +267,10 @@ fn start_covered(p: &Pair, table: &[u16], c: usize) -> bool
     false
 }
 
-// The lowest concrete start state that has none, nC where each has one.
+// The lowest concrete start state that has none, n_c where each has one.
 fn lacking_start(p: &Pair, table: &[u16]) -> usize
-    requires { wellFormed p.now ≡ true }
-    ensures { result ≡ lackingStart p.now table.now }
+    requires { well_formed p.now ≡ true }
+    ensures { result ≡ lacking_start p.now table.now }
 {
     let concrete = &p.concrete;
     for c in 0..concrete.states {
@@ -285,9 +285,9 @@ fn lacking_start(p: &Pair, table: &[u16]) -> usize
 
 // What is said of a table that passes each line.
 fn start_verdict(p: &Pair, table: &[u16]) -> Verdict
-    requires { wellFormed p.now ≡ true }
-    ensures verdict { verdictOf result ≡ answer (startVerdict p.now table.now) }
-    ensures empty { emptySetOf result ≡ hasEmptySet p.now.concrete }
+    requires { well_formed p.now ≡ true }
+    ensures verdict { verdict_of result ≡ answer (start_verdict p.now table.now) }
+    ensures empty { empty_set_of result ≡ has_empty_set p.now.concrete }
 {
     let concrete = &p.concrete;
     let c = lacking_start(p, table);
@@ -301,8 +301,8 @@ fn start_verdict(p: &Pair, table: &[u16]) -> Verdict
 
 // What the check says of any table of any pair.
 pub fn plain_verdict(p: Pair, table: &[u16]) -> Verdict
-    ensures verdict { verdictOf result ≡ checkVerdict p table.now }
-    ensures empty { emptySetOf result ≡ checkEmptySet p table.now }
+    ensures verdict { verdict_of result ≡ check_verdict p table.now }
+    ensures empty { empty_set_of result ≡ check_empty_set p table.now }
 {
     if table.len() < machine::TABLE_ROOM {
         return Verdict::Refused(machine::refuse(machine::SHORT_BUFFER, 0, 0, 0));

@@ -2,9 +2,9 @@
 ghost use Rattle.std.specs.Prelude.{◌≡◌, eqb};
 ghost use Rattle.mask.specs.Logic.{not};
 ghost use Rattle.mask.specs.Bounded.{some};
-ghost use Rattle.machine.specs.Machines.{observation, successors, moves, starts, fairSet, inFairSet, matched};
-ghost use Rattle.machine.specs.Refusals.{testedOf};
-ghost use Rattle.machine.specs.WellFormed.{countsOk, beyond, stateBeyond, setBeyond, beyondCounts, stuckState, emptySet, hasEmptySet, contentValidity, contentTests, pairTests, pairValidity, nonemptyValidity};
+ghost use Rattle.machine.specs.Machines.{observation, successors, moves, starts, fair_set, in_fair_set, matched};
+ghost use Rattle.machine.specs.Refusals.{tested_of};
+ghost use Rattle.machine.specs.WellFormed.{counts_ok, beyond, state_beyond, set_beyond, is_beyond_counts, stuck_state, lowest_empty_set, has_empty_set, content_validity, content_tests, pair_tests, pair_validity, nonempty_validity};
 
 use machine::{Machine, Pair, Validity};
 
@@ -31,14 +31,14 @@ pub fn has_start(m: &Machine, s: usize) -> bool
 
 // The mask of set k; a machine has 8, and past these an empty one.
 pub fn set_of(m: &Machine, k: usize) -> u64
-    ensures { result ≡ fairSet m.now k }
+    ensures { result ≡ fair_set m.now k }
 {
     if k < 8 { m.fairness[k] } else { 0 }
 }
 
 // Whether s is in set k.
 pub fn in_set(m: &Machine, k: usize, s: usize) -> bool
-    ensures { result ≡ inFairSet m.now k s }
+    ensures { result ≡ in_fair_set m.now k s }
 {
     mask::has(set_of(m, k), s)
 }
@@ -65,7 +65,7 @@ pub fn is_matched(p: &Pair, c: usize, a: usize) -> bool
 
 // Whether a machine has 1 to 64 states and 1 to `limit` sets.
 fn has_counts(limit: usize, m: &Machine) -> bool
-    ensures { result ≡ countsOk limit m.now.states m.now.sets }
+    ensures { result ≡ counts_ok limit m.now.states m.now.sets }
 {
     if m.states == 0 {
         return false;
@@ -99,7 +99,7 @@ fn has_past(n: usize, m: u64) -> bool
 
 // Whether state s has something beyond the counts: a successor, or anything at all where the machine has no such state.
 fn state_past(m: &Machine, s: usize) -> bool
-    ensures { result ≡ stateBeyond m.now.states m.now.observations m.now.successors s }
+    ensures { result ≡ state_beyond m.now.states m.now.observations m.now.successors s }
 {
     if s < m.states {
         return has_past(m.states, successors_of(m, s));
@@ -112,7 +112,7 @@ fn state_past(m: &Machine, s: usize) -> bool
 
 // Whether some state has something beyond the counts.
 fn states_past(m: &Machine) -> bool
-    ensures { result ≡ some 64 (stateBeyond m.now.states m.now.observations m.now.successors) }
+    ensures { result ≡ some 64 (state_beyond m.now.states m.now.observations m.now.successors) }
 {
     for s in 0..64 {
         if state_past(m, s) {
@@ -124,7 +124,7 @@ fn states_past(m: &Machine) -> bool
 
 // Whether set k has something beyond the counts: a state, or anything at all where the machine has no such set.
 fn set_past(m: &Machine, k: usize) -> bool
-    ensures { result ≡ setBeyond m.now.states m.now.sets m.now.fairness k }
+    ensures { result ≡ set_beyond m.now.states m.now.sets m.now.fairness k }
 {
     if k < m.sets {
         return has_past(m.states, set_of(m, k));
@@ -134,7 +134,7 @@ fn set_past(m: &Machine, k: usize) -> bool
 
 // Whether some set has something beyond the counts.
 fn sets_past(m: &Machine) -> bool
-    ensures { result ≡ some 8 (setBeyond m.now.states m.now.sets m.now.fairness) }
+    ensures { result ≡ some 8 (set_beyond m.now.states m.now.sets m.now.fairness) }
 {
     for k in 0..8 {
         if set_past(m, k) {
@@ -146,7 +146,7 @@ fn sets_past(m: &Machine) -> bool
 
 // Whether a bit or an entry of a machine lies beyond its counts.
 fn is_past(m: &Machine) -> bool
-    ensures { result ≡ beyondCounts m.now }
+    ensures { result ≡ is_beyond_counts m.now }
 {
     if has_past(m.states, m.start) {
         return true;
@@ -159,7 +159,7 @@ fn is_past(m: &Machine) -> bool
 
 // The lowest state without a successor, 64 where there is none.
 fn stuck(m: &Machine) -> usize
-    ensures { result ≡ stuckState m.now.states m.now.successors }
+    ensures { result ≡ stuck_state m.now.states m.now.successors }
 {
     for s in 0..64 {
         if s < m.states {
@@ -173,7 +173,7 @@ fn stuck(m: &Machine) -> usize
 
 // 9, 10 and 11 of machine number i of a pair.
 fn content(i: usize, m: &Machine) -> Validity
-    ensures { testedOf result ≡ contentValidity i m.now }
+    ensures { tested_of result ≡ content_validity i m.now }
 {
     if is_past(m) {
         return Validity::Refused(machine::refuse(machine::BEYOND_COUNTS, i, 0, 0));
@@ -202,7 +202,7 @@ fn has_state(members: u64) -> bool
 
 // The lowest set without a state, counted from 0; 8 where there is none.
 fn empty_set(m: &Machine) -> usize
-    ensures { result ≡ emptySet m.now.sets m.now.fairness }
+    ensures { result ≡ lowest_empty_set m.now.sets m.now.fairness }
 {
     for k in 0..8 {
         if k < m.sets {
@@ -216,14 +216,14 @@ fn empty_set(m: &Machine) -> usize
 
 // Whether a machine has a set without a state.
 pub fn has_empty_set(m: &Machine) -> bool
-    ensures { result ≡ hasEmptySet m.now }
+    ensures { result ≡ has_empty_set m.now }
 {
     empty_set(m) < 8
 }
 
 // 9, 10 and 11 of machine number i of a pair, and then 21 if `nonempty`.
 fn content_and_sets(nonempty: bool, i: usize, m: &Machine) -> Validity
-    ensures { testedOf result ≡ contentTests nonempty i m.now }
+    ensures { tested_of result ≡ content_tests nonempty i m.now }
 {
     let first = content(i, m);
     if let Validity::Refused(r) = first {
@@ -242,7 +242,7 @@ fn content_and_sets(nonempty: bool, i: usize, m: &Machine) -> Validity
 
 // 5, then these of the concrete machine and of the abstract one.
 fn tests(nonempty: bool, p: &Pair) -> Validity
-    ensures { testedOf result ≡ pairTests nonempty p.now }
+    ensures { tested_of result ≡ pair_tests nonempty p.now }
 {
     let c = &p.concrete;
     let a = &p.abstraction;
@@ -261,14 +261,14 @@ fn tests(nonempty: bool, p: &Pair) -> Validity
 
 // 5, 9, 10 and 11 of a pair.
 pub fn validity(p: Pair) -> Validity
-    ensures { testedOf result ≡ pairValidity p }
+    ensures { tested_of result ≡ pair_validity p }
 {
     tests(false, &p)
 }
 
 // 5, 9, 10, 11 and 21 of a pair.
 pub fn nonempty_validity(p: Pair) -> Validity
-    ensures { testedOf result ≡ nonemptyValidity p }
+    ensures { tested_of result ≡ nonempty_validity p }
 {
     tests(true, &p)
 }

@@ -2,10 +2,10 @@
 // down, and no iteration; of more by striking out of all pairs, one at a time, those that do not meet its rule over what is left. What is
 // covered comes from a lifted table.
 ghost use Rattle.std.specs.Prelude.{true, ◌≡◌, ◌*◌, ◌<◌, ◌≤◌, min, length};
-ghost use Rattle.mask.specs.Bits.{fullMask};
-ghost use Rattle.machine.specs.Machines.{pairs, setsA, setsC};
-ghost use Rattle.machine.specs.WellFormed.{wellFormed};
-ghost use Rattle.brute.specs.Ranking.{keeps, unkept, closed, largest, struck, largestSet, marked, ranked, rankOf, shownEntry, sectionRanked, tableRanked};
+ghost use Rattle.mask.specs.Bits.{full_mask};
+ghost use Rattle.machine.specs.Machines.{pairs, sets_a, sets_c};
+ghost use Rattle.machine.specs.WellFormed.{well_formed};
+ghost use Rattle.brute.specs.Ranking.{keeps, unkept, closed, largest, struck, largest_set, marked, ranked, rank_of, shown_entry, section_ranked, table_ranked};
 
 use crate::lines::{Target, goal_holds, steps_into, value_at};
 use crate::machines::{in_set, is_matched, validity};
@@ -28,7 +28,7 @@ fn is_kept(
     c: usize,
     a: usize,
 ) -> bool
-    requires { (wellFormed p.now ≡ true) × (j < setsA p.now) }
+    requires { (well_formed p.now ≡ true) × (j < sets_a p.now) }
     ensures { result ≡ keeps p.now lifted.now j ranks.now low k set.now c a }
 {
     if !is_matched(p, c, a) {
@@ -49,7 +49,7 @@ fn is_kept(
 // The first pair of a set that does not meet the rule of X(l, k) over it, the number of pairs where each does; rank number i + 1 is that of l
 // and k.
 fn first_unkept(p: &Pair, lifted: &[u16], j: usize, ranks: &[u16], i: usize, set: &[u16]) -> usize
-    requires { (wellFormed p.now ≡ true) × ((j < setsA p.now) × (i < setsC p.now * pairs p.now)) }
+    requires { (well_formed p.now ≡ true) × ((j < sets_a p.now) × (i < sets_c p.now * pairs p.now)) }
     ensures { result ≡ unkept p.now lifted.now j ranks.now i set.now }
 {
     let concrete = &p.concrete;
@@ -71,7 +71,7 @@ fn first_unkept(p: &Pair, lifted: &[u16], j: usize, ranks: &[u16], i: usize, set
 
 // Whether each pair of set number x meets that rule over it.
 fn is_closed(p: &Pair, lifted: &[u16], j: usize, ranks: &[u16], i: usize, x: u64) -> bool
-    requires { (wellFormed p.now ≡ true) × ((j < setsA p.now) × (i < setsC p.now * pairs p.now)) }
+    requires { (well_formed p.now ≡ true) × ((j < sets_a p.now) × (i < sets_c p.now * pairs p.now)) }
     ensures { result ≡ closed p.now lifted.now j ranks.now i x }
 {
     let concrete = &p.concrete;
@@ -84,8 +84,8 @@ fn is_closed(p: &Pair, lifted: &[u16], j: usize, ranks: &[u16], i: usize, x: u64
 
 // The number of the largest such set: the greatest number, as the union of such sets is one.
 fn largest_set(p: &Pair, lifted: &[u16], j: usize, ranks: &[u16], i: usize) -> u64
-    requires { (wellFormed p.now ≡ true) × ((j < setsA p.now) × (i < setsC p.now * pairs p.now)) }
-    ensures { result ≡ largest p.now lifted.now j ranks.now i (fullMask (min (pairs p.now) 64)) }
+    requires { (well_formed p.now ≡ true) × ((j < sets_a p.now) × (i < sets_c p.now * pairs p.now)) }
+    ensures { result ≡ largest p.now lifted.now j ranks.now i (full_mask (min (pairs p.now) 64)) }
 {
     let concrete = &p.concrete;
     let abstraction = &p.abstraction;
@@ -102,7 +102,7 @@ fn largest_set(p: &Pair, lifted: &[u16], j: usize, ranks: &[u16], i: usize) -> u
 // Strikes out of a set the pairs that do not meet the rule, the first such pair each time. Pairs of a set that meets it are never struck out of
 // a larger one, so that the largest is left.
 fn strike_out(p: &Pair, lifted: &[u16], j: usize, ranks: &[u16], i: usize, set: &mut [u16])
-    requires { (wellFormed p.now ≡ true) × ((j < setsA p.now) × ((i < setsC p.now * pairs p.now) × (pairs p.now ≤ length set.old))) }
+    requires { (well_formed p.now ≡ true) × ((j < sets_a p.now) × ((i < sets_c p.now * pairs p.now) × (pairs p.now ≤ length set.old))) }
     ensures { set.new ≡ struck p.now lifted.now j ranks.now i (pairs p.now) set.old }
 {
     let concrete = &p.concrete;
@@ -119,8 +119,8 @@ fn strike_out(p: &Pair, lifted: &[u16], j: usize, ranks: &[u16], i: usize, set: 
 
 // Puts X(l, k) into `set`, which has all pairs.
 fn put_largest(p: &Pair, lifted: &[u16], j: usize, ranks: &[u16], i: usize, set: &mut [u16])
-    requires { (wellFormed p.now ≡ true) × ((j < setsA p.now) × ((i < setsC p.now * pairs p.now) × (pairs p.now ≤ length set.old))) }
-    ensures { set.new ≡ largestSet p.now lifted.now j ranks.now i set.old }
+    requires { (well_formed p.now ≡ true) × ((j < sets_a p.now) × ((i < sets_c p.now * pairs p.now) × (pairs p.now ≤ length set.old))) }
+    ensures { set.new ≡ largest_set p.now lifted.now j ranks.now i set.old }
 {
     let concrete = &p.concrete;
     let abstraction = &p.abstraction;
@@ -148,8 +148,8 @@ fn mark(n: usize, set: &[u16], r: u16, ranks: &mut [u16])
 
 // Gives each pair of section j the least rank whose X(l, k) has it, goals included.
 fn rank_pairs(p: &Pair, lifted: &[u16], j: usize, ranks: &mut [u16])
-    requires { (wellFormed p.now ≡ true) × ((j < setsA p.now) × (pairs p.now ≤ length ranks.old)) }
-    ensures { ranks.new ≡ ranked p.now lifted.now j (setsC p.now * pairs p.now) ranks.old }
+    requires { (well_formed p.now ≡ true) × ((j < sets_a p.now) × (pairs p.now ≤ length ranks.old)) }
+    ensures { ranks.new ≡ ranked p.now lifted.now j (sets_c p.now * pairs p.now) ranks.old }
 {
     let concrete = &p.concrete;
     let abstraction = &p.abstraction;
@@ -163,8 +163,8 @@ fn rank_pairs(p: &Pair, lifted: &[u16], j: usize, ranks: &mut [u16])
 
 // The rank of pair number e in section j, 0 for a goal.
 fn rank_of(p: &Pair, lifted: &[u16], j: usize, ranks: &[u16], e: usize) -> u16
-    requires { (wellFormed p.now ≡ true) × (j < setsA p.now) }
-    ensures { result ≡ rankOf p.now lifted.now j ranks.now e }
+    requires { (well_formed p.now ≡ true) × (j < sets_a p.now) }
+    ensures { result ≡ rank_of p.now lifted.now j ranks.now e }
 {
     let abstraction = &p.abstraction;
     let c = e / abstraction.states;
@@ -179,7 +179,7 @@ fn rank_of(p: &Pair, lifted: &[u16], j: usize, ranks: &[u16], e: usize) -> u16
 
 // An entry; where it need not be exact, 0 for each that is not blank.
 fn shown(exact: bool, e: u16) -> u16
-    ensures { result ≡ shownEntry exact e }
+    ensures { result ≡ shown_entry exact e }
 {
     if exact {
         return e;
@@ -189,8 +189,8 @@ fn shown(exact: bool, e: u16) -> u16
 
 // Whether section j of a table has the ranks; or, where they need not be exact, covers the pairs that have one.
 fn section_ranked(p: &Pair, exact: bool, lifted: &[u16], j: usize, table: &[u16]) -> bool
-    requires { (wellFormed p.now ≡ true) × (j < setsA p.now) }
-    ensures { result ≡ sectionRanked p.now exact lifted.now table.now j }
+    requires { (well_formed p.now ≡ true) × (j < sets_a p.now) }
+    ensures { result ≡ section_ranked p.now exact lifted.now table.now j }
 {
     let concrete = &p.concrete;
     let abstraction = &p.abstraction;
@@ -215,7 +215,7 @@ pub const COVERED: bool = false;
 // Whether a table has the ranks of two well-formed machines, or covers the pairs that have one, where the lifted table tells what is covered. With the
 // table of any other family in its place these are the ranks over that family.
 pub fn is_ranked(p: Pair, exact: bool, lifted: &[u16], table: &[u16]) -> bool
-    ensures { result ≡ tableRanked p exact lifted.now table.now }
+    ensures { result ≡ table_ranked p exact lifted.now table.now }
 {
     let abstraction = &p.abstraction;
     let valid = validity(p);

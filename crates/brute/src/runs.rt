@@ -3,13 +3,13 @@ ghost use Rattle.std.specs.Prelude.{true, ◌≡◌, ◌+◌, ◌<◌, ◌≤◌
 ghost use Rattle.machine.specs.Lassos.{given};
 ghost use Rattle.mask.specs.Bounded.{every, first};
 ghost use Rattle.mask.specs.Logic.{and};
-ghost use Rattle.machine.specs.Machines.{setsA};
-ghost use Rattle.machine.specs.WellFormed.{wellFormed};
-ghost use Rattle.machine.specs.Step.{staying, singleStep};
+ghost use Rattle.machine.specs.Machines.{sets_a};
+ghost use Rattle.machine.specs.WellFormed.{well_formed};
+ghost use Rattle.machine.specs.Step.{staying, single_step};
 ghost use Rattle.machine.specs.Table.{entry};
-ghost use Rattle.machine.specs.Lines.{nonBlank};
-ghost use Rattle.machine.specs.Player.{sectionAfter, stepTo, placeAt, samePlace, lastRound, playAnswer};
-ghost use Rattle.brute.specs.Runs.{asPlace, playedOf};
+ghost use Rattle.machine.specs.Lines.{non_blank};
+ghost use Rattle.machine.specs.Player.{section_after, step_to, place_at, same_place, last_round, play_answer};
+ghost use Rattle.brute.specs.Runs.{as_place, played_of};
 
 use crate::lassos::{lasso_fits, moment_at};
 use crate::lines::{entry_at, lines};
@@ -41,8 +41,8 @@ fn staying_key(present: usize, a: usize, e: u16) -> u32
 // Of the states of a mask, the matched one of least entry in section j beside d, and none that is blank; of equal ones the state `present`, then
 // the lowest number.
 fn least_partner(p: &Pair, table: &[u16], present: usize, moves: u64, j: usize, d: usize) -> Partner
-    requires { (wellFormed p.now ≡ true) × ((j < 7) × (d < 256)) }
-    ensures { result ≡ singleStep present moves (nonBlank p.now table.now j d) (entry p.now table.now j d) }
+    requires { (well_formed p.now ≡ true) × ((j < 7) × (d < 256)) }
+    ensures { result ≡ single_step present moves (non_blank p.now table.now j d) (entry p.now table.now j d) }
 {
     let mut best = Partner::Nobody;
     // twice a blank entry: every other has a lower key
@@ -63,8 +63,8 @@ fn least_partner(p: &Pair, table: &[u16], present: usize, moves: u64, j: usize, 
 
 // The section after the change: the next one where the pair's entry is 0.
 fn section_after(p: &Pair, table: &[u16], c: usize, at: Spot) -> usize
-    requires { (wellFormed p.now ≡ true) × ((c < 256) × ((at.state ≤ 64) × (at.section < setsA p.now))) }
-    ensures { result ≡ sectionAfter p.now table.now c (asPlace at) }
+    requires { (well_formed p.now ≡ true) × ((c < 256) × ((at.state ≤ 64) × (at.section < sets_a p.now))) }
+    ensures { result ≡ section_after p.now table.now c (as_place at) }
 {
     let abstraction = &p.abstraction;
     if entry_at(p, table, at.section, c, at.state) == 0 {
@@ -76,8 +76,8 @@ fn section_after(p: &Pair, table: &[u16], c: usize, at: Spot) -> usize
 
 // The place at the next moment.
 fn step_to(p: &Pair, table: &[u16], c: usize, at: Spot, d: usize) -> Spot
-    requires { (wellFormed p.now ≡ true) × ((c < 256) × ((d < 256) × ((at.state ≤ 64) × (at.section < setsA p.now)))) }
-    ensures { asPlace result ≡ stepTo p.now table.now c (asPlace at) d }
+    requires { (well_formed p.now ≡ true) × ((c < 256) × ((d < 256) × ((at.state ≤ 64) × (at.section < sets_a p.now)))) }
+    ensures { as_place result ≡ step_to p.now table.now c (as_place at) d }
 {
     let j = section_after(p, table, c, at);
     let moves = successors_of(&p.abstraction, at.state);
@@ -90,8 +90,8 @@ fn step_to(p: &Pair, table: &[u16], c: usize, at: Spot, d: usize) -> Spot
 
 // The place at moment t, by the rule from the start.
 fn place_at(p: &Pair, table: &[u16], stem: &[u8], cycle: &[u8], t: usize) -> Spot
-    requires { wellFormed p.now ≡ true }
-    ensures { asPlace result ≡ placeAt p.now table.now (given stem.now cycle.now) t }
+    requires { well_formed p.now ≡ true }
+    ensures { as_place result ≡ place_at p.now table.now (given stem.now cycle.now) t }
 {
     let abstraction = &p.abstraction;
     let found = least_partner(
@@ -116,8 +116,8 @@ fn place_at(p: &Pair, table: &[u16], stem: &[u8], cycle: &[u8], t: usize) -> Spo
 
 // Whether a and j are the same at the loop starts after x and after y rounds.
 fn same_place(p: &Pair, table: &[u16], stem: &[u8], cycle: &[u8], x: usize, y: usize) -> bool
-    requires { (wellFormed p.now ≡ true) × ((length stem.now + length cycle.now ≤ 64) × ((x ≤ 449) × (y ≤ 449))) }
-    ensures { result ≡ samePlace p.now table.now (given stem.now cycle.now) x y }
+    requires { (well_formed p.now ≡ true) × ((length stem.now + length cycle.now ≤ 64) × ((x ≤ 449) × (y ≤ 449))) }
+    ensures { result ≡ same_place p.now table.now (given stem.now cycle.now) x y }
 {
     let u = place_at(p, table, stem, cycle, stem.len() + x * cycle.len());
     let v = place_at(p, table, stem, cycle, stem.len() + y * cycle.len());
@@ -129,8 +129,8 @@ fn same_place(p: &Pair, table: &[u16], stem: &[u8], cycle: &[u8], x: usize, y: u
 
 // The first round with the same place as round y, y where none before it has.
 fn earlier_round(p: &Pair, table: &[u16], stem: &[u8], cycle: &[u8], y: usize) -> usize
-    requires { (wellFormed p.now ≡ true) × ((length stem.now + length cycle.now ≤ 64) × (y ≤ 449)) }
-    ensures { result ≡ first y (λ x. samePlace p.now table.now (given stem.now cycle.now) x y) }
+    requires { (well_formed p.now ≡ true) × ((length stem.now + length cycle.now ≤ 64) × (y ≤ 449)) }
+    ensures { result ≡ first y (λ x. same_place p.now table.now (given stem.now cycle.now) x y) }
 {
     for x in 0..y {
         if same_place(p, table, stem, cycle, x, y) {
@@ -142,8 +142,8 @@ fn earlier_round(p: &Pair, table: &[u16], stem: &[u8], cycle: &[u8], y: usize) -
 
 // The first round whose place occurred before.
 fn last_round(p: &Pair, table: &[u16], stem: &[u8], cycle: &[u8]) -> usize
-    requires { (wellFormed p.now ≡ true) × (length stem.now + length cycle.now ≤ 64) }
-    ensures { result ≡ lastRound p.now table.now (given stem.now cycle.now) }
+    requires { (well_formed p.now ≡ true) × (length stem.now + length cycle.now ≤ 64) }
+    ensures { result ≡ last_round p.now table.now (given stem.now cycle.now) }
 {
     for y in 0..449 {
         if earlier_round(p, table, stem, cycle, y) < y {
@@ -155,7 +155,7 @@ fn last_round(p: &Pair, table: &[u16], stem: &[u8], cycle: &[u8]) -> usize
 
 // What the player says of any table and any lasso, where its buffers are long enough.
 pub fn plain_play(p: Pair, table: &[u16], stem: &[u8], cycle: &[u8]) -> Played
-    ensures { playedOf result ≡ playAnswer p table.now (given stem.now cycle.now) }
+    ensures { played_of result ≡ play_answer p table.now (given stem.now cycle.now) }
 {
     let abstraction = &p.abstraction;
     let valid = validity(p);
@@ -195,8 +195,8 @@ fn byte_at(run: &[u8], i: usize) -> u8
 
 // Whether a run of n states is that of the rule; of a pair that is not well formed there is none.
 pub fn is_run(p: Pair, table: &[u16], stem: &[u8], cycle: &[u8], run: &[u8], n: usize) -> bool
-    ensures { result ≡ and (wellFormed p) (every n (λ t. eqb (get_or run.now t 0)
-        (placeAt p table.now (given stem.now cycle.now) t).state)) }
+    ensures { result ≡ and (well_formed p) (every n (λ t. eqb (get_or run.now t 0)
+        (place_at p table.now (given stem.now cycle.now) t).state)) }
 {
     let valid = validity(p);
     if let Validity::Refused(_) = valid {

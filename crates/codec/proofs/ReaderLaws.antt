@@ -9,163 +9,163 @@ use Rattle.std.proofs.lemmas.List.{length-replicate}
 use Rattle.std.proofs.Math.Dec.{eqb}
 use borrow.Author.Tests.{eqb-true, eqb-false, eq-eqb, ne_eqb, lt-ltb, ltb-true}
 use Rattle.mask.specs.Logic.{not, or}
-use Rattle.mask.specs.LogicLaws.{both, and-l, and-r, or-none, or-l, or-r, or-e, not-i, not-e, not-f, not-false}
+use Rattle.mask.specs.LogicLaws.{both, and_l, and_r, or_none, or_l, or_r, or_e, not_i, not_e, not_f, not_false}
 use Rattle.mask.specs.Bounded.{every}
-use Rattle.mask.specs.BoundedLaws.{every-at, every-of, every-cong}
+use Rattle.mask.specs.BoundedLaws.{every_at, every_of, every_cong}
 use Rattle.mask.specs.Tables.{table}
-use Rattle.mask.specs.TablesLaws.{table-length, table-cong}
-use Rattle.machine.specs.Machines.{pairUnder}
-use Rattle.machine.specs.Refusals.{Tested, valid, refused, andThen, each, bufferAfter, refusal, short-buffer, bad-length, bad-header, bad-counts, wrong-length, bad-padding, misplaced}
-use Rattle.machine.specs.RefusalsLaws.{valid-next, then-of, then-refused, then-answer, then-then, each-valid, each-at, RefusesOnly, refuses-none, refuses-at, refuses-cond, refuses-then, buffer-valid, buffer-short, buffer-made}
+use Rattle.mask.specs.TablesLaws.{table_length, table_cong}
+use Rattle.machine.specs.Machines.{pair_under}
+use Rattle.machine.specs.Refusals.{Tested, valid, refused, and_then, each, buffer_after, refusal, short_buffer, bad_length, bad_header, bad_counts, wrong_length, bad_padding, misplaced}
+use Rattle.machine.specs.RefusalsLaws.{valid_next, then_of, then_refused, then_answer, then_then, each_valid, each_at, RefusesOnly, refuses_none, refuses_at, refuses_cond, refuses_then, buffer_valid, buffer_short, buffer_made}
 use Rattle.machine.specs.declared.Machine.{Machine}
 use Rattle.machine.specs.declared.Refusal.{Refusal}
-use Rattle.machine.specs.WellFormed.{pairValidity}
-use Rattle.machine.specs.WellFormedLaws.{counts-at, mul-bound}
-use Rattle.machine.specs.Table.{tableRoom}
-use Rattle.codec.specs.Format.{numberAt, payloadMost, payloadLength, fileLength, blocksFor}
-use Rattle.codec.specs.Reader.{checkHolds, numberFound, damagedNumber, blockValidity, BlockHolds, headerByte, noteOf, headerHolds, countsHold, headerValidity, firstValidity, payloadDemanded, demanded, laterBlocks, paddingHolds, blocksValidity, payloadByte, payloadOf, machineAt, pairOf, entriesOf, readValidity, tableOf}
-use Rattle.codec.specs.Loading.{entriesPlace, entriesCount, Loaded}
+use Rattle.machine.specs.WellFormed.{pair_validity}
+use Rattle.machine.specs.WellFormedLaws.{counts_at, mul_bound}
+use Rattle.machine.specs.Table.{table_room}
+use Rattle.codec.specs.Format.{number_at, payload_most, payload_length, file_length, blocks_for}
+use Rattle.codec.specs.Reader.{check_holds, number_found, damaged_number, block_validity, BlockHolds, header_byte, note_of, header_holds, counts_hold, header_validity, first_validity, payload_demanded, demanded, later_blocks, padding_holds, blocks_validity, payload_byte, payload_of, machine_at, pair_of, entries_of, read_validity, table_of}
+use Rattle.codec.specs.Loading.{entries_place, entries_count, Loaded}
 use Rattle.mask.specs.Tables.{front}
-use Rattle.codec.specs.NumberLaws.{number-cong}
-use Rattle.codec.specs.FormatLaws.{check-cong, entries-most, payload-most}
-use Rattle.mask.specs.FrontLaws.{front-length, front-zeros, front-padded}
+use Rattle.codec.specs.NumberLaws.{number_cong}
+use Rattle.codec.specs.FormatLaws.{check_cong, entries_most, payload_most_lem}
+use Rattle.mask.specs.FrontLaws.{front_length, front_zeros, front_padded}
 
 -- ---- a block
 module _ (f : List ℕ) (i : ℕ) where
-  pub block-damaged : checkHolds f i ≡ false → blockValidity f i ≡ refused (refusal (damagedNumber i) i 0 0)
-  unfolding blockValidity
-  block-damaged e = rw (not-i e)
+  pub block_damaged : check_holds f i ≡ false → block_validity f i ≡ refused (refusal (damaged_number i) i 0 0)
+  unfolding block_validity
+  block_damaged e = rw (not_i e)
 
-  pub block-misplaced : checkHolds f i ≡ true → (numberFound f i ≡ i → ⊥) → blockValidity f i ≡ refused (refusal misplaced i (numberFound f i) 0)
-  unfolding blockValidity
-  block-misplaced e n = rw (not-f e, not-i (ne_eqb (numberFound f i) i n))
+  pub block_misplaced : check_holds f i ≡ true → (number_found f i ≡ i → ⊥) → block_validity f i ≡ refused (refusal misplaced i (number_found f i) 0)
+  unfolding block_validity
+  block_misplaced e n = rw (not_f e, not_i (ne_eqb (number_found f i) i n))
 
-  pub block-valid : BlockHolds f i → blockValidity f i ≡ valid
-  unfolding blockValidity
-  block-valid h = rw (not-f h.0, not-f (eq-eqb (numberFound f i) i h.1))
+  pub block_valid : BlockHolds f i → block_validity f i ≡ valid
+  unfolding block_validity
+  block_valid h = rw (not_f h.0, not_f (eq-eqb (number_found f i) i h.1))
 
-  pub block-holds : blockValidity f i ≡ valid → BlockHolds f i
-  unfolding blockValidity
-  block-holds e =
-      let a = valid-next _ _ _ e in
-      let b = valid-next _ _ _ a.1 in
-      (not-false _ a.0, eqb-true (numberFound f i) i (not-false _ b.0))
+  pub block_holds : block_validity f i ≡ valid → BlockHolds f i
+  unfolding block_validity
+  block_holds e =
+      let a = valid_next _ _ _ e in
+      let b = valid_next _ _ _ a.1 in
+      (not_false _ a.0, eqb-true (number_found f i) i (not_false _ b.0))
 
-  pub block-refuses : (F : Refusal → Type 0) → (checkHolds f i ≡ false → F (refusal (damagedNumber i) i 0 0))
-      → (checkHolds f i ≡ true → (numberFound f i ≡ i → ⊥) → F (refusal misplaced i (numberFound f i) 0)) → RefusesOnly F (blockValidity f i)
-  unfolding blockValidity
-  block-refuses F d m =
-      refuses-cond F (not (checkHolds f i)) _ _ (λ t. refuses-at F _ (d (not-e _ t)))
-      (λ t. refuses-cond F (not (eqb (numberFound f i) i)) _ _ (λ u. refuses-at F _ (m (not-false _ t) (eqb-false _ _ (not-e _ u)))) (λ u. refuses-none F))
+  pub block_refuses : (F : Refusal → Type 0) → (check_holds f i ≡ false → F (refusal (damaged_number i) i 0 0))
+      → (check_holds f i ≡ true → (number_found f i ≡ i → ⊥) → F (refusal misplaced i (number_found f i) 0)) → RefusesOnly F (block_validity f i)
+  unfolding block_validity
+  block_refuses F d m =
+      refuses_cond F (not (check_holds f i)) _ _ (λ t. refuses_at F _ (d (not_e _ t)))
+      (λ t. refuses_cond F (not (eqb (number_found f i) i)) _ _ (λ u. refuses_at F _ (m (not_false _ t) (eqb-false _ _ (not_e _ u)))) (λ u. refuses_none F))
 
 -- equal bytes, at whatever places of whatever files
 module _ (f g : List ℕ) (i k : ℕ) (same : (j : ℕ) → j < 512 → get_or f (512 * i + j) 0 ≡ get_or g (512 * k + j) 0) where
-  pub check-same : checkHolds f i ≡ checkHolds g k
-  unfolding checkHolds
-  check-same = ap₂ eqb
-      (number-cong 2 f g (512 * i + 510) (512 * k + 510) (λ j h. ap (λ (x : ℕ). get_or f x 0) (omega arith) ∙ same (510 + j) (omega arith) ∙ ap (λ (x : ℕ). get_or g x 0) (omega arith)))
-      (check-cong f g (512 * i) (512 * k) (λ j h. same j (omega arith)))
+  pub check_same : check_holds f i ≡ check_holds g k
+  unfolding check_holds
+  check_same = ap₂ eqb
+      (number_cong 2 f g (512 * i + 510) (512 * k + 510) (λ j h. ap (λ (x : ℕ). get_or f x 0) (omega arith) ∙ same (510 + j) (omega arith) ∙ ap (λ (x : ℕ). get_or g x 0) (omega arith)))
+      (check_cong f g (512 * i) (512 * k) (λ j h. same j (omega arith)))
 
-  pub found-same : numberFound f i ≡ numberFound g k
-  unfolding numberFound
-  found-same = number-cong 2 f g (512 * i) (512 * k) (λ j h. same j (omega arith))
+  pub found_same : number_found f i ≡ number_found g k
+  unfolding number_found
+  found_same = number_cong 2 f g (512 * i) (512 * k) (λ j h. same j (omega arith))
 
 -- ---- the first block
 -- the six zeros, as they stand in the file
-pub zeros-header : (f : List ℕ) → every 6 (λ i. eqb (get_or f (12 + i) 0) 0) ≡ every 6 (λ i. eqb (headerByte f (10 + i)) 0)
-unfolding headerByte
-zeros-header f = every-cong 6 _ _ (λ i l. ap (λ (k : ℕ). eqb (get_or f k 0) 0) (omega arith))
+pub zeros_header : (f : List ℕ) → every 6 (λ i. eqb (get_or f (12 + i) 0) 0) ≡ every 6 (λ i. eqb (header_byte f (10 + i)) 0)
+unfolding header_byte
+zeros_header f = every_cong 6 _ _ (λ i l. ap (λ (k : ℕ). eqb (get_or f k 0) 0) (omega arith))
 
 -- the products of counts that are bytes
-pub pairs-room : (c a : ℕ) → c < 256 → a < 256 → c * a ≤ 65025
-pairs-room c a h l = mul-bound c a 255 255 (omega arith) (omega arith)
+pub pairs_room : (c a : ℕ) → c < 256 → a < 256 → c * a ≤ 65025
+pairs_room c a h l = mul_bound c a 255 255 (omega arith) (omega arith)
 
-pub entries-room : (n c a : ℕ) → n < 256 → c < 256 → a < 256 → n * (c * a) ≤ 16581375
-entries-room n c a k h l = mul-bound n (c * a) 255 65025 (omega arith) (pairs-room c a h l)
+pub entries_room : (n c a : ℕ) → n < 256 → c < 256 → a < 256 → n * (c * a) ≤ 16581375
+entries_room n c a k h l = mul_bound n (c * a) 255 65025 (omega arith) (pairs_room c a h l)
 
 -- what a first block that is not refused gives
 pub record FirstValid (f : List ℕ) : Type 0 where
   pub long : 512 ≤ length f
   pub whole : length f % 512 ≡ 0
   pub block : BlockHolds f 0
-  pub header : headerHolds f ≡ true
-  pub counts : countsHold f ≡ true
+  pub header : header_holds f ≡ true
+  pub counts : counts_hold f ≡ true
 
-long-enough : (n : ℕ) → (n ≡ 0 → ⊥) → n % 512 ≡ 0 → 512 ≤ n
-long-enough n some whole = omega arith
+long_enough : (n : ℕ) → (n ≡ 0 → ⊥) → n % 512 ≡ 0 → 512 ≤ n
+long_enough n some whole = omega arith
 
-whole-length : (f : List ℕ) → or (eqb (length f) 0) (not (eqb (length f % 512) 0)) ≡ false → (512 ≤ length f) × (length f % 512 ≡ 0)
-whole-length f t =
-    let n = or-none (eqb (length f) 0) (not (eqb (length f % 512) 0)) t in
-    let whole : length f % 512 ≡ 0 = eqb-true _ 0 (not-false _ n.1) in
-    (long-enough (length f) (eqb-false (length f) 0 n.0) whole, whole)
+whole_length : (f : List ℕ) → or (eqb (length f) 0) (not (eqb (length f % 512) 0)) ≡ false → (512 ≤ length f) × (length f % 512 ≡ 0)
+whole_length f t =
+    let n = or_none (eqb (length f) 0) (not (eqb (length f % 512) 0)) t in
+    let whole : length f % 512 ≡ 0 = eqb-true _ 0 (not_false _ n.1) in
+    (long_enough (length f) (eqb-false (length f) 0 n.0) whole, whole)
 
-header-valid : (f : List ℕ) → headerValidity f ≡ valid → (headerHolds f ≡ true) × (countsHold f ≡ true)
-unfolding headerValidity
-header-valid f e = let a = valid-next _ _ _ e in let b = valid-next _ _ _ a.1 in (not-false _ a.0, not-false _ b.0)
+header_valid : (f : List ℕ) → header_validity f ≡ valid → (header_holds f ≡ true) × (counts_hold f ≡ true)
+unfolding header_validity
+header_valid f e = let a = valid_next _ _ _ e in let b = valid_next _ _ _ a.1 in (not_false _ a.0, not_false _ b.0)
 
-pub first-valid : (f : List ℕ) → firstValidity f ≡ valid → FirstValid f
-unfolding firstValidity
-first-valid f e =
-    let a = valid-next _ _ _ e in
-    let b = then-answer (blockValidity f 0) (headerValidity f) a.1 in
-    let h = header-valid f b.1 in
-    let n = whole-length f a.0 in
-    record { long = n.0; whole = n.1; block = block-holds f 0 b.0; header = h.0; counts = h.1 }
+pub first_valid : (f : List ℕ) → first_validity f ≡ valid → FirstValid f
+unfolding first_validity
+first_valid f e =
+    let a = valid_next _ _ _ e in
+    let b = then_answer (block_validity f 0) (header_validity f) a.1 in
+    let h = header_valid f b.1 in
+    let n = whole_length f a.0 in
+    record { long = n.0; whole = n.1; block = block_holds f 0 b.0; header = h.0; counts = h.1 }
 
 -- its refusals
-pub first-refuses : (F : Refusal → Type 0) (f : List ℕ) → F (refusal bad-length 0 0 0) → (512 ≤ length f → RefusesOnly F (blockValidity f 0))
-    → F (refusal bad-header 0 0 0) → F (refusal bad-counts 0 0 0) → RefusesOnly F (firstValidity f)
-unfolding firstValidity headerValidity
-first-refuses F f ragged block header counts =
-    refuses-cond F (or (eqb (length f) 0) (not (eqb (length f % 512) 0))) _ _ (λ t. refuses-at F _ ragged)
-    (λ t. refuses-then F (blockValidity f 0) _ (block (whole-length f t).0)
-    (λ v. refuses-cond F (not (headerHolds f)) _ _ (λ u. refuses-at F _ header)
-    (λ u. refuses-cond F (not (countsHold f)) _ _ (λ x. refuses-at F _ counts) (λ x. refuses-none F))))
+pub first_refuses : (F : Refusal → Type 0) (f : List ℕ) → F (refusal bad_length 0 0 0) → (512 ≤ length f → RefusesOnly F (block_validity f 0))
+    → F (refusal bad_header 0 0 0) → F (refusal bad_counts 0 0 0) → RefusesOnly F (first_validity f)
+unfolding first_validity header_validity
+first_refuses F f ragged block header counts =
+    refuses_cond F (or (eqb (length f) 0) (not (eqb (length f % 512) 0))) _ _ (λ t. refuses_at F _ ragged)
+    (λ t. refuses_then F (block_validity f 0) _ (block (whole_length f t).0)
+    (λ v. refuses_cond F (not (header_holds f)) _ _ (λ u. refuses_at F _ header)
+    (λ u. refuses_cond F (not (counts_hold f)) _ _ (λ x. refuses_at F _ counts) (λ x. refuses_none F))))
 
 -- the length that the counts demand, by the payload's
-pub demanded-is : (f : List ℕ) → demanded f ≡ 512 * ((payloadDemanded f + 507) / 508)
-unfolding demanded fileLength blocksFor payloadDemanded
-demanded-is f = refl
+pub demanded_is : (f : List ℕ) → demanded f ≡ 512 * ((payload_demanded f + 507) / 508)
+unfolding demanded file_length blocks_for payload_demanded
+demanded_is f = refl
 
 -- ---- the later blocks
 -- n blocks, of which the last has the payload's end
 pub record Fitting (f : List ℕ) (n : ℕ) : Type 0 where
   pub long : length f ≡ 512 * n
   pub some : 0 < n
-  pub ends : payloadDemanded f ≤ 508 * n
-  pub last : 508 * n < payloadDemanded f + 508
+  pub ends : payload_demanded f ≤ 508 * n
+  pub last : 508 * n < payload_demanded f + 508
 
-payload-least : (f : List ℕ) → 32 ≤ payloadDemanded f
-unfolding payloadDemanded payloadLength
-payload-least f = omega arith
+payload_least : (f : List ℕ) → 32 ≤ payload_demanded f
+unfolding payload_demanded payload_length
+payload_least f = omega arith
 
 pub fitting : (f : List ℕ) → length f ≡ demanded f → Fitting f (length f / 512)
 fitting f e =
-    let d = demanded-is f in
-    let l = payload-least f in
+    let d = demanded_is f in
+    let l = payload_least f in
     record { long = omega arith; some = omega arith; ends = omega arith; last = omega arith }
 
 -- the place of a padding byte in the last block
-place : (f : List ℕ) (n k : ℕ) → Fitting f n → payloadDemanded f ≤ k → k < 508 * n
-    → 512 * (k / 508) + 2 + k % 508 ≡ payloadDemanded f + 4 * n - 2 + (k - payloadDemanded f)
+place : (f : List ℕ) (n k : ℕ) → Fitting f n → payload_demanded f ≤ k → k < 508 * n
+    → 512 * (k / 508) + 2 + k % 508 ≡ payload_demanded f + 4 * n - 2 + (k - payload_demanded f)
 place f n k w h l = omega arith
 
 -- the padding, as it stands in the last block
-pub padding-is : (f : List ℕ) → length f ≡ demanded f → let n = length f / 512 in let len = payloadDemanded f in
-    every (508 * n - len) (λ i. eqb (get_or f (len + 4 * n - 2 + i) 0) 0) ≡ paddingHolds f
-unfolding paddingHolds payloadDemanded
-padding-is f e = both _ _
-    (λ t. every-of (508 * n) _ (λ k l. by_cases (dec_lt k len) (λ q. or-l _ (lt-ltb k len q))
-    (λ q. or-r _ (ap (λ (x : ℕ). eqb (get_or f x 0) 0) (place f n k w (omega arith) l) ∙ every-at (508 * n - len) _ t (k - len) (omega arith)))))
-    (λ t. every-of (508 * n - len) _ (λ i l. ⊎_elim (λ q. absurd (omega (arith, ltb-true (len + i) len q))) (λ q. ap (λ (x : ℕ). eqb (get_or f x 0) 0) (spot i l) ∙ q)
-    (or-e (every-at (508 * n) _ t (len + i) (omega arith)))))
+pub padding_is : (f : List ℕ) → length f ≡ demanded f → let n = length f / 512 in let len = payload_demanded f in
+    every (508 * n - len) (λ i. eqb (get_or f (len + 4 * n - 2 + i) 0) 0) ≡ padding_holds f
+unfolding padding_holds payload_demanded
+padding_is f e = both _ _
+    (λ t. every_of (508 * n) _ (λ k l. by_cases (dec_lt k len) (λ q. or_l _ (lt-ltb k len q))
+    (λ q. or_r _ (ap (λ (x : ℕ). eqb (get_or f x 0) 0) (place f n k w (omega arith) l) ∙ every_at (508 * n - len) _ t (k - len) (omega arith)))))
+    (λ t. every_of (508 * n - len) _ (λ i l. ⊎_elim (λ q. absurd (omega (arith, ltb-true (len + i) len q))) (λ q. ap (λ (x : ℕ). eqb (get_or f x 0) 0) (spot i l) ∙ q)
+    (or_e (every_at (508 * n) _ t (len + i) (omega arith)))))
   where
     n : ℕ
     n = length f / 512
 
     len : ℕ
-    len = payloadDemanded f
+    len = payload_demanded f
 
     w : Fitting f n
     w = fitting f e
@@ -174,161 +174,161 @@ padding-is f e = both _ _
     spot i l = omega (arith, place f n (len + i) w (omega arith) (omega arith))
 
 -- a file of another length than its counts demand
-pub wrong-length-is : (f : List ℕ) → (length f ≡ demanded f → ⊥) → blocksValidity f ≡ refused (refusal wrong-length 0 0 0)
-unfolding blocksValidity
-wrong-length-is f h = rw (not-i (ne_eqb (length f) (demanded f) h))
+pub wrong_length_is : (f : List ℕ) → (length f ≡ demanded f → ⊥) → blocks_validity f ≡ refused (refusal wrong_length 0 0 0)
+unfolding blocks_validity
+wrong_length_is f h = rw (not_i (ne_eqb (length f) (demanded f) h))
 
 -- ---- machines
 -- a machine whose arrays are filled from the front
-pub machine-is : (Q : List ℕ) (at n sets start : ℕ) (observations successors fairness : List ℕ) → n ≤ 64 → sets ≤ 8 → start ≡ numberAt 8 Q (at + n)
+pub machine_is : (Q : List ℕ) (at n sets start : ℕ) (observations successors fairness : List ℕ) → n ≤ 64 → sets ≤ 8 → start ≡ number_at 8 Q (at + n)
     → observations ≡ front n (λ s. get_or Q (at + s) 0) (replicate 64 0)
-    → successors ≡ front n (λ s. numberAt 8 Q (at + n + 8 + 8 * s)) (replicate 64 0)
-    → fairness ≡ front sets (λ k. numberAt 8 Q (at + 9 * n + 8 + 8 * k)) (replicate 8 0)
-    → record { states = n; sets = sets; start = start; observations = observations; successors = successors; fairness = fairness } ≡ machineAt Q at n sets
-unfolding machineAt
-machine-is Q at n sets start observations successors fairness h k a b c d =
+    → successors ≡ front n (λ s. number_at 8 Q (at + n + 8 + 8 * s)) (replicate 64 0)
+    → fairness ≡ front sets (λ k. number_at 8 Q (at + 9 * n + 8 + 8 * k)) (replicate 8 0)
+    → record { states = n; sets = sets; start = start; observations = observations; successors = successors; fairness = fairness } ≡ machine_at Q at n sets
+unfolding machine_at
+machine_is Q at n sets start observations successors fairness h k a b c d =
     rw (
       a,
-      front-zeros (λ s. get_or Q (at + s) 0) b refl h,
-      front-zeros (λ s. numberAt 8 Q (at + n + 8 + 8 * s)) c refl h,
-      front-zeros (λ k. numberAt 8 Q (at + 9 * n + 8 + 8 * k)) d refl k,
+      front_zeros (λ s. get_or Q (at + s) 0) b refl h,
+      front_zeros (λ s. number_at 8 Q (at + n + 8 + 8 * s)) c refl h,
+      front_zeros (λ k. number_at 8 Q (at + 9 * n + 8 + 8 * k)) d refl k,
     )
 
-pub machine-cong : (Q R : List ℕ) → ((k : ℕ) → get_or Q k 0 ≡ get_or R k 0) → (at n sets : ℕ) → machineAt Q at n sets ≡ machineAt R at n sets
-unfolding machineAt
-machine-cong Q R same at n sets =
+pub machine_cong : (Q R : List ℕ) → ((k : ℕ) → get_or Q k 0 ≡ get_or R k 0) → (at n sets : ℕ) → machine_at Q at n sets ≡ machine_at R at n sets
+unfolding machine_at
+machine_cong Q R same at n sets =
     rw (
-      number-cong 8 Q R (at + n) (at + n) (λ i l. same (at + n + i)),
-      table-cong 64 (λ s. cond (ltb s n) (get_or Q (at + s) 0) 0) (λ s. cond (ltb s n) (get_or R (at + s) 0) 0) (λ s l. ap (λ (x : ℕ). cond (ltb s n) x 0) (same (at + s))),
+      number_cong 8 Q R (at + n) (at + n) (λ i l. same (at + n + i)),
+      table_cong 64 (λ s. cond (ltb s n) (get_or Q (at + s) 0) 0) (λ s. cond (ltb s n) (get_or R (at + s) 0) 0) (λ s l. ap (λ (x : ℕ). cond (ltb s n) x 0) (same (at + s))),
       masks 64 n (at + n + 8),
       masks 8 sets (at + 9 * n + 8),
     )
   where
-    masks : (w count from : ℕ) → table w (λ k. cond (ltb k count) (numberAt 8 Q (from + 8 * k)) 0) ≡ table w (λ k. cond (ltb k count) (numberAt 8 R (from + 8 * k)) 0)
-    masks w count from = table-cong w _ _ (λ k l. ap (λ (x : ℕ). cond (ltb k count) x 0) (number-cong 8 Q R (from + 8 * k) (from + 8 * k) (λ i q. same (from + 8 * k + i))))
+    masks : (w count from : ℕ) → table w (λ k. cond (ltb k count) (number_at 8 Q (from + 8 * k)) 0) ≡ table w (λ k. cond (ltb k count) (number_at 8 R (from + 8 * k)) 0)
+    masks w count from = table_cong w _ _ (λ k l. ap (λ (x : ℕ). cond (ltb k count) x 0) (number_cong 8 Q R (from + 8 * k) (from + 8 * k) (λ i q. same (from + 8 * k + i))))
 
 -- ---- a file whose payload is loaded
 -- the counts of a header that is not refused
 pub record InRange (f : List ℕ) : Type 0 where
-  pub states-c : headerByte f 4 ≤ 64
-  pub states-a : headerByte f 5 ≤ 64
-  pub sets-c : headerByte f 6 ≤ 8
-  pub sets-a : headerByte f 7 ≤ 7
+  pub states_c : header_byte f 4 ≤ 64
+  pub states_a : header_byte f 5 ≤ 64
+  pub sets_c_lem : header_byte f 6 ≤ 8
+  pub sets_a_lem : header_byte f 7 ≤ 7
 
-pub in-range : (f : List ℕ) → countsHold f ≡ true → InRange f
-unfolding countsHold
-in-range f t =
-    let c = counts-at 8 _ _ (and-l _ _ t) in
-    let a = counts-at 7 _ _ (and-r _ _ t) in
-    record { states-c = c.1; states-a = a.1; sets-c = c.3; sets-a = a.3 }
+pub in_range_lem : (f : List ℕ) → counts_hold f ≡ true → InRange f
+unfolding counts_hold
+in_range_lem f t =
+    let c = counts_at 8 _ _ (and_l _ _ t) in
+    let a = counts_at 7 _ _ (and_r _ _ t) in
+    record { states_c = c.1; states_a = a.1; sets_c_lem = c.3; sets_a_lem = a.3 }
 
-pub machines-fit : (f : List ℕ) → 32 + 9 * (headerByte f 4 + headerByte f 5) + 8 * (headerByte f 6 + headerByte f 7) ≤ payloadDemanded f
-unfolding payloadDemanded payloadLength
-machines-fit f = omega arith
+pub machines_fit : (f : List ℕ) → 32 + 9 * (header_byte f 4 + header_byte f 5) + 8 * (header_byte f 6 + header_byte f 7) ≤ payload_demanded f
+unfolding payload_demanded payload_length
+machines_fit f = omega arith
 
-pub pair_is : (f Q : List ℕ) (concrete abstraction : Machine) (hidden : ℕ) → Loaded f Q → concrete ≡ machineAt Q 16 (headerByte f 4) (headerByte f 6)
-    → abstraction ≡ machineAt Q (24 + 9 * headerByte f 4 + 8 * headerByte f 6) (headerByte f 5) (headerByte f 7) → hidden ≡ headerByte f 8
-    → pairUnder hidden concrete abstraction ≡ pairOf f
-unfolding pairOf
+pub pair_is : (f Q : List ℕ) (concrete abstraction : Machine) (hidden : ℕ) → Loaded f Q → concrete ≡ machine_at Q 16 (header_byte f 4) (header_byte f 6)
+    → abstraction ≡ machine_at Q (24 + 9 * header_byte f 4 + 8 * header_byte f 6) (header_byte f 5) (header_byte f 7) → hidden ≡ header_byte f 8
+    → pair_under hidden concrete abstraction ≡ pair_of f
+unfolding pair_of
 pair_is f Q concrete abstraction hidden w ec ea eh =
     rw (
       ec,
       ea,
       eh,
-      machine-cong Q (payloadOf f (length f / 512)) w.same 16 (headerByte f 4) (headerByte f 6),
-      machine-cong Q (payloadOf f (length f / 512)) w.same (24 + 9 * headerByte f 4 + 8 * headerByte f 6) (headerByte f 5) (headerByte f 7),
+      machine_cong Q (payload_of f (length f / 512)) w.same 16 (header_byte f 4) (header_byte f 6),
+      machine_cong Q (payload_of f (length f / 512)) w.same (24 + 9 * header_byte f 4 + 8 * header_byte f 6) (header_byte f 5) (header_byte f 7),
     )
 
 -- ---- the table of such a file
 -- its entries have room in a lent table
-pub entries-fit : (f : List ℕ) → countsHold f ≡ true → entriesCount f ≤ tableRoom
-entries-fit f t = let r = in-range f t in entries-most (headerByte f 4) (headerByte f 5) (headerByte f 7) r.states-c r.states-a r.sets-a
+pub entries_fit : (f : List ℕ) → counts_hold f ≡ true → entries_count f ≤ table_room
+entries_fit f t = let r = in_range_lem f t in entries_most (header_byte f 4) (header_byte f 5) (header_byte f 7) r.states_c r.states_a r.sets_a_lem
 
 -- and they end where the payload does
-pub entries-end : (f : List ℕ) → noteOf f ≡ true → entriesPlace f + 2 * entriesCount f ≡ payloadDemanded f
-unfolding payloadDemanded payloadLength
-entries-end f t = rw t (omega arith)
+pub entries_end : (f : List ℕ) → note_of f ≡ true → entries_place f + 2 * entries_count f ≡ payload_demanded f
+unfolding payload_demanded payload_length
+entries_end f t = rw t (omega arith)
 
 pub table_is : (f Q T : List ℕ) → Loaded f Q
-    → front (entriesCount f) (λ e. numberAt 2 Q (entriesPlace f + 2 * e)) T ≡ entriesOf f ++ drop (length (entriesOf f)) T
-unfolding entriesOf pairOf machineAt
+    → front (entries_count f) (λ e. number_at 2 Q (entries_place f + 2 * e)) T ≡ entries_of f ++ drop (length (entries_of f)) T
+unfolding entries_of pair_of machine_at
 table_is f Q T w =
-    let P = payloadOf f (length f / 512) in
-    rw (table-length (entriesCount f) (λ e. numberAt 2 P (entriesPlace f + 2 * e)))
-    (ap (λ (l : List ℕ). l ++ drop (entriesCount f) T)
-    (table-cong (entriesCount f) (λ e. numberAt 2 Q (entriesPlace f + 2 * e)) (λ e. numberAt 2 P (entriesPlace f + 2 * e)) (λ e l. number-cong 2 Q P _ _ (λ i q. w.same (entriesPlace f + 2 * e + i)))))
+    let P = payload_of f (length f / 512) in
+    rw (table_length (entries_count f) (λ e. number_at 2 P (entries_place f + 2 * e)))
+    (ap (λ (l : List ℕ). l ++ drop (entries_count f) T)
+    (table_cong (entries_count f) (λ e. number_at 2 Q (entries_place f + 2 * e)) (λ e. number_at 2 P (entries_place f + 2 * e)) (λ e l. number_cong 2 Q P _ _ (λ i q. w.same (entries_place f + 2 * e + i)))))
 
 -- ---- a file whose blocks hold
 -- what the later blocks and the padding give
 pub record BlocksValid (f : List ℕ) : Type 0 where
   pub long : length f ≡ demanded f
   pub blocks : (i : ℕ) → 0 < i → i < length f / 512 → BlockHolds f i
-  pub padding : paddingHolds f ≡ true
+  pub padding : padding_holds f ≡ true
 
-pub later-valid : (f : List ℕ) → ((i : ℕ) → 0 < i → i < length f / 512 → BlockHolds f i) → laterBlocks f ≡ valid
-unfolding laterBlocks
-later-valid f h = each-valid _ _ (λ i l. block-valid f (suc i) (h (suc i) (omega arith) (omega arith)))
+pub later_valid : (f : List ℕ) → ((i : ℕ) → 0 < i → i < length f / 512 → BlockHolds f i) → later_blocks f ≡ valid
+unfolding later_blocks
+later_valid f h = each_valid _ _ (λ i l. block_valid f (suc i) (h (suc i) (omega arith) (omega arith)))
 
 -- where the first n of the later blocks are passed, they hold
-pub later-hold : (f : List ℕ) (n : ℕ) → each n (λ i. blockValidity f (suc i)) ≡ valid → (i : ℕ) → 0 < i → i < suc n → BlockHolds f i
-later-hold f n e zero p l = absurd (omega arith)
-later-hold f n e (suc i) p l = block-holds f (suc i) (each-at n _ e i (omega arith))
+pub later_hold : (f : List ℕ) (n : ℕ) → each n (λ i. block_validity f (suc i)) ≡ valid → (i : ℕ) → 0 < i → i < suc n → BlockHolds f i
+later_hold f n e zero p l = absurd (omega arith)
+later_hold f n e (suc i) p l = block_holds f (suc i) (each_at n _ e i (omega arith))
 
-pub blocks-valid : (f : List ℕ) → blocksValidity f ≡ valid → BlocksValid f
-unfolding blocksValidity laterBlocks
-blocks-valid f e =
-    let a = valid-next _ _ _ e in
-    let b = then-answer (laterBlocks f) _ a.1 in
-    let c = valid-next _ _ _ b.1 in
-    record { long = eqb-true _ _ (not-false _ a.0); blocks = λ i p l. later-hold f (length f / 512 - 1) b.0 i p (omega arith); padding = not-false _ c.0 }
+pub blocks_valid : (f : List ℕ) → blocks_validity f ≡ valid → BlocksValid f
+unfolding blocks_validity later_blocks
+blocks_valid f e =
+    let a = valid_next _ _ _ e in
+    let b = then_answer (later_blocks f) _ a.1 in
+    let c = valid_next _ _ _ b.1 in
+    record { long = eqb-true _ _ (not_false _ a.0); blocks = λ i p l. later_hold f (length f / 512 - 1) b.0 i p (omega arith); padding = not_false _ c.0 }
 
 -- a file of the length that its counts demand: the later blocks, then the padding
-pub blocks-then : (f : List ℕ) → length f ≡ demanded f
-    → blocksValidity f ≡ andThen (laterBlocks f) (cond (not (paddingHolds f)) (refused (refusal bad-padding 0 0 0)) valid)
-unfolding blocksValidity
-blocks-then f e = rw (not-f (eq-eqb (length f) (demanded f) e))
+pub blocks_then : (f : List ℕ) → length f ≡ demanded f
+    → blocks_validity f ≡ and_then (later_blocks f) (cond (not (padding_holds f)) (refused (refusal bad_padding 0 0 0)) valid)
+unfolding blocks_validity
+blocks_then f e = rw (not_f (eq-eqb (length f) (demanded f) e))
 
 -- it has no more than 116
-pub payload-fits : (f : List ℕ) → countsHold f ≡ true → payloadDemanded f ≤ payloadMost
-unfolding payloadDemanded
-payload-fits f t =
-    let r = in-range f t in
-    payload-most (headerByte f 4) (headerByte f 5) (headerByte f 6) (headerByte f 7) (noteOf f) r.states-c r.states-a r.sets-c r.sets-a
+pub payload_fits : (f : List ℕ) → counts_hold f ≡ true → payload_demanded f ≤ payload_most
+unfolding payload_demanded
+payload_fits f t =
+    let r = in_range_lem f t in
+    payload_most_lem (header_byte f 4) (header_byte f 5) (header_byte f 6) (header_byte f 7) (note_of f) r.states_c r.states_a r.sets_c_lem r.sets_a_lem
 
-pub few-blocks : (f : List ℕ) → FirstValid f → length f ≡ demanded f → length f / 512 ≤ 116
-few-blocks f v e = let w = fitting f e in omega (arith, payload-fits f v.counts)
+pub few_blocks : (f : List ℕ) → FirstValid f → length f ≡ demanded f → length f / 512 ≤ 116
+few_blocks f v e = let w = fitting f e in omega (arith, payload_fits f v.counts)
 
 pub loaded : (f Q : List ℕ) (w : ℕ) → FirstValid f → length f ≡ demanded f → 508 * (length f / 512) ≤ w
-    → Q ≡ front (508 * (length f / 512)) (payloadByte f) (replicate w 0) → Loaded f Q
-unfolding payloadOf
+    → Q ≡ front (508 * (length f / 512)) (payload_byte f) (replicate w 0) → Loaded f Q
+unfolding payload_of
 loaded f Q w v e h q =
     let n = 508 * (length f / 512) in
     let fit = fitting f e in
-    let long : length Q ≡ w = front-length (payloadByte f) (replicate w 0) q (rw (length-replicate {A = ℕ} w 0) h) ∙ length-replicate w 0 in
-    record { long = v.long; counts = v.counts; room = omega arith; same = front-padded (payloadByte f) w n q }
+    let long : length Q ≡ w = front_length (payload_byte f) (replicate w 0) q (rw (length-replicate {A = ℕ} w 0) h) ∙ length-replicate w 0 in
+    record { long = v.long; counts = v.counts; room = omega arith; same = front_padded (payload_byte f) w n q }
 
 -- ---- the lent table, and all the tests in their order
 -- the lent table of a reading that is not refused
-pub table-after : (f T : List ℕ) (v : Tested) (note : Bool) → v ≡ valid → noteOf f ≡ note
-    → bufferAfter v (tableOf f) T ≡ cond note (entriesOf f ++ drop (length (entriesOf f)) T) T
-unfolding tableOf
-table-after f T v note e t = buffer-made v (cond (noteOf f) (entriesOf f) []) T e ∙ rw t (cases note)
+pub table_after : (f T : List ℕ) (v : Tested) (note : Bool) → v ≡ valid → note_of f ≡ note
+    → buffer_after v (table_of f) T ≡ cond note (entries_of f ++ drop (length (entries_of f)) T) T
+unfolding table_of
+table_after f T v note e t = buffer_made v (cond (note_of f) (entries_of f) []) T e ∙ rw t (cases note)
   where
-    cases : (n : Bool) → cond n (entriesOf f) [] ++ drop (length (cond n (entriesOf f) [])) T ≡ cond n (entriesOf f ++ drop (length (entriesOf f)) T) T
+    cases : (n : Bool) → cond n (entries_of f) [] ++ drop (length (cond n (entries_of f) [])) T ≡ cond n (entries_of f ++ drop (length (entries_of f)) T) T
     cases true = refl
     cases false = refl
 
-pub read-short : (f : List ℕ) (room : ℕ) → room < tableRoom → readValidity f room ≡ refused (refusal short-buffer 0 0 0)
-unfolding readValidity
-read-short f room h = then-refused _ _ _ (buffer-short tableRoom room h)
+pub read_short : (f : List ℕ) (room : ℕ) → room < table_room → read_validity f room ≡ refused (refusal short_buffer 0 0 0)
+unfolding read_validity
+read_short f room h = then_refused _ _ _ (buffer_short table_room room h)
 
-module _ (f : List ℕ) (room : ℕ) (h : tableRoom ≤ room) where
-  grouped : readValidity f room ≡ andThen (andThen (firstValidity f) (blocksValidity f)) (pairValidity (pairOf f))
-  unfolding readValidity
-  grouped = then-of _ _ (buffer-valid tableRoom room h) ∙ sym (then-then (firstValidity f) (blocksValidity f) (pairValidity (pairOf f)))
+module _ (f : List ℕ) (room : ℕ) (h : table_room ≤ room) where
+  grouped : read_validity f room ≡ and_then (and_then (first_validity f) (blocks_validity f)) (pair_validity (pair_of f))
+  unfolding read_validity
+  grouped = then_of _ _ (buffer_valid table_room room h) ∙ sym (then_then (first_validity f) (blocks_validity f) (pair_validity (pair_of f)))
 
-  pub tests-refused : (r : Refusal) → andThen (firstValidity f) (blocksValidity f) ≡ refused r → readValidity f room ≡ refused r
-  tests-refused r e = grouped ∙ then-refused _ _ r e
+  pub tests_refused : (r : Refusal) → and_then (first_validity f) (blocks_validity f) ≡ refused r → read_validity f room ≡ refused r
+  tests_refused r e = grouped ∙ then_refused _ _ r e
 
-  pub read-pair : andThen (firstValidity f) (blocksValidity f) ≡ valid → readValidity f room ≡ pairValidity (pairOf f)
-  read-pair e = grouped ∙ then-of _ _ e
+  pub read_pair : and_then (first_validity f) (blocks_validity f) ≡ valid → read_validity f room ≡ pair_validity (pair_of f)
+  read_pair e = grouped ∙ then_of _ _ e

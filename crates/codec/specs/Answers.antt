@@ -8,31 +8,31 @@ use Rattle.codec.specs.declared.Reading.TheVariants as reading
 use Rattle.codec.specs.declared.Show.{Show}
 use Rattle.codec.specs.declared.Size.{Size}
 use Rattle.codec.specs.declared.Size.TheVariants as size
-use Rattle.codec.specs.Reader.{Taken, taken, zeroPair}
+use Rattle.codec.specs.Reader.{Taken, taken, zero_pair}
 
 -- a reading beside machines p
-unfoldable pub readBeside : Pair → Reading → Result Taken
-readBeside p (reading.Taken note) = answer (taken p note)
-readBeside p (reading.Refused r) = refused r
+unfoldable pub read_beside : Pair → Reading → Result Taken
+read_beside p (reading.Taken note) = answer (taken p note)
+read_beside p (reading.Refused r) = refused r
 
-unfoldable pub readOf : Show → Result Taken
-readOf s = readBeside s.pair s.reading
+unfoldable pub read_of : Show → Result Taken
+read_of s = read_beside s.pair s.reading
 
 -- the machines that stand beside an answer: "Beside a refusal all machines .. in the result are zero"
-unfoldable pub pairGiven : Result Taken → Pair
-pairGiven (answer (taken p note)) = p
-pairGiven (refused r) = zeroPair
+unfoldable pub pair_given : Result Taken → Pair
+pair_given (answer (taken p note)) = p
+pair_given (refused r) = zero_pair
 
-unfoldable pub sizedOf : Size → Result ℕ
-sizedOf (size.Bytes n) = answer n
-sizedOf (size.Refused r) = refused r
+unfoldable pub sized_of : Size → Result ℕ
+sized_of (size.Bytes n) = answer n
+sized_of (size.Refused r) = refused r
 
 -- for C: the length, 0 beside a refusal
-unfoldable pub lengthOf : Result ℕ → ℕ
-lengthOf (answer n) = n
-lengthOf (refused r) = 0
+unfoldable pub length_of : Result ℕ → ℕ
+length_of (answer n) = n
+length_of (refused r) = 0
 
 -- the refusal of a reading; a reading that took its file has none
-unfoldable pub refusalOf : Reading → Refusal
-refusalOf (reading.Taken note) = refusal 0 0 0 0
-refusalOf (reading.Refused r) = r
+unfoldable pub refusal_of : Reading → Refusal
+refusal_of (reading.Taken note) = refusal 0 0 0 0
+refusal_of (reading.Refused r) = r

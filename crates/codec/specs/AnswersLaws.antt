@@ -9,46 +9,46 @@ use Rattle.codec.specs.declared.Reading.TheVariants as reading
 use Rattle.codec.specs.declared.Show.{Show}
 use Rattle.codec.specs.declared.Size.{Size}
 use Rattle.codec.specs.declared.Size.TheVariants as size
-use Rattle.codec.specs.Reader.{Taken, taken, zeroPair}
-use Rattle.codec.specs.Answers.{readBeside, readOf, pairGiven, sizedOf, refusalOf}
+use Rattle.codec.specs.Reader.{Taken, taken, zero_pair}
+use Rattle.codec.specs.Answers.{read_beside, read_of, pair_given, sized_of, refusal_of}
 
--- ---- of a contract `readOf s ≡ a`
-pub read-taken : (s : Show) {a : Result Taken} {note : Bool} → readOf s ≡ a → s.reading ≡ reading.Taken note → a ≡ answer (taken s.pair note)
-unfolding readOf readBeside
-read-taken s e z = sym e ∙ ap (readBeside s.pair) z
+-- ---- of a contract `read_of s ≡ a`
+pub read_taken : (s : Show) {a : Result Taken} {note : Bool} → read_of s ≡ a → s.reading ≡ reading.Taken note → a ≡ answer (taken s.pair note)
+unfolding read_of read_beside
+read_taken s e z = sym e ∙ ap (read_beside s.pair) z
 
-pub read-refused : (s : Show) {a : Result Taken} {r : Refusal} → readOf s ≡ a → s.reading ≡ reading.Refused r → a ≡ refused r
-unfolding readOf readBeside
-read-refused s e z = sym e ∙ ap (readBeside s.pair) z
+pub read_refused : (s : Show) {a : Result Taken} {r : Refusal} → read_of s ≡ a → s.reading ≡ reading.Refused r → a ≡ refused r
+unfolding read_of read_beside
+read_refused s e z = sym e ∙ ap (read_beside s.pair) z
 
-pub refusal-of : {x : Reading} {r : Refusal} → x ≡ reading.Refused r → refusalOf x ≡ r
-unfolding refusalOf
-refusal-of z = ap refusalOf z
+pub refusal_of_lem : {x : Reading} {r : Refusal} → x ≡ reading.Refused r → refusal_of x ≡ r
+unfolding refusal_of
+refusal_of_lem z = ap refusal_of z
 
--- ---- of a contract `sizedOf z ≡ a`
-pub sized-bytes : {z : Size} {a : Result ℕ} {n : ℕ} → sizedOf z ≡ a → z ≡ size.Bytes n → a ≡ answer n
-unfolding sizedOf
-sized-bytes e z = sym e ∙ ap sizedOf z
+-- ---- of a contract `sized_of z ≡ a`
+pub sized_bytes : {z : Size} {a : Result ℕ} {n : ℕ} → sized_of z ≡ a → z ≡ size.Bytes n → a ≡ answer n
+unfolding sized_of
+sized_bytes e z = sym e ∙ ap sized_of z
 
-pub sized-refused : {z : Size} {a : Result ℕ} {r : Refusal} → sizedOf z ≡ a → z ≡ size.Refused r → a ≡ refused r
-unfolding sizedOf
-sized-refused e z = sym e ∙ ap sizedOf z
+pub sized_refused : {z : Size} {a : Result ℕ} {r : Refusal} → sized_of z ≡ a → z ≡ size.Refused r → a ≡ refused r
+unfolding sized_of
+sized_refused e z = sym e ∙ ap sized_of z
 
 -- ---- the machines beside an answer
-pub pair-taken : {a : Result Taken} {p : Pair} {note : Bool} → a ≡ answer (taken p note) → pairGiven a ≡ p
-unfolding pairGiven
-pair-taken e = ap pairGiven e
+pub pair_taken : {a : Result Taken} {p : Pair} {note : Bool} → a ≡ answer (taken p note) → pair_given a ≡ p
+unfolding pair_given
+pair_taken e = ap pair_given e
 
-pub pair-refused : {a : Result Taken} {r : Refusal} → a ≡ refused r → pairGiven a ≡ zeroPair
-unfolding pairGiven
-pair-refused e = ap pairGiven e
+pub pair_refused : {a : Result Taken} {r : Refusal} → a ≡ refused r → pair_given a ≡ zero_pair
+unfolding pair_given
+pair_refused e = ap pair_given e
 
 -- ---- both contracts of the reader at once, where it takes a file and where it refuses one
-pub shown-taken : (p : Pair) {q : Pair} {m n : Bool} {a : Result Taken} → a ≡ answer (taken q n) → p ≡ q → m ≡ n
-    → (readBeside p (reading.Taken m) ≡ a) × (p ≡ pairGiven a)
-unfolding readBeside
-shown-taken p e f g = (ap₂ (λ (x : Pair) (y : Bool). answer (taken x y)) f g ∙ sym e, f ∙ sym (pair-taken e))
+pub shown_taken : (p : Pair) {q : Pair} {m n : Bool} {a : Result Taken} → a ≡ answer (taken q n) → p ≡ q → m ≡ n
+    → (read_beside p (reading.Taken m) ≡ a) × (p ≡ pair_given a)
+unfolding read_beside
+shown_taken p e f g = (ap₂ (λ (x : Pair) (y : Bool). answer (taken x y)) f g ∙ sym e, f ∙ sym (pair_taken e))
 
-pub shown-refused : (s : Show) {r : Refusal} {a : Result Taken} → a ≡ refused r → readOf s ≡ refused r → s.pair ≡ zeroPair
-    → (readOf s ≡ a) × (s.pair ≡ pairGiven a)
-shown-refused s e f g = (f ∙ sym e, g ∙ sym (pair-refused e))
+pub shown_refused : (s : Show) {r : Refusal} {a : Result Taken} → a ≡ refused r → read_of s ≡ refused r → s.pair ≡ zero_pair
+    → (read_of s ≡ a) × (s.pair ≡ pair_given a)
+shown_refused s e f g = (f ∙ sym e, g ∙ sym (pair_refused e))

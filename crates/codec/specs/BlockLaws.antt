@@ -3,39 +3,39 @@ use Rattle.std.specs.Prelude.{List, ◌≡◌, refl, ℕ, suc, ◌+◌, ◌*◌,
 use Rattle.std.proofs.Common.{ap, ◌∙◌, le_trans, mul-le-mul_left, mul-le-mul_right, add-one, arith}
 use Rattle.std.proofs.Math.Seq.{paste}
 use Rattle.mask.specs.Bounded.{sum}
-use Rattle.codec.specs.Format.{checkAt}
-use Rattle.codec.specs.Reader.{payloadByte}
+use Rattle.codec.specs.Format.{check_at}
+use Rattle.codec.specs.Reader.{payload_byte}
 use Rattle.mask.specs.Tables.{front}
-use Rattle.codec.specs.FrontLaws.{front-block}
+use Rattle.codec.specs.FrontLaws.{front_block}
 
 -- ---- the check, one byte a turn
 -- the sum over the first n bytes of the block that starts at a place
 unfoldable pub weighed : List ℕ → ℕ → ℕ → ℕ
 weighed s at n = sum n (λ i. suc i * get_or s (at + i) 0)
 
-pub weighed-none : (s : List ℕ) (at : ℕ) → weighed s at 0 ≡ 0
+pub weighed_none : (s : List ℕ) (at : ℕ) → weighed s at 0 ≡ 0
 unfolding weighed sum
-weighed-none s at = refl
+weighed_none s at = refl
 
-pub weighed-turn : (s : List ℕ) (at i : ℕ) → weighed s at (i + 1) ≡ weighed s at i + (i + 1) * get_or s (at + i) 0
+pub weighed_turn : (s : List ℕ) (at i : ℕ) → weighed s at (i + 1) ≡ weighed s at i + (i + 1) * get_or s (at + i) 0
 unfolding weighed sum
-weighed-turn s at i = rw (add-one i)
+weighed_turn s at i = rw (add-one i)
 
-pub weighed-all : (s : List ℕ) (at : ℕ) → weighed s at 510 % 65521 ≡ checkAt s at
-unfolding weighed checkAt
-weighed-all s at = refl
+pub weighed_all : (s : List ℕ) (at : ℕ) → weighed s at 510 % 65521 ≡ check_at s at
+unfolding weighed check_at
+weighed_all s at = refl
 
 -- the weight of one byte
-pub weight-le : (i b : ℕ) → i < 510 → b < 256 → (i + 1) * b ≤ 130050
-weight-le i b h l = le_trans (mul-le-mul_right b (omega arith)) (mul-le-mul_left {n = 255} 510 (omega arith))
+pub weight_le : (i b : ℕ) → i < 510 → b < 256 → (i + 1) * b ≤ 130050
+weight_le i b h l = le_trans (mul-le-mul_right b (omega arith)) (mul-le-mul_left {n = 255} 510 (omega arith))
 
 -- ---- the payloads joined, one block a turn
-pub join-turn : (f P : List ℕ) (i : ℕ) → 512 * i + 512 ≤ length f
-    → paste (front (508 * i) (payloadByte f) P) (508 * i) (drop (512 * i + 2) f) 508 ≡ front (508 * (i + 1)) (payloadByte f) P
-join-turn f P i h =
+pub join_turn : (f P : List ℕ) (i : ℕ) → 512 * i + 512 ≤ length f
+    → paste (front (508 * i) (payload_byte f) P) (508 * i) (drop (512 * i + 2) f) 508 ≡ front (508 * (i + 1)) (payload_byte f) P
+join_turn f P i h =
     let more : 508 * i + 508 ≡ 508 * (i + 1) = omega arith in
-    front-block (payloadByte f) P (508 * i) 508 f (512 * i + 2) (omega arith) (λ k l. ap (λ (x : ℕ). get_or f x 0) (place k l))
-    ∙ ap (λ (n : ℕ). front n (payloadByte f) P) more
+    front_block (payload_byte f) P (508 * i) 508 f (512 * i + 2) (omega arith) (λ k l. ap (λ (x : ℕ). get_or f x 0) (place k l))
+    ∙ ap (λ (n : ℕ). front n (payload_byte f) P) more
   where
     place : (k : ℕ) → k < 508 → 512 * i + 2 + k ≡ 512 * ((508 * i + k) / 508) + 2 + (508 * i + k) % 508
     place k l = omega arith

@@ -4,153 +4,153 @@ use Rattle.std.proofs.Common.{⊎_elim, sym, ap, ap₂, ◌∙◌, pow-suc, div-
 use Rattle.std.proofs.Math.Nat.{pow-succ', div-div-eq-div-mul}
 use Rattle.std.proofs.Math.Arith.{digits_lt, digits_div, digits_mod}
 use Rattle.mask.specs.Bounded.{sum}
-use Rattle.mask.specs.BoundedLaws.{sum-cong}
-use Rattle.mask.specs.TablesLaws.{table-at, table-length}
-use Rattle.codec.specs.Format.{byteOf, bytesOf, numbers, numberAt}
+use Rattle.mask.specs.BoundedLaws.{sum_cong}
+use Rattle.mask.specs.TablesLaws.{table_at, table_length}
+use Rattle.codec.specs.Format.{byte_of, bytes_of, numbers, number_at}
 
 -- ---- sums
-pub sum-front : (n : ℕ) (f : ℕ → ℕ) → sum (suc n) f ≡ f 0 + sum n (λ i. f (suc i))
+pub sum_front : (n : ℕ) (f : ℕ → ℕ) → sum (suc n) f ≡ f 0 + sum n (λ i. f (suc i))
 unfolding sum
-sum-front zero f = omega arith
-sum-front (suc n) f = ap (λ (x : ℕ). x + f (suc n)) (sum-front n f) ∙ omega arith
+sum_front zero f = omega arith
+sum_front (suc n) f = ap (λ (x : ℕ). x + f (suc n)) (sum_front n f) ∙ omega arith
 
-pub sum-scale : (n k : ℕ) (f : ℕ → ℕ) → sum n (λ i. f i * k) ≡ sum n f * k
+pub sum_scale : (n k : ℕ) (f : ℕ → ℕ) → sum n (λ i. f i * k) ≡ sum n f * k
 unfolding sum
-sum-scale zero k f = omega arith
-sum-scale (suc n) k f = ap (λ (x : ℕ). x + f n * k) (sum-scale n k f) ∙ sym (add-mul (sum n f) (f n) k)
+sum_scale zero k f = omega arith
+sum_scale (suc n) k f = ap (λ (x : ℕ). x + f n * k) (sum_scale n k f) ∙ sym (add-mul (sum n f) (f n) k)
 
 -- ---- bytes of a number
-pub bytes-mono : (m n : ℕ) → m ≤ n → 256 ^ m ≤ 256 ^ n
-bytes-mono m zero h = let e : m ≡ 0 = omega arith in rw e (omega arith)
-bytes-mono m (suc n) h =
-    ⊎_elim (λ e. rw e (omega arith)) (λ l. rw (pow-suc 256 n) (omega (arith, bytes-mono m n (omega arith)))) (eq-or-lt_of_le h)
+pub bytes_mono : (m n : ℕ) → m ≤ n → 256 ^ m ≤ 256 ^ n
+bytes_mono m zero h = let e : m ≡ 0 = omega arith in rw e (omega arith)
+bytes_mono m (suc n) h =
+    ⊎_elim (λ e. rw e (omega arith)) (λ l. rw (pow-suc 256 n) (omega (arith, bytes_mono m n (omega arith)))) (eq-or-lt_of_le h)
 
-pub byte-lt : (x i : ℕ) → byteOf x i < 256
-unfolding byteOf
-byte-lt x i = omega arith
+pub byte_lt : (x i : ℕ) → byte_of x i < 256
+unfolding byte_of
+byte_lt x i = omega arith
 
-pub byte-zero : (x : ℕ) → byteOf x 0 ≡ x % 256
-unfolding byteOf
-byte-zero x = ap (λ (y : ℕ). y % 256) (div-one x)
+pub byte_zero : (x : ℕ) → byte_of x 0 ≡ x % 256
+unfolding byte_of
+byte_zero x = ap (λ (y : ℕ). y % 256) (div-one x)
 
-pub byte-suc : (x i : ℕ) → byteOf x (suc i) ≡ byteOf (x / 256) i
-unfolding byteOf
-byte-suc x i = ap (λ (y : ℕ). y % 256) (ap (λ (y : ℕ). x / y) (pow-succ' 256 i) ∙ sym (div-div-eq-div-mul x 256 (256 ^ i)))
+pub byte_suc : (x i : ℕ) → byte_of x (suc i) ≡ byte_of (x / 256) i
+unfolding byte_of
+byte_suc x i = ap (λ (y : ℕ). y % 256) (ap (λ (y : ℕ). x / y) (pow-succ' 256 i) ∙ sym (div-div-eq-div-mul x 256 (256 ^ i)))
 
 -- ---- a number of n digits g 0, g 1, .. to the base 256
 abbrev whole : ℕ → (ℕ → ℕ) → ℕ
 whole n g = sum n (λ i. g i * 256 ^ i)
 
-whole-front : (n : ℕ) (g : ℕ → ℕ) → whole (suc n) g ≡ g 0 + whole n (λ i. g (suc i)) * 256
-whole-front n g =
-    sum-front n (λ i. g i * 256 ^ i)
+whole_front : (n : ℕ) (g : ℕ → ℕ) → whole (suc n) g ≡ g 0 + whole n (λ i. g (suc i)) * 256
+whole_front n g =
+    sum_front n (λ i. g i * 256 ^ i)
     ∙ ap₂ ◌+◌ (mul-one (g 0))
-    (sum-cong n (λ i. g (suc i) * 256 ^ suc i) (λ i. g (suc i) * 256 ^ i * 256) (λ i l. ap (λ (x : ℕ). g (suc i) * x) (pow-suc 256 i) ∙ sym (mul_assoc (g (suc i)) (256 ^ i) 256))
-    ∙ sum-scale n 256 (λ i. g (suc i) * 256 ^ i))
+    (sum_cong n (λ i. g (suc i) * 256 ^ suc i) (λ i. g (suc i) * 256 ^ i * 256) (λ i l. ap (λ (x : ℕ). g (suc i) * x) (pow-suc 256 i) ∙ sym (mul_assoc (g (suc i)) (256 ^ i) 256))
+    ∙ sum_scale n 256 (λ i. g (suc i) * 256 ^ i))
 
-whole-none : (g : ℕ → ℕ) → whole 0 g ≡ 0
+whole_none : (g : ℕ → ℕ) → whole 0 g ≡ 0
 unfolding sum
-whole-none g = refl
+whole_none g = refl
 
-whole-lt : (n : ℕ) (g : ℕ → ℕ) → ((i : ℕ) → i < n → g i < 256) → whole n g < 256 ^ n
-whole-lt zero g h = rw (whole-none g) (omega arith)
-whole-lt (suc n) g h =
-    rw (whole-front n g, pow-suc 256 n) (omega (arith, whole-lt n (λ i. g (suc i)) (λ i l. h (suc i) (omega arith)), h 0 (omega arith)))
+whole_lt : (n : ℕ) (g : ℕ → ℕ) → ((i : ℕ) → i < n → g i < 256) → whole n g < 256 ^ n
+whole_lt zero g h = rw (whole_none g) (omega arith)
+whole_lt (suc n) g h =
+    rw (whole_front n g, pow-suc 256 n) (omega (arith, whole_lt n (λ i. g (suc i)) (λ i l. h (suc i) (omega arith)), h 0 (omega arith)))
 
 -- the digits of a number made of digits
-whole-byte : (n : ℕ) (g : ℕ → ℕ) → ((i : ℕ) → i < n → g i < 256) → (i : ℕ) → i < n → byteOf (whole n g) i ≡ g i
-whole-byte zero g h i l = absurd (omega arith)
-whole-byte (suc n) g h zero l =
-    ap (λ (x : ℕ). byteOf x 0) (whole-front n g) ∙ byte-zero _ ∙ omega (arith, h 0 (omega arith))
-whole-byte (suc n) g h (suc i) l =
+whole_byte : (n : ℕ) (g : ℕ → ℕ) → ((i : ℕ) → i < n → g i < 256) → (i : ℕ) → i < n → byte_of (whole n g) i ≡ g i
+whole_byte zero g h i l = absurd (omega arith)
+whole_byte (suc n) g h zero l =
+    ap (λ (x : ℕ). byte_of x 0) (whole_front n g) ∙ byte_zero _ ∙ omega (arith, h 0 (omega arith))
+whole_byte (suc n) g h (suc i) l =
     let e : (g 0 + whole n (λ i. g (suc i)) * 256) / 256 ≡ whole n (λ i. g (suc i)) = omega (arith, h 0 (omega arith)) in
-    ap (λ (x : ℕ). byteOf x (suc i)) (whole-front n g) ∙ byte-suc _ i ∙ ap (λ (x : ℕ). byteOf x i) e
-    ∙ whole-byte n (λ i. g (suc i)) (λ i l. h (suc i) (omega arith)) i (omega arith)
+    ap (λ (x : ℕ). byte_of x (suc i)) (whole_front n g) ∙ byte_suc _ i ∙ ap (λ (x : ℕ). byte_of x i) e
+    ∙ whole_byte n (λ i. g (suc i)) (λ i l. h (suc i) (omega arith)) i (omega arith)
 
 -- the number made of a number's digits
-whole-of : (n x : ℕ) (g : ℕ → ℕ) → x < 256 ^ n → ((i : ℕ) → i < n → g i ≡ byteOf x i) → whole n g ≡ x
-whole-of zero x g h e = whole-none g ∙ omega arith
-whole-of (suc n) x g h e =
+whole_of : (n x : ℕ) (g : ℕ → ℕ) → x < 256 ^ n → ((i : ℕ) → i < n → g i ≡ byte_of x i) → whole n g ≡ x
+whole_of zero x g h e = whole_none g ∙ omega arith
+whole_of (suc n) x g h e =
     let k : x < 256 ^ n * 256 = rw pow-suc at h in
     let upper : whole n (λ i. g (suc i)) ≡ x / 256 =
-    whole-of n (x / 256) (λ i. g (suc i)) (omega arith) (λ i l. e (suc i) (omega arith) ∙ byte-suc x i) in
-    whole-front n g ∙ omega (arith, upper, e 0 (omega arith), byte-zero x)
+    whole_of n (x / 256) (λ i. g (suc i)) (omega arith) (λ i l. e (suc i) (omega arith) ∙ byte_suc x i) in
+    whole_front n g ∙ omega (arith, upper, e 0 (omega arith), byte_zero x)
 
 -- ---- the number at a place of a list
 -- the highest byte first, as a loop takes them
-pub number-front : (n : ℕ) (s : List ℕ) (at : ℕ) → numberAt (suc n) s at ≡ numberAt n s (suc at) * 256 + get_or s at 0
-unfolding numberAt
-number-front n s at =
+pub number_front : (n : ℕ) (s : List ℕ) (at : ℕ) → number_at (suc n) s at ≡ number_at n s (suc at) * 256 + get_or s at 0
+unfolding number_at
+number_front n s at =
     let e : whole n (λ i. get_or s (at + suc i) 0) ≡ whole n (λ i. get_or s (suc at + i) 0) =
-    sum-cong n _ _ (λ i l. ap (λ (k : ℕ). get_or s k 0 * 256 ^ i) (omega arith)) in
-    whole-front n (λ i. get_or s (at + i) 0) ∙ omega (arith, e, ap (λ (k : ℕ). get_or s k 0) (add-zero at))
+    sum_cong n _ _ (λ i l. ap (λ (k : ℕ). get_or s k 0 * 256 ^ i) (omega arith)) in
+    whole_front n (λ i. get_or s (at + i) 0) ∙ omega (arith, e, ap (λ (k : ℕ). get_or s k 0) (add-zero at))
 
-pub number-none : (s : List ℕ) (at : ℕ) → numberAt 0 s at ≡ 0
-unfolding numberAt
-number-none s at = whole-none _
+pub number_none : (s : List ℕ) (at : ℕ) → number_at 0 s at ≡ 0
+unfolding number_at
+number_none s at = whole_none _
 
 -- one turn of a loop that takes the bytes from the highest down: n - i bytes are taken, byte i - 1 is next
 module _ (n i : ℕ) (low : 0 < i) (high : i ≤ n) where
   longer : n - (i - 1) ≡ suc (n - i)
   longer = omega arith
 
-  pub number-turn : (s : List ℕ) (at x : ℕ) → x ≡ numberAt (n - i) s (at + i) → x * 256 + get_or s (at + (i - 1)) 0 ≡ numberAt (n - (i - 1)) s (at + (i - 1))
-  number-turn s at x e =
+  pub number_turn : (s : List ℕ) (at x : ℕ) → x ≡ number_at (n - i) s (at + i) → x * 256 + get_or s (at + (i - 1)) 0 ≡ number_at (n - (i - 1)) s (at + (i - 1))
+  number_turn s at x e =
       let next : suc (at + (i - 1)) ≡ at + i = omega arith in
-      rw (longer, number-front (n - i) s (at + (i - 1)), next, e)
+      rw (longer, number_front (n - i) s (at + (i - 1)), next, e)
 
-  pub turn-lt : (x b : ℕ) → b < 256 → x < 256 ^ (n - i) → x * 256 + b < 256 ^ (n - (i - 1))
-  turn-lt x b h l = rw (longer, pow-suc 256 (n - i)) (omega arith)
+  pub turn_lt : (x b : ℕ) → b < 256 → x < 256 ^ (n - i) → x * 256 + b < 256 ^ (n - (i - 1))
+  turn_lt x b h l = rw (longer, pow-suc 256 (n - i)) (omega arith)
 
-  pub turn-room : (x : ℕ) → n ≤ 8 → x < 256 ^ (n - i) → x < 256 ^ 7
-  turn-room x h l = omega (arith, bytes-mono (n - i) 7 (omega arith))
+  pub turn_room : (x : ℕ) → n ≤ 8 → x < 256 ^ (n - i) → x < 256 ^ 7
+  turn_room x h l = omega (arith, bytes_mono (n - i) 7 (omega arith))
 
-pub number-cong : (n : ℕ) (s t : List ℕ) (at to : ℕ) → ((i : ℕ) → i < n → get_or s (at + i) 0 ≡ get_or t (to + i) 0) → numberAt n s at ≡ numberAt n t to
-unfolding numberAt
-number-cong n s t at to h = sum-cong n _ _ (λ i l. ap (λ (x : ℕ). x * 256 ^ i) (h i l))
+pub number_cong : (n : ℕ) (s t : List ℕ) (at to : ℕ) → ((i : ℕ) → i < n → get_or s (at + i) 0 ≡ get_or t (to + i) 0) → number_at n s at ≡ number_at n t to
+unfolding number_at
+number_cong n s t at to h = sum_cong n _ _ (λ i l. ap (λ (x : ℕ). x * 256 ^ i) (h i l))
 
-pub number-lt : (n : ℕ) (s : List ℕ) (at : ℕ) → ((i : ℕ) → i < n → get_or s (at + i) 0 < 256) → numberAt n s at < 256 ^ n
-unfolding numberAt
-number-lt n s at h = whole-lt n (λ i. get_or s (at + i) 0) h
+pub number_lt : (n : ℕ) (s : List ℕ) (at : ℕ) → ((i : ℕ) → i < n → get_or s (at + i) 0 < 256) → number_at n s at < 256 ^ n
+unfolding number_at
+number_lt n s at h = whole_lt n (λ i. get_or s (at + i) 0) h
 
 -- the bytes of the number that stands somewhere are those that stand there
-pub number-byte : (n : ℕ) (s : List ℕ) (at : ℕ) → ((i : ℕ) → i < n → get_or s (at + i) 0 < 256) → (i : ℕ) → i < n
-    → byteOf (numberAt n s at) i ≡ get_or s (at + i) 0
-unfolding numberAt
-number-byte n s at h i l = whole-byte n (λ i. get_or s (at + i) 0) h i l
+pub number_byte : (n : ℕ) (s : List ℕ) (at : ℕ) → ((i : ℕ) → i < n → get_or s (at + i) 0 < 256) → (i : ℕ) → i < n
+    → byte_of (number_at n s at) i ≡ get_or s (at + i) 0
+unfolding number_at
+number_byte n s at h i l = whole_byte n (λ i. get_or s (at + i) 0) h i l
 
 -- where the bytes of x stand, x stands
-pub number-is : (n x : ℕ) (s : List ℕ) (at : ℕ) → x < 256 ^ n → ((i : ℕ) → i < n → get_or s (at + i) 0 ≡ byteOf x i) → numberAt n s at ≡ x
-unfolding numberAt
-number-is n x s at h e = whole-of n x (λ i. get_or s (at + i) 0) h e
+pub number_is : (n x : ℕ) (s : List ℕ) (at : ℕ) → x < 256 ^ n → ((i : ℕ) → i < n → get_or s (at + i) 0 ≡ byte_of x i) → number_at n s at ≡ x
+unfolding number_at
+number_is n x s at h e = whole_of n x (λ i. get_or s (at + i) 0) h e
 
 -- ---- written numbers
-pub bytes-length : (n x : ℕ) → length (bytesOf n x) ≡ n
-unfolding bytesOf
-bytes-length n x = table-length n (byteOf x)
+pub bytes_length : (n x : ℕ) → length (bytes_of n x) ≡ n
+unfolding bytes_of
+bytes_length n x = table_length n (byte_of x)
 
-pub bytes-at : (n x i : ℕ) → i < n → get_or (bytesOf n x) i 0 ≡ byteOf x i
-unfolding bytesOf
-bytes-at n x i l = table-at n (byteOf x) i 0 l
+pub bytes_at : (n x i : ℕ) → i < n → get_or (bytes_of n x) i 0 ≡ byte_of x i
+unfolding bytes_of
+bytes_at n x i l = table_at n (byte_of x) i 0 l
 
-pub numbers-length : (n count : ℕ) (f : ℕ → ℕ) → length (numbers n count f) ≡ n * count
+pub numbers_length : (n count : ℕ) (f : ℕ → ℕ) → length (numbers n count f) ≡ n * count
 unfolding numbers
-numbers-length n count f = table-length (n * count) _
+numbers_length n count f = table_length (n * count) _
 
 -- byte i of number k
-pub numbers-at : (n count : ℕ) (f : ℕ → ℕ) (k i : ℕ) → k < count → i < n → get_or (numbers n count f) (n * k + i) 0 ≡ byteOf (f k) i
+pub numbers_at : (n count : ℕ) (f : ℕ → ℕ) (k i : ℕ) → k < count → i < n → get_or (numbers n count f) (n * k + i) 0 ≡ byte_of (f k) i
 unfolding numbers
-numbers-at n count f k i h l =
+numbers_at n count f k i h l =
     let place : n * k + i ≡ k * n + i = ap (λ (x : ℕ). x + i) (mul_comm n k) in
     let q : (n * k + i) / n ≡ k = ap (λ (x : ℕ). x / n) place ∙ digits_div k l in
     let r : (n * k + i) % n ≡ i = ap (λ (x : ℕ). x % n) place ∙ digits_mod k l in
     let within : n * k + i < n * count = rw (place, mul_comm n count) (digits_lt h l) in
-    table-at (n * count) _ (n * k + i) 0 within ∙ ap₂ (λ (x y : ℕ). byteOf (f x) y) q r
+    table_at (n * count) _ (n * k + i) 0 within ∙ ap₂ (λ (x y : ℕ). byte_of (f x) y) q r
 
 -- where written numbers stand, number k stands n * k further
-pub numbers-number : (n count : ℕ) (f : ℕ → ℕ) (s : List ℕ) (at k : ℕ) → k < count → f k < 256 ^ n
-    → ((i : ℕ) → i < n * count → get_or s (at + i) 0 ≡ get_or (numbers n count f) i 0) → numberAt n s (at + n * k) ≡ f k
-numbers-number n count f s at k h small same =
-    number-is n (f k) s (at + n * k) small
+pub numbers_number : (n count : ℕ) (f : ℕ → ℕ) (s : List ℕ) (at k : ℕ) → k < count → f k < 256 ^ n
+    → ((i : ℕ) → i < n * count → get_or s (at + i) 0 ≡ get_or (numbers n count f) i 0) → number_at n s (at + n * k) ≡ f k
+numbers_number n count f s at k h small same =
+    number_is n (f k) s (at + n * k) small
     (λ i l. ap (λ (x : ℕ). get_or s x 0) (add_assoc at (n * k) i)
-    ∙ same (n * k + i) (rw (mul_comm n k, mul_comm n count) (digits_lt h l)) ∙ numbers-at n count f k i h l)
+    ∙ same (n * k + i) (rw (mul_comm n k, mul_comm n count) (digits_lt h l)) ∙ numbers_at n count f k i h l)

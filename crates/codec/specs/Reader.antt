@@ -5,15 +5,15 @@ use Rattle.mask.specs.Bounded.{every}
 use Rattle.mask.specs.Tables.{table}
 use Rattle.machine.specs.declared.Machine.{Machine}
 use Rattle.machine.specs.declared.Pair.{Pair}
-use Rattle.machine.specs.Refusals.{Result, answer, refused, Tested, valid, andThen, each, bufferAfter, refusal, bad-length, bad-first-block, bad-header, bad-counts, wrong-length, bad-block, bad-padding, misplaced, bufferValidity}
-use Rattle.machine.specs.Machines.{nC, nA, setsC, setsA}
-use Rattle.machine.specs.WellFormed.{countsOk, pairValidity}
-use Rattle.machine.specs.Table.{entries, tableRoom}
-use Rattle.codec.specs.Format.{letters, numberAt, payloadLength, fileLength, checkAt}
+use Rattle.machine.specs.Refusals.{Result, answer, refused, Tested, valid, and_then, each, buffer_after, refusal, bad_length, bad_first_block, bad_header, bad_counts, wrong_length, bad_block, bad_padding, misplaced, buffer_validity}
+use Rattle.machine.specs.Machines.{n_c, n_a, sets_c, sets_a}
+use Rattle.machine.specs.WellFormed.{counts_ok, pair_validity}
+use Rattle.machine.specs.Table.{entries, table_room}
+use Rattle.codec.specs.Format.{letters, number_at, payload_length, file_length, check_at}
 
 -- "It takes the first 59,904 bytes of longer input as the file."
-abbrev pub inputRoom : ℕ
-inputRoom = 59904
+abbrev pub input_room : ℕ
+input_room = 59904
 
 -- what a reading that was not refused gives: the machines, and the note whether a table came
 pub data Taken : Type 0 where
@@ -21,144 +21,144 @@ pub data Taken : Type 0 where
 
 -- ---- blocks
 -- the check of block i holds
-unfoldable pub checkHolds : List ℕ → ℕ → Bool
-checkHolds f i = eqb (numberAt 2 f (512 * i + 510)) (checkAt f (512 * i))
+unfoldable pub check_holds : List ℕ → ℕ → Bool
+check_holds f i = eqb (number_at 2 f (512 * i + 510)) (check_at f (512 * i))
 
 -- the number found in block i
-unfoldable pub numberFound : List ℕ → ℕ → ℕ
-numberFound f i = numberAt 2 f (512 * i)
+unfoldable pub number_found : List ℕ → ℕ → ℕ
+number_found f i = number_at 2 f (512 * i)
 
 -- the refusal for a wrong check: 3 for block 0, 7 for a later one
-unfoldable pub damagedNumber : ℕ → ℕ
-damagedNumber zero = bad-first-block
-damagedNumber (suc i) = bad-block
+unfoldable pub damaged_number : ℕ → ℕ
+damaged_number zero = bad_first_block
+damaged_number (suc i) = bad_block
 
 -- block i: 3 or 7 for "a wrong check only", and 19 for "a block whose check holds and whose number isn't its place, tested right after that block's
 -- check", which "tells its place and the number found in it" (document 02, No. 5)
-unfoldable pub blockValidity : List ℕ → ℕ → Tested
-blockValidity f i =
-    cond (not (checkHolds f i)) (refused (refusal (damagedNumber i) i 0 0))
-    (cond (not (eqb (numberFound f i) i)) (refused (refusal misplaced i (numberFound f i) 0)) valid)
+unfoldable pub block_validity : List ℕ → ℕ → Tested
+block_validity f i =
+    cond (not (check_holds f i)) (refused (refusal (damaged_number i) i 0 0))
+    (cond (not (eqb (number_found f i) i)) (refused (refusal misplaced i (number_found f i) 0)) valid)
 
 -- a block that is neither damaged nor misplaced
 abbrev pub BlockHolds : List ℕ → ℕ → Type 0
-BlockHolds f i = (checkHolds f i ≡ true) × (numberFound f i ≡ i)
+BlockHolds f i = (check_holds f i ≡ true) × (number_found f i ≡ i)
 
 -- "bytes 2 to 509 payload": the byte of the file that is byte k of the payloads joined
-abbrev pub payloadByte : List ℕ → ℕ → ℕ
-payloadByte f k = get_or f (512 * (k / 508) + 2 + k % 508) 0
+abbrev pub payload_byte : List ℕ → ℕ → ℕ
+payload_byte f k = get_or f (512 * (k / 508) + 2 + k % 508) 0
 
 -- the payloads of the first n blocks, joined
-unfoldable pub payloadOf : List ℕ → ℕ → List ℕ
-payloadOf f n = table (508 * n) (payloadByte f)
+unfoldable pub payload_of : List ℕ → ℕ → List ℕ
+payload_of f n = table (508 * n) (payload_byte f)
 
 -- ---- the first block
 -- byte k of the payload, which the first block holds
-unfoldable pub headerByte : List ℕ → ℕ → ℕ
-headerByte f k = get_or f (2 + k) 0
+unfoldable pub header_byte : List ℕ → ℕ → ℕ
+header_byte f k = get_or f (2 + k) 0
 
 -- the note whether a table follows
-unfoldable pub noteOf : List ℕ → Bool
-noteOf f = eqb (headerByte f 9) 1
+unfoldable pub note_of : List ℕ → Bool
+note_of f = eqb (header_byte f 9) 1
 
 -- 4: "letters, a zero or the table byte wrong"; byte 8, the hidden mask, is left alone
-unfoldable pub headerHolds : List ℕ → Bool
-headerHolds f =
-    and (every 4 (λ i. eqb (headerByte f i) (get_or letters i 0)))
-    (and (leb (headerByte f 9) 1) (every 6 (λ i. eqb (headerByte f (10 + i)) 0)))
+unfoldable pub header_holds : List ℕ → Bool
+header_holds f =
+    and (every 4 (λ i. eqb (header_byte f i) (get_or letters i 0)))
+    (and (leb (header_byte f 9) 1) (every 6 (λ i. eqb (header_byte f (10 + i)) 0)))
 
 -- 5, by the first block
-unfoldable pub countsHold : List ℕ → Bool
-countsHold f = and (countsOk 8 (headerByte f 4) (headerByte f 6)) (countsOk 7 (headerByte f 5) (headerByte f 7))
+unfoldable pub counts_hold : List ℕ → Bool
+counts_hold f = and (counts_ok 8 (header_byte f 4) (header_byte f 6)) (counts_ok 7 (header_byte f 5) (header_byte f 7))
 
 -- 4 and 5
-unfoldable pub headerValidity : List ℕ → Tested
-headerValidity f = cond (not (headerHolds f)) (refused (refusal bad-header 0 0 0)) (cond (not (countsHold f)) (refused (refusal bad-counts 0 0 0)) valid)
+unfoldable pub header_validity : List ℕ → Tested
+header_validity f = cond (not (header_holds f)) (refused (refusal bad_header 0 0 0)) (cond (not (counts_hold f)) (refused (refusal bad_counts 0 0 0)) valid)
 
 -- 2, block 0's 3 and 19, 4 and 5: all that rests on the first block
-unfoldable pub firstValidity : List ℕ → Tested
-firstValidity f =
-    cond (or (eqb (length f) 0) (not (eqb (length f % 512) 0))) (refused (refusal bad-length 0 0 0))
-    (andThen (blockValidity f 0) (headerValidity f))
+unfoldable pub first_validity : List ℕ → Tested
+first_validity f =
+    cond (or (eqb (length f) 0) (not (eqb (length f % 512) 0))) (refused (refusal bad_length 0 0 0))
+    (and_then (block_validity f 0) (header_validity f))
 
 -- the payload's length, and the file's, that the counts demand
-unfoldable pub payloadDemanded : List ℕ → ℕ
-payloadDemanded f = payloadLength (headerByte f 4) (headerByte f 5) (headerByte f 6) (headerByte f 7) (noteOf f)
+unfoldable pub payload_demanded : List ℕ → ℕ
+payload_demanded f = payload_length (header_byte f 4) (header_byte f 5) (header_byte f 6) (header_byte f 7) (note_of f)
 
 unfoldable pub demanded : List ℕ → ℕ
-demanded f = fileLength (headerByte f 4) (headerByte f 5) (headerByte f 6) (headerByte f 7) (noteOf f)
+demanded f = file_length (header_byte f 4) (header_byte f 5) (header_byte f 6) (header_byte f 7) (note_of f)
 
 -- what the first block tells: the length in bytes that the whole file must have, or a refusal
-unfoldable pub sizeOf : List ℕ → Result ℕ
-sizeOf f = andThen (firstValidity f) (answer (demanded f))
+unfoldable pub size_of : List ℕ → Result ℕ
+size_of f = and_then (first_validity f) (answer (demanded f))
 
 -- ---- the whole file
 -- 7 and 19, block by block after block 0, the lowest first
-unfoldable pub laterBlocks : List ℕ → Tested
-laterBlocks f = each (length f / 512 - 1) (λ i. blockValidity f (suc i))
+unfoldable pub later_blocks : List ℕ → Tested
+later_blocks f = each (length f / 512 - 1) (λ i. block_validity f (suc i))
 
 -- 8: "padding not zero"
-unfoldable pub paddingHolds : List ℕ → Bool
-paddingHolds f = every (508 * (length f / 512)) (λ k. or (ltb k (payloadDemanded f)) (eqb (payloadByte f k) 0))
+unfoldable pub padding_holds : List ℕ → Bool
+padding_holds f = every (508 * (length f / 512)) (λ k. or (ltb k (payload_demanded f)) (eqb (payload_byte f k) 0))
 
 -- 6, the later blocks' 7 and 19, and 8
-unfoldable pub blocksValidity : List ℕ → Tested
-blocksValidity f =
-    cond (not (eqb (length f) (demanded f))) (refused (refusal wrong-length 0 0 0))
-    (andThen (laterBlocks f) (cond (not (paddingHolds f)) (refused (refusal bad-padding 0 0 0)) valid))
+unfoldable pub blocks_validity : List ℕ → Tested
+blocks_validity f =
+    cond (not (eqb (length f) (demanded f))) (refused (refusal wrong_length 0 0 0))
+    (and_then (later_blocks f) (cond (not (padding_holds f)) (refused (refusal bad_padding 0 0 0)) valid))
 
 -- ---- what the payload holds
 -- a machine of N states and some sets, at a place of the payload; entries beyond the counts are zero
-unfoldable pub machineAt : List ℕ → ℕ → ℕ → ℕ → Machine
-machineAt Q at N sets = record {
+unfoldable pub machine_at : List ℕ → ℕ → ℕ → ℕ → Machine
+machine_at Q at N sets = record {
   states = N;
   sets = sets;
-  start = numberAt 8 Q (at + N);
+  start = number_at 8 Q (at + N);
   observations = table 64 (λ s. cond (ltb s N) (get_or Q (at + s) 0) 0);
-  successors = table 64 (λ s. cond (ltb s N) (numberAt 8 Q (at + N + 8 + 8 * s)) 0);
-  fairness = table 8 (λ k. cond (ltb k sets) (numberAt 8 Q (at + 9 * N + 8 + 8 * k)) 0);
+  successors = table 64 (λ s. cond (ltb s N) (number_at 8 Q (at + N + 8 + 8 * s)) 0);
+  fairness = table 8 (λ k. cond (ltb k sets) (number_at 8 Q (at + 9 * N + 8 + 8 * k)) 0);
 }
 
 -- the machines and the hidden mask of a file whose blocks hold
-unfoldable pub pairOf : List ℕ → Pair
-pairOf f =
-    let Q = payloadOf f (length f / 512) in
-    let c = headerByte f 4 in
-    let m = headerByte f 6 in
+unfoldable pub pair_of : List ℕ → Pair
+pair_of f =
+    let Q = payload_of f (length f / 512) in
+    let c = header_byte f 4 in
+    let m = header_byte f 6 in
     record {
-      concrete = machineAt Q 16 c m;
-      abstraction = machineAt Q (24 + 9 * c + 8 * m) (headerByte f 5) (headerByte f 7);
-      hidden = headerByte f 8;
+      concrete = machine_at Q 16 c m;
+      abstraction = machine_at Q (24 + 9 * c + 8 * m) (header_byte f 5) (header_byte f 7);
+      hidden = header_byte f 8;
     }
 
 -- its table's entries
-unfoldable pub entriesOf : List ℕ → List ℕ
-entriesOf f =
-    let Q = payloadOf f (length f / 512) in
-    let p = pairOf f in
-    let at = payloadLength (nC p) (nA p) (setsC p) (setsA p) false in
-    table (entries p) (λ e. numberAt 2 Q (at + 2 * e))
+unfoldable pub entries_of : List ℕ → List ℕ
+entries_of f =
+    let Q = payload_of f (length f / 512) in
+    let p = pair_of f in
+    let at = payload_length (n_c p) (n_a p) (sets_c p) (sets_a p) false in
+    table (entries p) (λ e. number_at 2 Q (at + 2 * e))
 
 -- all that the reader tests: 1 to 11, and 19
-unfoldable pub readValidity : List ℕ → ℕ → Tested
-readValidity f room =
-    andThen (bufferValidity tableRoom room) (andThen (firstValidity f) (andThen (blocksValidity f) (pairValidity (pairOf f))))
+unfoldable pub read_validity : List ℕ → ℕ → Tested
+read_validity f room =
+    and_then (buffer_validity table_room room) (and_then (first_validity f) (and_then (blocks_validity f) (pair_validity (pair_of f))))
 
 -- the reader's whole answer, for a file f and a lent table T
-unfoldable pub readAnswer : List ℕ → List ℕ → Result Taken
-readAnswer f T = andThen (readValidity f (length T)) (answer (taken (pairOf f) (noteOf f)))
+unfoldable pub read_answer : List ℕ → List ℕ → Result Taken
+read_answer f T = and_then (read_validity f (length T)) (answer (taken (pair_of f) (note_of f)))
 
 -- what is written to a lent table: "A file without a table leaves the lent table unchanged."
-unfoldable pub tableOf : List ℕ → List ℕ
-tableOf f = cond (noteOf f) (entriesOf f) []
+unfoldable pub table_of : List ℕ → List ℕ
+table_of f = cond (note_of f) (entries_of f) []
 
 -- the lent table's final content
-unfoldable pub readTable : List ℕ → List ℕ → List ℕ
-readTable f T = bufferAfter (readValidity f (length T)) (tableOf f) T
+unfoldable pub read_table : List ℕ → List ℕ → List ℕ
+read_table f T = buffer_after (read_validity f (length T)) (table_of f) T
 
 -- "Beside a refusal all machines .. in the result are zero", and so is the hidden mask
-unfoldable pub zeroMachine : Machine
-zeroMachine = record { states = 0; sets = 0; start = 0; observations = replicate 64 0; successors = replicate 64 0; fairness = replicate 8 0 }
+unfoldable pub zero_machine : Machine
+zero_machine = record { states = 0; sets = 0; start = 0; observations = replicate 64 0; successors = replicate 64 0; fairness = replicate 8 0 }
 
-unfoldable pub zeroPair : Pair
-zeroPair = record { concrete = zeroMachine; abstraction = zeroMachine; hidden = 0 }
+unfoldable pub zero_pair : Pair
+zero_pair = record { concrete = zero_machine; abstraction = zero_machine; hidden = 0 }

@@ -1,24 +1,24 @@
 -- Document 01: what the writer writes. "The writer needs 59,392 bytes and writes only the file's own."
 use Rattle.std.specs.Prelude.{Bool, List, ℕ, length}
 use Rattle.machine.specs.declared.Pair.{Pair}
-use Rattle.machine.specs.Refusals.{Result, answer, Tested, andThen, bufferAfter, bufferValidity}
-use Rattle.machine.specs.Machines.{nC, nA, setsC, setsA}
-use Rattle.machine.specs.WellFormed.{nonemptyValidity}
-use Rattle.machine.specs.Table.{tableRoom}
-use Rattle.codec.specs.Format.{fileLength, fileOf}
+use Rattle.machine.specs.Refusals.{Result, answer, Tested, and_then, buffer_after, buffer_validity}
+use Rattle.machine.specs.Machines.{n_c, n_a, sets_c, sets_a}
+use Rattle.machine.specs.WellFormed.{nonempty_validity}
+use Rattle.machine.specs.Table.{table_room}
+use Rattle.codec.specs.Format.{file_length, file_of}
 
 -- the room that a file of any counts takes
-abbrev pub fileRoom : ℕ
-fileRoom = 59392
+abbrev pub file_room : ℕ
+file_room = 59392
 
 -- all that the writer tests: 1 of both lent buffers, then 5, 9 to 11 and 21
-unfoldable pub writeValidity : Pair → ℕ → ℕ → Tested
-writeValidity p tableLen bufferLen = andThen (bufferValidity tableRoom tableLen) (andThen (bufferValidity fileRoom bufferLen) (nonemptyValidity p))
+unfoldable pub write_validity : Pair → ℕ → ℕ → Tested
+write_validity p table_len buffer_len = and_then (buffer_validity table_room table_len) (and_then (buffer_validity file_room buffer_len) (nonempty_validity p))
 
 -- the writer's whole answer: the file's length in bytes, or a refusal
-unfoldable pub writeAnswer : Pair → Bool → List ℕ → List ℕ → Result ℕ
-writeAnswer p note T buffer = andThen (writeValidity p (length T) (length buffer)) (answer (fileLength (nC p) (nA p) (setsC p) (setsA p) note))
+unfoldable pub write_answer : Pair → Bool → List ℕ → List ℕ → Result ℕ
+write_answer p note T buffer = and_then (write_validity p (length T) (length buffer)) (answer (file_length (n_c p) (n_a p) (sets_c p) (sets_a p) note))
 
 -- the buffer's final content
-unfoldable pub writeBuffer : Pair → Bool → List ℕ → List ℕ → List ℕ
-writeBuffer p note T buffer = bufferAfter (writeValidity p (length T) (length buffer)) (fileOf p note T) buffer
+unfoldable pub write_buffer : Pair → Bool → List ℕ → List ℕ → List ℕ
+write_buffer p note T buffer = buffer_after (write_validity p (length T) (length buffer)) (file_of p note T) buffer

@@ -3,7 +3,7 @@
 
 ghost use Rattle.std.specs.Prelude.{◌≡◌, ◌+◌, ◌≤◌, length, drop};
 ghost use Rattle.std.proofs.Math.Seq.{paste};
-ghost use Rattle.codec.specs.Format.{checkAt};
+ghost use Rattle.codec.specs.Format.{check_at};
 
 use machine::{Pair, Refusal};
 
@@ -43,7 +43,7 @@ pub mod writer;
 // The check of the block that starts at a place: the reader compares it, and the writer writes it.
 fn check_at(s: &[u8], at: usize) -> u32
     requires { at + 510 ≤ length s.now }
-    ensures { result ≡ checkAt s.now at }
+    ensures { result ≡ check_at s.now at }
 {
     let mut total: u32 = 0;
     for i in 0..510 {

@@ -2,12 +2,12 @@
 ghost use Rattle.std.specs.Prelude.{◌≡◌, true, ◌++◌, ◌+◌, ◌*◌, ◌/◌, ◌%◌, ◌≤◌, length, get_or, drop};
 ghost use Rattle.std.proofs.lemmas.List.Edits.{sets};
 ghost use Rattle.mask.specs.Tables.{table};
-ghost use Rattle.machine.specs.Machines.{nC, nA, setsC, setsA};
-ghost use Rattle.machine.specs.WellFormed.{wellFormed};
-ghost use Rattle.machine.specs.Table.{tableRoom};
-ghost use Rattle.codec.specs.Writer.{fileRoom, writeAnswer, writeBuffer};
-ghost use Rattle.codec.specs.Answers.{sizedOf};
-ghost use Rattle.codec.specs.Format.{bytesOf, numbers, header, machineBytes, payload, payloadMost, payloadLength, fileLength, block, fileOf};
+ghost use Rattle.machine.specs.Machines.{n_c, n_a, sets_c, sets_a};
+ghost use Rattle.machine.specs.WellFormed.{well_formed};
+ghost use Rattle.machine.specs.Table.{table_room};
+ghost use Rattle.codec.specs.Writer.{file_room, write_answer, write_buffer};
+ghost use Rattle.codec.specs.Answers.{sized_of};
+ghost use Rattle.codec.specs.Format.{bytes_of, numbers, header, machine_bytes, payload, payload_most, payload_length, file_length, block, file_of};
 
 use super::{FILE_ROOM, PAYLOAD_ROOM, Size, check_at, copy_to};
 use machine::{Machine, Pair, Validity};
@@ -17,7 +17,7 @@ use machine::{Machine, Pair, Validity};
 // Writes the n bytes of x at a place, low byte first.
 fn put_number(out: &mut [u8], at: usize, x: u64, n: usize)
     requires { at + n ≤ length out.old }
-    ensures { out.new ≡ sets out.old at (bytesOf n x) }
+    ensures { out.new ≡ sets out.old at (bytes_of n x) }
 {
     let mut rest = x;
     for i in 0..n {
@@ -53,7 +53,7 @@ fn put_entries(out: &mut [u8], at: usize, entries: &[u16], count: usize)
 fn put_machine(out: &mut [u8], at: usize, m: Machine) -> usize
     requires states_bound { (m.states ≤ 64) × (m.sets ≤ 8) }
     requires sets_in_bounds { at + (9 * m.states + 8 * m.sets + 8) ≤ length out.old }
-    ensures { (result ≡ at + (9 * m.states + 8 * m.sets + 8)) × (out.new ≡ sets out.old at (machineBytes m)) }
+    ensures { (result ≡ at + (9 * m.states + 8 * m.sets + 8)) × (out.new ≡ sets out.old at (machine_bytes m)) }
 {
     let observations = m.observations;
     let successors = m.successors;
@@ -98,9 +98,9 @@ fn put_header(out: &mut [u8], p: Pair, with_table: bool)
 
 // Writes the whole payload from the front, and gives its length.
 fn put_payload(out: &mut [u8], p: Pair, with_table: bool, table: &[u16]) -> usize
-    requires p_value { wellFormed p ≡ true }
-    requires table_room_in_bounds { (tableRoom ≤ length table.now) × (payloadMost ≤ length out.old) }
-    ensures length { result ≡ payloadLength (nC p) (nA p) (setsC p) (setsA p) with_table }
+    requires p_value { well_formed p ≡ true }
+    requires table_room_in_bounds { (table_room ≤ length table.now) × (payload_most ≤ length out.old) }
+    ensures length { result ≡ payload_length (n_c p) (n_a p) (sets_c p) (sets_a p) with_table }
     ensures bytes { out.new ≡ sets out.old 0 (payload p with_table table.now) }
 {
     let c = p.concrete;
@@ -142,10 +142,10 @@ fn put_blocks(out: &mut [u8], payload: &[u8], count: usize)
 
 // Writes the file of a well-formed pair, and gives its length.
 fn put_file(p: Pair, with_table: bool, table: &[u16], buffer: &mut [u8]) -> usize
-    requires p_value { wellFormed p ≡ true }
-    requires table_room_in_bounds { (tableRoom ≤ length table.now) × (fileRoom ≤ length buffer.old) }
-    ensures length { result ≡ fileLength (nC p) (nA p) (setsC p) (setsA p) with_table }
-    ensures bytes { buffer.new ≡ fileOf p with_table table.now ++ drop (length (fileOf p with_table table.now)) buffer.old }
+    requires p_value { well_formed p ≡ true }
+    requires table_room_in_bounds { (table_room ≤ length table.now) × (file_room ≤ length buffer.old) }
+    ensures length { result ≡ file_length (n_c p) (n_a p) (sets_c p) (sets_a p) with_table }
+    ensures bytes { buffer.new ≡ file_of p with_table table.now ++ drop (length (file_of p with_table table.now)) buffer.old }
 {
     let mut payload = [0u8; PAYLOAD_ROOM];
     let len = put_payload(&mut payload, p, with_table, table);
@@ -157,8 +157,8 @@ fn put_file(p: Pair, with_table: bool, table: &[u16], buffer: &mut [u8]) -> usiz
 // Writes the file of a pair into a lent buffer, with the table if `with_table` says so, and gives the file's length in bytes. Stopped by 1, 5,
 // 9 to 11 and 21, it writes nothing.
 pub fn write_file(p: Pair, with_table: bool, table: &[u16], buffer: &mut [u8]) -> Size
-    ensures answer { sizedOf result ≡ writeAnswer p with_table table.now buffer.old }
-    ensures bytes { buffer.new ≡ writeBuffer p with_table table.now buffer.old }
+    ensures answer { sized_of result ≡ write_answer p with_table table.now buffer.old }
+    ensures bytes { buffer.new ≡ write_buffer p with_table table.now buffer.old }
 {
     if table.len() < machine::TABLE_ROOM {
         return Size::Refused(machine::refuse(machine::SHORT_BUFFER, 0, 0, 0));

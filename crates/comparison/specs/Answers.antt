@@ -5,44 +5,44 @@ use Rattle.std.specs.Prelude.{Bool, cond, ◌==◌, nat_le}
 use Rattle.mask.specs.Logic.{and}
 use Rattle.machine.specs.declared.Refusal.{Refusal}
 use Rattle.machine.specs.Refusals.{Result, Tested, answer, refused, refusal}
-use Rattle.machine.specs.Verdict.{Verdict, carried, notCarried}
+use Rattle.machine.specs.Verdict.{Verdict, carried, not_carried}
 use Rattle.machine.specs.Player.{Played, played}
 
 -- of any result, where f gives the four numbers of an answer
-unfoldable pub fourOf : {A : Type 0} → (A → Refusal) → Result A → Refusal
-fourOf f (answer a) = f a
-fourOf f (refused r) = r
+unfoldable pub four_of : {A : Type 0} → (A → Refusal) → Result A → Refusal
+four_of f (answer a) = f a
+four_of f (refused r) = r
 
-unfoldable pub verdictNumbers : Bool → Verdict → Refusal
-verdictNumbers empty (carried n) = refusal 100 n 0 (cond empty 1 0)
-verdictNumbers empty (notCarried c n) = refusal 200 c n (cond empty 1 0)
+unfoldable pub verdict_numbers : Bool → Verdict → Refusal
+verdict_numbers empty (carried n) = refusal 100 n 0 (cond empty 1 0)
+verdict_numbers empty (not_carried c n) = refusal 200 c n (cond empty 1 0)
 
-unfoldable pub playedNumbers : Played → Refusal
-playedNumbers (played stem loop) = refusal 0 stem loop 0
+unfoldable pub played_numbers : Played → Refusal
+played_numbers (played stem loop) = refusal 0 stem loop 0
 
-abbrev pub testedFour : Tested → Refusal
-testedFour v = fourOf (λ t. refusal 0 0 0 0) v
+abbrev pub tested_four : Tested → Refusal
+tested_four v = four_of (λ t. refusal 0 0 0 0) v
 
-abbrev pub verdictFour : Result Verdict → Bool → Refusal
-verdictFour v empty = fourOf (verdictNumbers empty) v
+abbrev pub verdict_four : Result Verdict → Bool → Refusal
+verdict_four v empty = four_of (verdict_numbers empty) v
 
-abbrev pub playedFour : Result Played → Refusal
-playedFour v = fourOf playedNumbers v
+abbrev pub played_four : Result Played → Refusal
+played_four v = four_of played_numbers v
 
 -- yes or no: a turn is finished, a pair is still in
-unfoldable pub answerNumbers : Bool → Refusal
-answerNumbers b = refusal 0 (cond b 1 0) 0 0
+unfoldable pub answer_numbers : Bool → Refusal
+answer_numbers b = refusal 0 (cond b 1 0) 0 0
 
-abbrev pub answeredFour : Result Bool → Refusal
-answeredFour v = fourOf answerNumbers v
+abbrev pub answered_four : Result Bool → Refusal
+answered_four v = four_of answer_numbers v
 
 -- the answer is yes
-unfoldable pub saysYes : Refusal → Bool
-saysYes x = and (x.number == 0) (x.first == 1)
+unfoldable pub says_yes : Refusal → Bool
+says_yes x = and (x.number == 0) (x.first == 1)
 
-unfoldable pub sameFour : Refusal → Refusal → Bool
-sameFour x y = and (x.number == y.number) (and (x.first == y.first) (and (x.second == y.second) (x.third == y.third)))
+unfoldable pub same_four : Refusal → Refusal → Bool
+same_four x y = and (x.number == y.number) (and (x.first == y.first) (and (x.second == y.second) (x.third == y.third)))
 
 -- of what is said of a table: it is no refusal, and a concrete set is empty
-unfoldable pub saysEmpty : Refusal → Bool
-saysEmpty x = and (nat_le 100 x.number) (x.third == 1)
+unfoldable pub says_empty : Refusal → Bool
+says_empty x = and (nat_le 100 x.number) (x.third == 1)

@@ -54,33 +54,33 @@ total zero f = nothing
 total (suc n) f = plus (total n f) (f n)
 
 -- one pair, with its refusals compared
-unfoldable pub ofPair : Bool → Tally
-ofPair agrees = counts 1 0 0 0 0 0 0 0 0 0 0 0 0 0 (cond agrees 0 1)
+unfoldable pub of_pair : Bool → Tally
+of_pair agrees = counts 1 0 0 0 0 0 0 0 0 0 0 0 0 0 (cond agrees 0 1)
 
 -- the solver's table of one pair
-unfoldable pub ofSolution : ℕ → Bool → Tally
-ofSolution carried agrees = counts 0 1 1 carried 0 0 0 0 0 0 0 0 0 0 (cond agrees 0 1)
+unfoldable pub of_solution : ℕ → Bool → Tally
+of_solution carried agrees = counts 0 1 1 carried 0 0 0 0 0 0 0 0 0 0 (cond agrees 0 1)
 
 -- one well-formed pair that the solver refuses
-unfoldable pub ofUnsolved : Tally
-ofUnsolved = counts 0 1 0 0 0 0 0 0 0 0 0 0 0 0 0
+unfoldable pub of_unsolved : Tally
+of_unsolved = counts 0 1 0 0 0 0 0 0 0 0 0 0 0 0 0
 
 -- one table
-unfoldable pub ofTable : Bool → Bool → Bool → Bool → Tally
-ofTable passing carried empty agrees = counts 0 0 0 0 1 (cond passing 1 0) (cond carried 1 0) (cond empty 1 0) 0 0 0 0 0 0 (cond agrees 0 1)
+unfoldable pub of_table : Bool → Bool → Bool → Bool → Tally
+of_table passing carried empty agrees = counts 0 0 0 0 1 (cond passing 1 0) (cond carried 1 0) (cond empty 1 0) 0 0 0 0 0 0 (cond agrees 0 1)
 
 -- one lasso
-unfoldable pub ofLasso : Bool → Bool → Tally
-ofLasso runs agrees = counts 0 0 0 0 0 0 0 0 1 (cond runs 1 0) 0 0 0 0 (cond agrees 0 1)
+unfoldable pub of_lasso : Bool → Bool → Tally
+of_lasso runs agrees = counts 0 0 0 0 0 0 0 0 1 (cond runs 1 0) 0 0 0 0 (cond agrees 0 1)
 
 -- one comparison that has no count of its own
-unfoldable pub ofTest : Bool → Tally
-ofTest agrees = counts 0 0 0 0 0 0 0 0 0 0 0 0 0 0 (cond agrees 0 1)
+unfoldable pub of_test : Bool → Tally
+of_test agrees = counts 0 0 0 0 0 0 0 0 0 0 0 0 0 0 (cond agrees 0 1)
 
 -- one turn
-unfoldable pub ofTurn : Bool → Bool → Tally
-ofTurn finished agrees = counts 0 0 0 0 0 0 0 0 0 0 1 (cond finished 1 0) 0 0 (cond agrees 0 1)
+unfoldable pub of_turn : Bool → Bool → Tally
+of_turn finished agrees = counts 0 0 0 0 0 0 0 0 0 0 1 (cond finished 1 0) 0 0 (cond agrees 0 1)
 
 -- one look-up
-unfoldable pub ofLookUp : Bool → Bool → Tally
-ofLookUp held agrees = counts 0 0 0 0 0 0 0 0 0 0 0 0 1 (cond held 1 0) (cond agrees 0 1)
+unfoldable pub of_look_up : Bool → Bool → Tally
+of_look_up held agrees = counts 0 0 0 0 0 0 0 0 0 0 0 0 1 (cond held 1 0) (cond agrees 0 1)

@@ -4,10 +4,10 @@ use Rattle.std.proofs.Common.{add-one}
 use Rattle.comparison.specs.declared.tally.Tally.{Tally}
 use Rattle.comparison.specs.Tallies.{nothing, plus, total}
 
-pub total-start : (f : ℕ → Tally) (t : Tally) → t ≡ nothing → t ≡ total 0 f
+pub total_start : (f : ℕ → Tally) (t : Tally) → t ≡ nothing → t ≡ total 0 f
 unfolding total
-total-start f t e = e
+total_start f t e = e
 
-pub total-more : (f : ℕ → Tally) (n : ℕ) (t one r : Tally) → t ≡ total n f → one ≡ f n → r ≡ plus t one → r ≡ total (n + 1) f
+pub total_more : (f : ℕ → Tally) (n : ℕ) (t one r : Tally) → t ≡ total n f → one ≡ f n → r ≡ plus t one → r ≡ total (n + 1) f
 unfolding total
-total-more f n t one r et eo er = rw (add-one, er, et, eo)
+total_more f n t one r et eo er = rw (add-one, er, et, eo)

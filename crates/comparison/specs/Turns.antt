@@ -4,17 +4,17 @@ use Rattle.mask.specs.Bounded.{every}
 use Rattle.mask.specs.Logic.{not, and, or}
 use Rattle.machine.specs.declared.Pair.{Pair}
 use Rattle.machine.specs.declared.Refusal.{Refusal}
-use Rattle.machine.specs.Machines.{nC, nA, setsA}
-use Rattle.machine.specs.Refusals.{refusal, out-of-range}
-use Rattle.machine.specs.WellFormed.{nonemptyValidity}
-use Rattle.machine.specs.Table.{blank, entries, placeOf, tableRoom}
-use Rattle.progress.specs.Turns.{firstGiven, turnAnswer, turnFamily, turnTable, lookUpAnswer}
-use Rattle.brute.specs.Families.{holdsPairs, familyTable, numberedFamily}
-use Rattle.brute.specs.Ranking.{tableRanked}
+use Rattle.machine.specs.Machines.{n_c, n_a, sets_a}
+use Rattle.machine.specs.Refusals.{refusal, out_of_range}
+use Rattle.machine.specs.WellFormed.{nonempty_validity}
+use Rattle.machine.specs.Table.{blank, entries, place_of, table_room}
+use Rattle.progress.specs.Turns.{first_given, turn_answer, turn_family, turn_table, look_up_answer}
+use Rattle.brute.specs.Families.{holds_pairs, family_table, numbered_family}
+use Rattle.brute.specs.Ranking.{table_ranked}
 use Rattle.comparison.specs.declared.tally.Tally.{Tally}
 use Rattle.comparison.specs.declared.turns.Known.{Known}
-use Rattle.comparison.specs.Answers.{testedFour, answeredFour, answerNumbers, sameFour, saysYes}
-use Rattle.comparison.specs.Tallies.{nothing, plus, total, ofTest, ofTurn, ofLookUp}
+use Rattle.comparison.specs.Answers.{tested_four, answered_four, answer_numbers, same_four, says_yes}
+use Rattle.comparison.specs.Tallies.{nothing, plus, total, of_test, of_turn, of_look_up}
 use Rattle.comparison.specs.Tables.{zeros, within}
 
 -- ---- a turn
@@ -23,129 +23,129 @@ abbrev pub mark : ℕ
 mark = 40000
 
 abbrev pub marks : List ℕ
-marks = replicate tableRoom mark
+marks = replicate table_room mark
 
 -- each entry from number n on is as it was lent
-unfoldable pub keptFrom : ℕ → List ℕ → Bool
-keptFrom n T = every tableRoom (λ e. or (nat_lt e n) (slice_index T e == mark))
+unfoldable pub kept_from : ℕ → List ℕ → Bool
+kept_from n T = every table_room (λ e. or (nat_lt e n) (slice_index T e == mark))
 
-unfoldable pub sameRows : List ℕ → List ℕ → Bool
-sameRows F N = every 448 (λ e. nat_eq (slice_index F e) (slice_index N e))
+unfoldable pub same_rows : List ℕ → List ℕ → Bool
+same_rows F N = every 448 (λ e. nat_eq (slice_index F e) (slice_index N e))
 
 -- N has the pairs with a rank over what G covers, and no stray bits
-unfoldable pub rowsFit : Pair → List ℕ → List ℕ → Bool
-rowsFit p G N = and (holdsPairs p N) (tableRanked p false G (familyTable p N zeros))
+unfoldable pub rows_fit : Pair → List ℕ → List ℕ → Bool
+rows_fit p G N = and (holds_pairs p N) (table_ranked p false G (family_table p N zeros))
 
 -- a finished turn wrote n entries, the ranks over what G covers, and any other turn none
-unfoldable pub tableFits : Pair → ℕ → Bool → List ℕ → List ℕ → Bool
-tableFits p n finished G T = cond finished (and (keptFrom n T) (tableRanked p true G T)) (keptFrom 0 T)
+unfoldable pub table_fits : Pair → ℕ → Bool → List ℕ → List ℕ → Bool
+table_fits p n finished G T = cond finished (and (kept_from n T) (table_ranked p true G T)) (kept_from 0 T)
 
 module _ (p : Pair) (k : Known) where
   -- what a turn said, left and wrote, where nothing is refused: it is finished exactly if the rows are the same
-  unfoldable pub madeAgrees : Refusal → List ℕ → List ℕ → List ℕ → Bool
-  madeAgrees said F N T =
-      let G = familyTable p F zeros in
-      and (sameFour said (answerNumbers (sameRows F N))) (and (rowsFit p G N) (tableFits p k.entries (sameRows F N) G T))
+  unfoldable pub made_agrees : Refusal → List ℕ → List ℕ → List ℕ → Bool
+  made_agrees said F N T =
+      let G = family_table p F zeros in
+      and (same_four said (answer_numbers (same_rows F N))) (and (rows_fit p G N) (table_fits p k.entries (same_rows F N) G T))
 
   -- and beside a refusal: family and table are as they were
-  unfoldable pub stoppedAgrees : Refusal → List ℕ → List ℕ → List ℕ → Bool
-  stoppedAgrees said F N T = and (sameFour said k.plain) (and (sameRows F N) (keptFrom 0 T))
+  unfoldable pub stopped_agrees : Refusal → List ℕ → List ℕ → List ℕ → Bool
+  stopped_agrees said F N T = and (same_four said k.plain) (and (same_rows F N) (kept_from 0 T))
 
-  unfoldable pub turnAgrees : Refusal → List ℕ → List ℕ → List ℕ → Bool
-  turnAgrees said F N T = cond (k.plain.number == 0) (madeAgrees said F N T) (stoppedAgrees said F N T)
+  unfoldable pub turn_agrees : Refusal → List ℕ → List ℕ → List ℕ → Bool
+  turn_agrees said F N T = cond (k.plain.number == 0) (made_agrees said F N T) (stopped_agrees said F N T)
 
 -- the four numbers of what a turn says
-unfoldable pub turnSaid : Pair → List ℕ → Refusal
-turnSaid p F = answeredFour (turnAnswer p F (length marks))
+unfoldable pub turn_said : Pair → List ℕ → Refusal
+turn_said p F = answered_four (turn_answer p F (length marks))
 
 -- one turn
-unfoldable pub turnTally : Pair → Known → List ℕ → Tally
-turnTally p k F =
-    let said = turnSaid p F in
-    ofTurn (saysYes said) (turnAgrees p k said F (turnFamily p F (length marks)) (turnTable p F marks))
+unfoldable pub turn_tally : Pair → Known → List ℕ → Tally
+turn_tally p k F =
+    let said = turn_said p F in
+    of_turn (says_yes said) (turn_agrees p k said F (turn_family p F (length marks)) (turn_table p F marks))
 
 -- ---- look-ups
 -- the section, counted from 1, and the states are in range
-unfoldable pub inRange : Known → ℕ → ℕ → ℕ → Bool
-inRange k j c a = and (not (j == 0)) (and (nat_le j k.sections) (and (nat_lt c k.concretes) (nat_lt a k.abstractions)))
+unfoldable pub in_range : Known → ℕ → ℕ → ℕ → Bool
+in_range k j c a = and (not (j == 0)) (and (nat_le j k.sections) (and (nat_lt c k.concretes) (nat_lt a k.abstractions)))
 
 -- what a look-up has to say
-unfoldable pub plainLookUp : Known → List ℕ → ℕ → ℕ → ℕ → Refusal
-plainLookUp k G j c a =
-    let held = answerNumbers (not (slice_index G (placeOf k.concretes k.abstractions (j - 1) c a) == blank)) in
-    cond (k.plain.number == 0) (cond (inRange k j c a) held (refusal out-of-range 0 0 0)) k.plain
+unfoldable pub plain_look_up : Known → List ℕ → ℕ → ℕ → ℕ → Refusal
+plain_look_up k G j c a =
+    let held = answer_numbers (not (slice_index G (place_of k.concretes k.abstractions (j - 1) c a) == blank)) in
+    cond (k.plain.number == 0) (cond (in_range k j c a) held (refusal out_of_range 0 0 0)) k.plain
 
 module _ (p : Pair) (k : Known) where
   -- one look-up
-  unfoldable pub lookUpTally : List ℕ → List ℕ → ℕ → ℕ → ℕ → Tally
-  lookUpTally G F j c a =
-      let said = answeredFour (lookUpAnswer p F j c a) in
-      ofLookUp (saysYes said) (sameFour said (plainLookUp k G j c a))
+  unfoldable pub look_up_tally : List ℕ → List ℕ → ℕ → ℕ → ℕ → Tally
+  look_up_tally G F j c a =
+      let said = answered_four (look_up_answer p F j c a) in
+      of_look_up (says_yes said) (same_four said (plain_look_up k G j c a))
 
   -- every look-up of a family: sections from 0 to one too many, and states up to one too many
-  unfoldable pub lookUpsTally : List ℕ → Tally
-  lookUpsTally F =
+  unfoldable pub look_ups_tally : List ℕ → Tally
+  look_ups_tally F =
       let row = k.abstractions + 1 in
       let section = (k.concretes + 1) * row in
-      total ((k.sections + 2) * section) (λ i. lookUpTally (familyTable p F zeros) F (i / section) (i % section / row) (i % row))
+      total ((k.sections + 2) * section) (λ i. look_up_tally (family_table p F zeros) F (i / section) (i % section / row) (i % row))
 
   -- ---- families
   -- the turn of a family, and its look-ups
-  unfoldable pub familyTally : List ℕ → Tally
-  familyTally F = plus (turnTally p k F) (lookUpsTally F)
+  unfoldable pub family_tally : List ℕ → Tally
+  family_tally F = plus (turn_tally p k F) (look_ups_tally F)
 
   -- the first `count` families of all, whose rows are digits from 0 to `row`
-  unfoldable pub familiesTally : ℕ → ℕ → Tally
-  familiesTally row count = total count (λ x. familyTally (numberedFamily k.sections k.concretes row x))
+  unfoldable pub families_tally : ℕ → ℕ → Tally
+  families_tally row count = total count (λ x. family_tally (numbered_family k.sections k.concretes row x))
 
   -- ---- from the first to the finish
   -- the first family has all matched pairs in every section and no stray bits; beside a refusal no bits
-  unfoldable pub firstAgrees : Bool
-  firstAgrees =
-      let F = firstGiven p in
-      let full = within k.entries (familyTable p (replicate 448 18446744073709551615) zeros) (familyTable p F zeros) in
-      and (sameFour (testedFour (nonemptyValidity p)) k.plain)
-      (cond (k.plain.number == 0) (and (holdsPairs p F) full) (sameRows F (replicate 448 0)))
+  unfoldable pub first_agrees : Bool
+  first_agrees =
+      let F = first_given p in
+      let full = within k.entries (family_table p (replicate 448 18446744073709551615) zeros) (family_table p F zeros) in
+      and (same_four (tested_four (nonempty_validity p)) k.plain)
+      (cond (k.plain.number == 0) (and (holds_pairs p F) full) (same_rows F (replicate 448 0)))
 
 -- of n entries
-unfoldable pub sameEntries : ℕ → List ℕ → List ℕ → Bool
-sameEntries n S T = every n (λ e. nat_eq (slice_index S e) (slice_index T e))
+unfoldable pub same_entries : ℕ → List ℕ → List ℕ → Bool
+same_entries n S T = every n (λ e. nat_eq (slice_index S e) (slice_index T e))
 
 -- a turn after the finish is finished too, and writes the n entries of S
-unfoldable pub endAgrees : Pair → ℕ → List ℕ → List ℕ → Bool
-endAgrees p n F S = and (saysYes (turnSaid p F)) (sameEntries n (turnTable p F marks) S)
+unfoldable pub end_agrees : Pair → ℕ → List ℕ → List ℕ → Bool
+end_agrees p n F S = and (says_yes (turn_said p F)) (same_entries n (turn_table p F marks) S)
 
 module _ (p : Pair) (k : Known) (S : List ℕ) where
   -- the families from F to the finish, at most n of them, counted on to what was counted before
   unfoldable pub walked : ℕ → List ℕ → Tally → Tally
-  walked zero F sum = plus sum (ofTest false)
+  walked zero F sum = plus sum (of_test false)
   walked (suc n) F sum =
-      let next = turnFamily p F (length marks) in
-      let more = plus sum (familyTally p k F) in
-      let last = plus more (ofTest (endAgrees p k.entries next S)) in
+      let next = turn_family p F (length marks) in
+      let more = plus sum (family_tally p k F) in
+      let last = plus more (of_test (end_agrees p k.entries next S)) in
       let later = walked n next more in
-      cond (saysYes (turnSaid p F)) last later
+      cond (says_yes (turn_said p F)) last later
 
   -- "after at most n × P + 1 turns", S being the solver's table
-  unfoldable pub walkTally : Tally
-  walkTally = walked (k.entries + 1) (firstGiven p) nothing
+  unfoldable pub walk_tally : Tally
+  walk_tally = walked (k.entries + 1) (first_given p) nothing
 
 -- what brute force says of a well-formed pair
-unfoldable pub knownOf : Pair → Refusal → Known
-knownOf p plain = record { plain = plain; entries = entries p; sections = setsA p; concretes = nC p; abstractions = nA p }
+unfoldable pub known_of : Pair → Refusal → Known
+known_of p plain = record { plain = plain; entries = entries p; sections = sets_a p; concretes = n_c p; abstractions = n_a p }
 
 -- a pair that the solver takes, with its table S
-unfoldable pub turnsTally : Pair → Refusal → ℕ → ℕ → List ℕ → Tally
-turnsTally p plain row count S =
-    let k = knownOf p plain in
-    plus (plus (ofTest (firstAgrees p k)) (walkTally p k S)) (familiesTally p k row count)
+unfoldable pub turns_tally : Pair → Refusal → ℕ → ℕ → List ℕ → Tally
+turns_tally p plain row count S =
+    let k = known_of p plain in
+    plus (plus (of_test (first_agrees p k)) (walk_tally p k S)) (families_tally p k row count)
 
 -- and of one that it refuses
 unfoldable pub unknown : Refusal → Known
 unknown plain = record { plain = plain; entries = 0; sections = 0; concretes = 0; abstractions = 0 }
 
 -- a pair that the solver refuses, with a family of which each row has two bits
-unfoldable pub stoppedTally : Pair → Refusal → Tally
-stoppedTally p plain =
+unfoldable pub stopped_tally : Pair → Refusal → Tally
+stopped_tally p plain =
     let k = unknown plain in
-    plus (ofTest (firstAgrees p k)) (familyTally p k (replicate 448 5))
+    plus (of_test (first_agrees p k)) (family_tally p k (replicate 448 5))

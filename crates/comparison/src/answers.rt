@@ -2,13 +2,13 @@
 // the count for Carried; 200, c and the count for NotCarried, both with 1 as the last number where a concrete set is empty; 0 and 1 or 0 for yes
 // and no of a turn and a look-up.
 ghost use Rattle.std.specs.Prelude.{◌≡◌, if◌then◌else◌};
-ghost use Rattle.machine.specs.Refusals.{testedOf};
-ghost use Rattle.linecheck.specs.Answers.{verdictOf, emptySetOf};
-ghost use Rattle.player.specs.Answers.{playedOf};
-ghost use Rattle.progress.specs.Answers.{turnedOf, lookedUpOf};
-ghost use Rattle.brute.specs.Lines.{verdictOf as plainVerdictOf, emptySetOf as plainEmptySetOf};
-ghost use Rattle.brute.specs.Runs.{playedOf as plainPlayedOf};
-ghost use Rattle.comparison.specs.Answers.{testedFour, verdictFour, playedFour, answerNumbers, answeredFour, sameFour, saysEmpty, saysYes};
+ghost use Rattle.machine.specs.Refusals.{tested_of};
+ghost use Rattle.linecheck.specs.Answers.{verdict_of, empty_set_of};
+ghost use Rattle.player.specs.Answers.{played_of};
+ghost use Rattle.progress.specs.Answers.{turned_of, looked_up_of};
+ghost use Rattle.brute.specs.Lines.{verdict_of as plainVerdictOf, empty_set_of as plainEmptySetOf};
+ghost use Rattle.brute.specs.Runs.{played_of as plainPlayedOf};
+ghost use Rattle.comparison.specs.Answers.{tested_four, verdict_four, played_four, answer_numbers, answered_four, same_four, says_empty, says_yes};
 
 use linecheck::Checked;
 use machine::{Refusal, Validity};
@@ -17,8 +17,8 @@ use progress::{LookedUp, Turned};
 
 // The plain reading's answer about a table, in the check's form.
 pub fn as_checked(v: brute::Verdict) -> Checked
-    ensures answer { verdictOf result ≡ plainVerdictOf v }
-    ensures empty { emptySetOf result ≡ plainEmptySetOf v }
+    ensures answer { verdict_of result ≡ plainVerdictOf v }
+    ensures empty { empty_set_of result ≡ plainEmptySetOf v }
 {
     match v {
         brute::Verdict::Carried(n, e) => Checked::Carried(n, e),
@@ -29,7 +29,7 @@ pub fn as_checked(v: brute::Verdict) -> Checked
 
 // The plain reading's answer about a lasso, in the player's form.
 pub fn as_played(v: brute::Played) -> Played
-    ensures { playedOf result ≡ plainPlayedOf v }
+    ensures { played_of result ≡ plainPlayedOf v }
 {
     match v {
         brute::Played::Run(stem, cycle) => Played::Run(stem, cycle),
@@ -39,7 +39,7 @@ pub fn as_played(v: brute::Played) -> Played
 
 // The four numbers of what a test says.
 pub fn tested_four(v: Validity) -> Refusal
-    ensures { result ≡ testedFour (testedOf v) }
+    ensures { result ≡ tested_four (tested_of v) }
 {
     match v {
         Validity::Valid => machine::refuse(0, 0, 0, 0),
@@ -56,7 +56,7 @@ fn yes_number(b: bool) -> usize
 
 // The four numbers of what the check says.
 pub fn verdict_four(v: Checked) -> Refusal
-    ensures { result ≡ verdictFour (verdictOf v) (emptySetOf v) }
+    ensures { result ≡ verdict_four (verdict_of v) (empty_set_of v) }
 {
     match v {
         Checked::Carried(n, e) => machine::refuse(100, n, 0, yes_number(e)),
@@ -67,7 +67,7 @@ pub fn verdict_four(v: Checked) -> Refusal
 
 // Whether the four numbers say that a concrete set is empty.
 pub fn says_empty(x: Refusal) -> bool
-    ensures { result ≡ saysEmpty x }
+    ensures { result ≡ says_empty x }
 {
     if x.number < 100 {
         return false;
@@ -77,7 +77,7 @@ pub fn says_empty(x: Refusal) -> bool
 
 // The four numbers of what the player says.
 pub fn played_four(v: Played) -> Refusal
-    ensures { result ≡ playedFour (playedOf v) }
+    ensures { result ≡ played_four (played_of v) }
 {
     match v {
         Played::Run(stem, cycle) => machine::refuse(0, stem, cycle, 0),
@@ -87,14 +87,14 @@ pub fn played_four(v: Played) -> Refusal
 
 // The four numbers of yes and of no.
 pub fn answered_four(b: bool) -> Refusal
-    ensures { result ≡ answerNumbers b }
+    ensures { result ≡ answer_numbers b }
 {
     machine::refuse(0, yes_number(b), 0, 0)
 }
 
 // The four numbers of what a turn says: yes where it is finished.
 pub fn turned_four(v: Turned) -> Refusal
-    ensures { result ≡ answeredFour (turnedOf v) }
+    ensures { result ≡ answered_four (turned_of v) }
 {
     match v {
         Turned::Finished => answered_four(true),
@@ -105,7 +105,7 @@ pub fn turned_four(v: Turned) -> Refusal
 
 // The four numbers of what a look-up says: yes where the pair is still in.
 pub fn looked_four(v: LookedUp) -> Refusal
-    ensures { result ≡ answeredFour (lookedUpOf v) }
+    ensures { result ≡ answered_four (looked_up_of v) }
 {
     match v {
         LookedUp::StillIn => answered_four(true),
@@ -116,7 +116,7 @@ pub fn looked_four(v: LookedUp) -> Refusal
 
 // Whether the four numbers say yes.
 pub fn says_yes(x: Refusal) -> bool
-    ensures { result ≡ saysYes x }
+    ensures { result ≡ says_yes x }
 {
     if x.number != 0 {
         return false;
@@ -126,7 +126,7 @@ pub fn says_yes(x: Refusal) -> bool
 
 // Whether two answers are the same four numbers.
 pub fn same_four(x: Refusal, y: Refusal) -> bool
-    ensures { result ≡ sameFour x y }
+    ensures { result ≡ same_four x y }
 {
     if x.number != y.number {
         return false;

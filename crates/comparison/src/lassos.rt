@@ -2,7 +2,7 @@
 // the bits that are not hidden.
 ghost use Rattle.std.specs.Prelude.{◌≡◌, ◌+◌, ◌≤◌};
 ghost use Rattle.machine.specs.Lassos.{given};
-ghost use Rattle.comparison.specs.Lassos.{runFits, lassoAgrees, lassoTally, numberedLasso, power, shapeTally, lassosTally};
+ghost use Rattle.comparison.specs.Lassos.{run_fits, lasso_agrees, lasso_tally, numbered_lasso, power, shape_tally, lassos_tally};
 
 use crate::answers::{as_played, played_four, same_four};
 use crate::tally::{Tally, add, none, of_lasso};
@@ -19,7 +19,7 @@ fn run_fits(
     s: usize,
     q: usize,
 ) -> bool
-    ensures { result ≡ runFits p table.now (given stem.now cycle.now) run.now s q }
+    ensures { result ≡ run_fits p table.now (given stem.now cycle.now) run.now s q }
 {
     if run.len() < s {
         return false;
@@ -57,7 +57,7 @@ fn lasso_agrees(
     answer: Refusal,
     plain: Refusal,
 ) -> bool
-    ensures { result ≡ lassoAgrees p table.now (given stem.now cycle.now) run.now answer plain }
+    ensures { result ≡ lasso_agrees p table.now (given stem.now cycle.now) run.now answer plain }
 {
     if !same_four(answer, plain) {
         return false;
@@ -70,7 +70,7 @@ fn lasso_agrees(
 
 // One lasso.
 fn compare_lasso(p: Pair, table: &[u16], stem: &[u8], cycle: &[u8]) -> Tally
-    ensures { result ≡ lassoTally p table.now (given stem.now cycle.now) }
+    ensures { result ≡ lasso_tally p table.now (given stem.now cycle.now) }
 {
     let mut run = [0u8; player::RUN_ROOM];
     let answer = played_four(player::play(p, table, stem, cycle, &mut run));
@@ -84,7 +84,7 @@ fn compare_lasso(p: Pair, table: &[u16], stem: &[u8], cycle: &[u8]) -> Tally
 // Lasso number x of a stem of s states and a loop of q: its states are digits from 0 to `top`.
 fn compare_numbered(p: Pair, table: &[u16], s: usize, q: usize, top: u8, x: u64) -> Tally
     requires { s + q ≤ 4 }
-    ensures { result ≡ lassoTally p table.now (numberedLasso top s q x) }
+    ensures { result ≡ lasso_tally p table.now (numbered_lasso top s q x) }
 {
     let mut states = [0u8; 4];
     brute::put_states(x, top, &mut states);
@@ -107,7 +107,7 @@ fn power_of(base: u64, n: usize) -> u64
 // Every lasso with a stem of s states and a loop of q, each up to 2.
 fn compare_shape(p: Pair, table: &[u16], s: usize, q: usize, top: u8) -> Tally
     requires { (s ≤ 2) × (q ≤ 2) }
-    ensures { result ≡ shapeTally p table.now top s q }
+    ensures { result ≡ shape_tally p table.now top s q }
 {
     let base = top as u64 + 1;
     let mut sum = none();
@@ -119,7 +119,7 @@ fn compare_shape(p: Pair, table: &[u16], s: usize, q: usize, top: u8) -> Tally
 
 // Every lasso with a stem of at most `longest` states, at most 2, and a loop of 0 to 2.
 pub fn compare_lassos(p: Pair, table: &[u16], top: u8, longest: usize) -> Tally
-    ensures { result ≡ lassosTally p table.now top longest }
+    ensures { result ≡ lassos_tally p table.now top longest }
 {
     let most = if longest < 2 { longest } else { 2 };
     let mut sum = none();

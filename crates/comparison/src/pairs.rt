@@ -1,8 +1,8 @@
 // All that is compared of a pair, and of a series of pairs.
 ghost use Rattle.std.specs.Prelude.{◌≡◌, true, if◌then◌else◌};
-ghost use Rattle.machine.specs.WellFormed.{wellFormed};
-ghost use Rattle.comparison.specs.Tallies.{ofUnsolved};
-ghost use Rattle.comparison.specs.Pairs.{verdictFits, solutionAgrees, solutionTally, formedTally, unsolvedTally, pairTally, rowTally, seriesTally};
+ghost use Rattle.machine.specs.WellFormed.{well_formed};
+ghost use Rattle.comparison.specs.Tallies.{of_unsolved};
+ghost use Rattle.comparison.specs.Pairs.{verdict_fits, solution_agrees, solution_tally, formed_tally, unsolved_tally, pair_tally, row_tally, series_tally};
 
 use crate::answers::{same_four, tested_four};
 use crate::lassos::compare_lassos;
@@ -45,7 +45,7 @@ pub struct Series {
 // Whether the solver's table, whose own count is given, passes each line; and where every table was tried, whether it is Carried exactly
 // if some table is.
 fn verdict_fits(own: Tally, every: bool, carrying: u64) -> bool
-    ensures { result ≡ verdictFits own every carrying }
+    ensures { result ≡ verdict_fits own every carrying }
 {
     if own.passing == 0 {
         return false;
@@ -62,7 +62,7 @@ fn verdict_fits(own: Tally, every: bool, carrying: u64) -> bool
 
 // Whether what is said of the solver's table fits, and it covers what the lifted one covers, and no more, and has the ranks.
 fn solution_agrees(p: Pair, n: usize, fits: bool, lifted: &[u16], solved: &[u16]) -> bool
-    ensures { result ≡ solutionAgrees p n fits lifted.now solved.now }
+    ensures { result ≡ solution_agrees p n fits lifted.now solved.now }
 {
     if !fits {
         return false;
@@ -78,7 +78,7 @@ fn solution_agrees(p: Pair, n: usize, fits: bool, lifted: &[u16], solved: &[u16]
 
 // The solver's table of n entries beside the other algorithm's.
 fn compare_solution(p: Pair, n: usize, every: bool, carrying: u64, solved: &[u16]) -> Tally
-    ensures { result ≡ solutionTally p n every carrying solved.now }
+    ensures { result ≡ solution_tally p n every carrying solved.now }
 {
     let own = compare_table(p, n, solved, solved);
     let fits = verdict_fits(own, every, carrying);
@@ -97,7 +97,7 @@ fn compare_solved(
     solved: bool,
     table: &[u16],
 ) -> Tally
-    ensures { result ≡ (if solved then solutionTally p n every carrying table.now else ofUnsolved) }
+    ensures { result ≡ (if solved then solution_tally p n every carrying table.now else of_unsolved) }
 {
     if solved {
         return compare_solution(p, n, every, carrying, table);
@@ -107,8 +107,8 @@ fn compare_solved(
 
 // A well-formed pair with a table: if it was solved, the solver's.
 fn compare_formed(p: Pair, t: Trial, solved: bool, table: &[u16]) -> Tally
-    requires { wellFormed p ≡ true }
-    ensures { result ≡ formedTally t p solved table.now }
+    requires { well_formed p ≡ true }
+    ensures { result ≡ formed_tally t p solved table.now }
 {
     let concrete = p.concrete;
     let abstraction = p.abstraction;
@@ -123,7 +123,7 @@ fn compare_formed(p: Pair, t: Trial, solved: bool, table: &[u16]) -> Tally
 
 // A pair that the solver refuses. A well-formed one has an empty set, and is tried with the lifted table in place of the solver's.
 fn compare_unsolved(p: Pair, t: Trial) -> Tally
-    ensures { result ≡ unsolvedTally t p }
+    ensures { result ≡ unsolved_tally t p }
 {
     let formed = brute::validity(p);
     if let Validity::Refused(_) = formed {
@@ -136,7 +136,7 @@ fn compare_unsolved(p: Pair, t: Trial) -> Tally
 
 // Any pair.
 pub fn compare_pair(p: Pair, t: Trial) -> Tally
-    ensures { result ≡ pairTally t p }
+    ensures { result ≡ pair_tally t p }
 {
     let mut solved = [0u16; machine::TABLE_ROOM];
     let answer = solver::solve(p, &mut solved);
@@ -154,7 +154,7 @@ pub fn compare_pair(p: Pair, t: Trial) -> Tally
 
 // The pairs of one concrete machine.
 fn compare_row(s: Series, x: u64) -> Tally
-    ensures { result ≡ rowTally s x }
+    ensures { result ≡ row_tally s x }
 {
     let numbers = s.abstractions;
     let mut sum = none();
@@ -168,7 +168,7 @@ fn compare_row(s: Series, x: u64) -> Tally
 
 // All pairs of a series.
 pub fn compare(s: Series) -> Tally
-    ensures { result ≡ seriesTally s }
+    ensures { result ≡ series_tally s }
 {
     let numbers = s.concretes;
     let mut sum = none();

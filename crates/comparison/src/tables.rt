@@ -2,7 +2,7 @@
 // table stands in its place.
 ghost use Rattle.std.specs.Prelude.{◌≡◌};
 ghost use Rattle.comparison.specs.Tallies.{total};
-ghost use Rattle.comparison.specs.Tables.{zeros, within, tableAgrees, tableTally, altered, triedTable};
+ghost use Rattle.comparison.specs.Tables.{zeros, within, table_agrees, table_tally, altered, tried_table};
 
 use crate::answers::{as_checked, same_four, says_empty, verdict_four};
 use crate::tally::{Tally, add, none, of_table};
@@ -24,7 +24,7 @@ pub fn is_within(n: usize, table: &[u16], other: &[u16]) -> bool
 
 // Whether the check's answer is the plain reading's, and the solver's table covers a table that passes.
 fn table_agrees(n: usize, answer: Refusal, plain: Refusal, table: &[u16], solved: &[u16]) -> bool
-    ensures { result ≡ tableAgrees n answer plain solved.now table.now }
+    ensures { result ≡ table_agrees n answer plain solved.now table.now }
 {
     if !same_four(answer, plain) {
         return false;
@@ -37,7 +37,7 @@ fn table_agrees(n: usize, answer: Refusal, plain: Refusal, table: &[u16], solved
 
 // One table of n entries.
 pub fn compare_table(p: Pair, n: usize, table: &[u16], solved: &[u16]) -> Tally
-    ensures { result ≡ tableTally p n solved.now table.now }
+    ensures { result ≡ table_tally p n solved.now table.now }
 {
     let answer = verdict_four(linecheck::check_table(p, table));
     let plain = verdict_four(as_checked(brute::plain_verdict(p, table)));
@@ -69,7 +69,7 @@ fn put_altered(x: u64, top: u16, n: usize, solved: &[u16], table: &mut [u16])
 
 // Puts table number x into `table`: one of all tables, or the solver's with one entry changed.
 fn put_table(every: bool, x: u64, top: u16, n: usize, solved: &[u16], table: &mut [u16])
-    ensures { table.new ≡ triedTable every top n solved.now x table.old }
+    ensures { table.new ≡ tried_table every top n solved.now x table.old }
 {
     if every {
         brute::put_entries(x, top, n, table);
@@ -80,7 +80,7 @@ fn put_table(every: bool, x: u64, top: u16, n: usize, solved: &[u16], table: &mu
 
 // The first `count` tables.
 pub fn compare_tables(p: Pair, every: bool, top: u16, n: usize, count: u64, solved: &[u16]) -> Tally
-    ensures { result ≡ total count (λ x. tableTally p n solved.now (triedTable every top n solved.now x zeros)) }
+    ensures { result ≡ total count (λ x. table_tally p n solved.now (tried_table every top n solved.now x zeros)) }
 {
     let mut table = [0u16; machine::TABLE_ROOM];
     let mut sum = none();

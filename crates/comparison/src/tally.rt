@@ -1,6 +1,6 @@
 // Counts of what was compared. They are added modulo 2^64.
 ghost use Rattle.std.specs.Prelude.{◌≡◌, if◌then◌else◌};
-ghost use Rattle.comparison.specs.Tallies.{nothing, plus, ofPair, ofSolution, ofUnsolved, ofTable, ofLasso, ofTest, ofTurn, ofLookUp};
+ghost use Rattle.comparison.specs.Tallies.{nothing, plus, of_pair, of_solution, of_unsolved, of_table, of_lasso, of_test, of_turn, of_look_up};
 
 #[derive(Clone, Copy)]
 pub struct Tally {
@@ -65,7 +65,7 @@ fn one_unless(b: bool) -> u64
 
 // One pair, with its refusals compared.
 pub fn of_pair(agrees: bool) -> Tally
-    ensures { result ≡ ofPair agrees }
+    ensures { result ≡ of_pair agrees }
 {
     let mut t = none();
     t.pairs = 1;
@@ -75,7 +75,7 @@ pub fn of_pair(agrees: bool) -> Tally
 
 // The solver's table of one pair; `carried` is 1 where it is Carried, and else 0.
 pub fn of_solution(carried: u64, agrees: bool) -> Tally
-    ensures { result ≡ ofSolution carried agrees }
+    ensures { result ≡ of_solution carried agrees }
 {
     let mut t = none();
     t.formed = 1;
@@ -87,7 +87,7 @@ pub fn of_solution(carried: u64, agrees: bool) -> Tally
 
 // One well-formed pair that the solver refuses.
 pub fn of_unsolved() -> Tally
-    ensures { result ≡ ofUnsolved }
+    ensures { result ≡ of_unsolved }
 {
     let mut t = none();
     t.formed = 1;
@@ -96,7 +96,7 @@ pub fn of_unsolved() -> Tally
 
 // One table.
 pub fn of_table(passing: bool, carried: bool, empty: bool, agrees: bool) -> Tally
-    ensures { result ≡ ofTable passing carried empty agrees }
+    ensures { result ≡ of_table passing carried empty agrees }
 {
     let mut t = none();
     t.tables = 1;
@@ -109,7 +109,7 @@ pub fn of_table(passing: bool, carried: bool, empty: bool, agrees: bool) -> Tall
 
 // One lasso.
 pub fn of_lasso(runs: bool, agrees: bool) -> Tally
-    ensures { result ≡ ofLasso runs agrees }
+    ensures { result ≡ of_lasso runs agrees }
 {
     let mut t = none();
     t.lassos = 1;
@@ -120,7 +120,7 @@ pub fn of_lasso(runs: bool, agrees: bool) -> Tally
 
 // One comparison that has no count of its own.
 pub fn of_test(agrees: bool) -> Tally
-    ensures { result ≡ ofTest agrees }
+    ensures { result ≡ of_test agrees }
 {
     let mut t = none();
     t.differing = one_unless(agrees);
@@ -129,7 +129,7 @@ pub fn of_test(agrees: bool) -> Tally
 
 // One turn.
 pub fn of_turn(finished: bool, agrees: bool) -> Tally
-    ensures { result ≡ ofTurn finished agrees }
+    ensures { result ≡ of_turn finished agrees }
 {
     let mut t = none();
     t.turns = 1;
@@ -140,7 +140,7 @@ pub fn of_turn(finished: bool, agrees: bool) -> Tally
 
 // One look-up.
 pub fn of_look_up(held: bool, agrees: bool) -> Tally
-    ensures { result ≡ ofLookUp held agrees }
+    ensures { result ≡ of_look_up held agrees }
 {
     let mut t = none();
     t.lookups = 1;

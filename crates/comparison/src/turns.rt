@@ -1,11 +1,11 @@
 // The solver by turns beside brute force: what a turn says, the family and the table that it leaves, and every look-up, for families of any content
 // and for those from the first to the finish.
 ghost use Rattle.std.specs.Prelude.{◌≡◌, ◌≤◌, true, length};
-ghost use Rattle.machine.specs.WellFormed.{wellFormed};
-ghost use Rattle.machine.specs.Table.{tableRoom};
-ghost use Rattle.progress.specs.Turns.{turnFamily};
-ghost use Rattle.comparison.specs.Answers.{saysYes};
-ghost use Rattle.comparison.specs.Turns.{marks, keptFrom, sameRows, sameEntries, rowsFit, tableFits, turnAgrees, turnSaid, turnTally, inRange, plainLookUp, lookUpTally, lookUpsTally, familyTally, familiesTally, firstAgrees, endAgrees, walkTally, turnsTally, stoppedTally};
+ghost use Rattle.machine.specs.WellFormed.{well_formed};
+ghost use Rattle.machine.specs.Table.{table_room};
+ghost use Rattle.progress.specs.Turns.{turn_family};
+ghost use Rattle.comparison.specs.Answers.{says_yes};
+ghost use Rattle.comparison.specs.Turns.{marks, kept_from, same_rows, same_entries, rows_fit, table_fits, turn_agrees, turn_said, turn_tally, in_range, plain_look_up, look_up_tally, look_ups_tally, family_tally, families_tally, first_agrees, end_agrees, walk_tally, turns_tally, stopped_tally};
 
 use crate::answers::{answered_four, looked_four, same_four, says_yes, tested_four, turned_four};
 use crate::tables::is_within;
@@ -37,7 +37,7 @@ struct Step {
 
 // Whether each entry from a number on is as it was lent.
 fn is_kept(from: usize, table: &[u16; 28672]) -> bool
-    ensures { result ≡ keptFrom from table.now }
+    ensures { result ≡ kept_from from table.now }
 {
     for e in from..machine::TABLE_ROOM {
         // as u32: of two u16 the kit's own compiler makes a far slower test
@@ -50,7 +50,7 @@ fn is_kept(from: usize, table: &[u16; 28672]) -> bool
 
 // Whether two families have the same rows.
 fn same_rows(x: &[u64; 448], y: &[u64; 448]) -> bool
-    ensures { result ≡ sameRows x.now y.now }
+    ensures { result ≡ same_rows x.now y.now }
 {
     for e in 0..448 {
         if x[e] != y[e] {
@@ -62,7 +62,7 @@ fn same_rows(x: &[u64; 448], y: &[u64; 448]) -> bool
 
 // Whether the next family has the pairs with a rank over the given one, and no stray bits.
 fn rows_fit(p: Pair, given: &[u16], next: &[u64; 448]) -> bool
-    ensures { result ≡ rowsFit p given.now next.now }
+    ensures { result ≡ rows_fit p given.now next.now }
 {
     if !brute::holds_pairs(p, next) {
         return false;
@@ -74,7 +74,7 @@ fn rows_fit(p: Pair, given: &[u16], next: &[u64; 448]) -> bool
 
 // Whether the table was written only by a turn that is finished: n entries, the ranks over the family.
 fn table_fits(p: Pair, n: usize, finished: bool, given: &[u16], table: &[u16; 28672]) -> bool
-    ensures { result ≡ tableFits p n finished given.now table.now }
+    ensures { result ≡ table_fits p n finished given.now table.now }
 {
     if !finished {
         return is_kept(0, table);
@@ -94,7 +94,7 @@ fn turn_agrees(
     next: &[u64; 448],
     table: &[u16; 28672],
 ) -> bool
-    ensures { result ≡ turnAgrees p k said family.now next.now table.now }
+    ensures { result ≡ turn_agrees p k said family.now next.now table.now }
 {
     let plain = k.plain;
     let same = same_rows(family, next);
@@ -120,9 +120,9 @@ fn turn_agrees(
 
 // One turn.
 fn compare_turn(p: Pair, k: Known, family: [u64; 448]) -> Step
-    ensures tally { result.tally ≡ turnTally p k family }
-    ensures finished { result.finished ≡ saysYes (turnSaid p family) }
-    ensures family { result.family ≡ turnFamily p family (length marks) }
+    ensures tally { result.tally ≡ turn_tally p k family }
+    ensures finished { result.finished ≡ says_yes (turn_said p family) }
+    ensures family { result.family ≡ turn_family p family (length marks) }
 {
     let mut table = [MARK; machine::TABLE_ROOM];
     let made = progress::turn(p, family, &mut table);
@@ -142,7 +142,7 @@ fn compare_turn(p: Pair, k: Known, family: [u64; 448]) -> Step
 
 // Whether a look-up's section, counted from 1, and states are in range.
 fn in_range(k: Known, section: usize, c: usize, a: usize) -> bool
-    ensures { result ≡ inRange k section c a }
+    ensures { result ≡ in_range k section c a }
 {
     if section == 0 {
         return false;
@@ -158,7 +158,7 @@ fn in_range(k: Known, section: usize, c: usize, a: usize) -> bool
 
 // What a look-up has to say, where `given` covers what the family holds.
 fn plain_look_up(k: Known, given: &[u16], section: usize, c: usize, a: usize) -> Refusal
-    ensures { result ≡ plainLookUp k given.now section c a }
+    ensures { result ≡ plain_look_up k given.now section c a }
 {
     let plain = k.plain;
     if plain.number != 0 {
@@ -187,7 +187,7 @@ fn compare_look_up(
     c: usize,
     a: usize,
 ) -> Tally
-    ensures { result ≡ lookUpTally p.now k given.now family.now section c a }
+    ensures { result ≡ look_up_tally p.now k given.now family.now section c a }
 {
     let said = looked_four(progress::look_up(*p, *family, section, c, a));
     let plain = plain_look_up(k, given, section, c, a);
@@ -196,7 +196,7 @@ fn compare_look_up(
 
 // Every look-up of a family: sections, counted from 1, from 0 to one too many, and states up to one too many.
 fn compare_look_ups(p: Pair, k: Known, family: [u64; 448]) -> Tally
-    ensures { result ≡ lookUpsTally p k family }
+    ensures { result ≡ look_ups_tally p k family }
 {
     let mut given = [0u16; machine::TABLE_ROOM];
     brute::put_family(p, &family, &mut given);
@@ -217,9 +217,9 @@ fn compare_look_ups(p: Pair, k: Known, family: [u64; 448]) -> Tally
 
 // The turn of one family, and its look-ups.
 fn compare_family(p: Pair, k: Known, family: [u64; 448]) -> Step
-    ensures tally { result.tally ≡ familyTally p k family }
-    ensures finished { result.finished ≡ saysYes (turnSaid p family) }
-    ensures family { result.family ≡ turnFamily p family (length marks) }
+    ensures tally { result.tally ≡ family_tally p k family }
+    ensures finished { result.finished ≡ says_yes (turn_said p family) }
+    ensures family { result.family ≡ turn_family p family (length marks) }
 {
     let step = compare_turn(p, k, family);
     let turned = step.tally;
@@ -233,7 +233,7 @@ fn compare_family(p: Pair, k: Known, family: [u64; 448]) -> Step
 
 // The first `count` families of all, whose rows are digits from 0 to `row`.
 fn compare_families(p: Pair, k: Known, row: u32, count: u64) -> Tally
-    ensures { result ≡ familiesTally p k row count }
+    ensures { result ≡ families_tally p k row count }
 {
     let mut sum = none();
     for x in 0..count {
@@ -248,7 +248,7 @@ fn compare_families(p: Pair, k: Known, row: u32, count: u64) -> Tally
 
 // Whether the first family has all matched pairs in every section and no stray bits; beside a refusal it has no bits.
 fn first_agrees(p: Pair, k: Known) -> bool
-    ensures { result ≡ firstAgrees p k }
+    ensures { result ≡ first_agrees p k }
 {
     let first = progress::first_family(p);
     let valid = first.validity;
@@ -272,7 +272,7 @@ fn first_agrees(p: Pair, k: Known) -> bool
 
 // Whether two tables have the same n entries.
 fn same_entries(n: usize, x: &[u16], y: &[u16]) -> bool
-    ensures { result ≡ sameEntries n x.now y.now }
+    ensures { result ≡ same_entries n x.now y.now }
 {
     for e in 0..n {
         if brute::value_at(x, e) != brute::value_at(y, e) {
@@ -284,7 +284,7 @@ fn same_entries(n: usize, x: &[u16], y: &[u16]) -> bool
 
 // Whether a turn after the finish is finished too, and writes the solver's n entries.
 fn end_agrees(p: Pair, n: usize, family: [u64; 448], solved: &[u16]) -> bool
-    ensures { result ≡ endAgrees p n family solved.now }
+    ensures { result ≡ end_agrees p n family solved.now }
 {
     let mut table = [MARK; machine::TABLE_ROOM];
     let made = progress::turn(p, family, &mut table);
@@ -297,8 +297,8 @@ fn end_agrees(p: Pair, n: usize, family: [u64; 448], solved: &[u16]) -> bool
 
 // The families from the first to the finish, which comes after at most n x P + 1 turns and with the solver's table.
 fn compare_walk(p: Pair, k: Known, solved: &[u16]) -> Tally
-    requires { k.entries ≤ tableRoom }
-    ensures { result ≡ walkTally p k solved.now }
+    requires { k.entries ≤ table_room }
+    ensures { result ≡ walk_tally p k solved.now }
 {
     let first = progress::first_family(p);
     let mut family = first.family;
@@ -317,8 +317,8 @@ fn compare_walk(p: Pair, k: Known, solved: &[u16]) -> Tally
 
 // A pair that the solver takes, with its table: the first family, those up to the finish, and the first `count` of all.
 pub fn compare_turns(p: Pair, plain: Refusal, row: u32, count: u64, solved: &[u16]) -> Tally
-    requires { wellFormed p ≡ true }
-    ensures { result ≡ turnsTally p plain row count solved.now }
+    requires { well_formed p ≡ true }
+    ensures { result ≡ turns_tally p plain row count solved.now }
 {
     let concrete = p.concrete;
     let abstraction = p.abstraction;
@@ -336,7 +336,7 @@ pub fn compare_turns(p: Pair, plain: Refusal, row: u32, count: u64, solved: &[u1
 
 // A pair that the solver refuses: the first family, and one of which each row has two bits.
 pub fn compare_stopped(p: Pair, plain: Refusal) -> Tally
-    ensures { result ≡ stoppedTally p plain }
+    ensures { result ≡ stopped_tally p plain }
 {
     let k = Known {
         plain,

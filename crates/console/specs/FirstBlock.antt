@@ -3,6 +3,6 @@ use Rattle.std.specs.Prelude.{ℕ}
 use Rattle.machine.specs.Refusals.{Result, answer, refused}
 
 -- the length in bytes that the whole file must have, or the refusal's number
-unfoldable pub sizeNumber : Result ℕ → ℕ
-sizeNumber (answer n) = n
-sizeNumber (refused r) = r.number
+unfoldable pub size_number : Result ℕ → ℕ
+size_number (answer n) = n
+size_number (refused r) = r.number

@@ -2,9 +2,9 @@
 #![tactic(auto)]
 
 ghost use Rattle.std.specs.Prelude.{◌≡◌, take};
-ghost use Rattle.codec.specs.Reader.{sizeOf};
-ghost use Rattle.verdict.specs.Outcomes.{fileOutcome, outcomeNumber};
-ghost use Rattle.console.specs.FirstBlock.{sizeNumber};
+ghost use Rattle.codec.specs.Reader.{size_of};
+ghost use Rattle.verdict.specs.Outcomes.{file_outcome, outcome_number};
+ghost use Rattle.console.specs.FirstBlock.{size_number};
 
 use codec::Size;
 use verdict::FileVerdict;
@@ -16,7 +16,7 @@ pub const NOT_CARRIED: u32 = 200;
 
 // What is said of the file with these bytes, as one number: a refusal's, 101 without a table, or one of those above.
 pub fn console_answer(bytes: &[u8]) -> u32
-    ensures { result ≡ outcomeNumber (fileOutcome bytes.now) }
+    ensures { result ≡ outcome_number (file_outcome bytes.now) }
 {
     match verdict::file_verdict(bytes) {
         FileVerdict::Carried(_) => CARRIED,
@@ -29,7 +29,7 @@ pub fn console_answer(bytes: &[u8]) -> u32
 // The length in bytes that the whole file must have, by its first block, or a refusal's number, which is less than any length. It looks at
 // no more than the first block; fewer bytes are refused.
 pub fn first_block_answer(bytes: &[u8]) -> u32
-    ensures { result ≡ sizeNumber (sizeOf (take 512 bytes.now)) }
+    ensures { result ≡ size_number (size_of (take 512 bytes.now)) }
 {
     let end = if bytes.len() < 512 { bytes.len() } else { 512 };
     match codec::reader::file_size(&bytes[..end]) {

@@ -3,27 +3,27 @@
 -- not tell.
 use Rattle.std.specs.Prelude.{Bool, true, false, List, [], ◌∷◌, ◌≡◌, refl, ℕ, length, get_or}
 use Rattle.mask.specs.Logic.{not, and, or}
-use Rattle.mask.specs.Bits.{hasBit}
-use Rattle.mask.specs.Bounded.{every, some, first, sum, count, everyIn, someIn}
-use Rattle.mask.specs.Tables.{maskOf, table}
+use Rattle.mask.specs.Bits.{has_bit}
+use Rattle.mask.specs.Bounded.{every, some, first, sum, count, every_in, some_in}
+use Rattle.mask.specs.Tables.{mask_of, table}
 use Rattle.machine.specs.declared.Machine.{Machine}
 use Rattle.machine.specs.declared.Pair.{Pair}
-use Rattle.machine.specs.Machines.{observation, successors, moves, starts, fairSet, inFairSet, sameObservation, pairUnder, matched, next}
-use Rattle.machine.specs.Refusals.{Result, answer, refused, refusal, andThen, passOn}
-use Rattle.machine.specs.WellFormed.{countsOk, beyond, stateBeyond, setBeyond, beyondCounts, firstEmpty, hasEmptySet, contentValidity, setsValidity, contentTests, pairTests, nonemptyValidity}
+use Rattle.machine.specs.Machines.{observation, successors, moves, starts, fair_set, in_fair_set, same_observation, pair_under, matched, next}
+use Rattle.machine.specs.Refusals.{Result, answer, refused, refusal, and_then, pass_on}
+use Rattle.machine.specs.WellFormed.{counts_ok, beyond, state_beyond, set_beyond, is_beyond_counts, first_empty, has_empty_set, content_validity, sets_validity, content_tests, pair_tests, nonempty_validity}
 use Rattle.machine.specs.Lassos.{Lasso, moment}
-use Rattle.machine.specs.Step.{steps, better, least, partner, staying, singleStep, found, stateOf}
+use Rattle.machine.specs.Step.{steps, better, least, partner, staying, single_step, found, state_of}
 use Rattle.machine.specs.Iteration.{iterate, settle}
-use Rattle.machine.specs.Game.{pairSet, mem, sameSet, none, allMatched, goals, inX, roundX, xOver, xsOver, union, levelOver, levels, turn, firstFamily, sameFamily, family}
-use Rattle.machine.specs.Ranks.{levelOf, setOf, towerOver, tower, rankIn, rankTable, solverTable}
-use Rattle.machine.specs.Table.{blank, entryIndex, entry, covers, coveredCount}
-use Rattle.machine.specs.Lines.{nonBlank, lower, atMost, goalLine, rankLine, passes, linesValidity}
-use Rattle.machine.specs.Verdict.{Verdict, carried, notCarried, startCovered, lackingStart, startVerdict, linesVerdict, emptySetTold}
-use Rattle.machine.specs.Player.{badLength, badStep, missedSet, lassoValidity, startPartner, startValidity, sectionAfter, follow, stepTo, placeAt, samePlace, lastRound, earlierRound, stemLength, loopLength, run, playValidity, playAnswer, Played, played}
+use Rattle.machine.specs.Game.{pair_set, mem, same_set, none, all_matched, goals, in_x, round_x, x_over, xs_over, union, level_over, levels, turn, first_family, same_family, family}
+use Rattle.machine.specs.Ranks.{level_of, set_of, tower_over, tower, rank_in, rank_table, solver_table}
+use Rattle.machine.specs.Table.{blank, entry_index, entry, covers, covered_count}
+use Rattle.machine.specs.Lines.{non_blank, lower, at_most, goal_line, rank_line, passes, lines_validity}
+use Rattle.machine.specs.Verdict.{Verdict, carried, not_carried, start_covered, lacking_start, start_verdict, lines_verdict, empty_set_told}
+use Rattle.machine.specs.Player.{has_bad_length, bad_step, missed_set, lasso_validity, start_partner, start_validity, section_after, follow, step_to, place_at, same_place, last_round, earlier_round, stem_length, loop_length, run, play_validity, play_answer, Played, played}
 
 -- a machine whose start state is 0, from the lists of its states' observations and successor masks and of its sets
-machineOf : List ℕ → List ℕ → List ℕ → Machine
-machineOf observations successors sets = record {
+machine_of : List ℕ → List ℕ → List ℕ → Machine
+machine_of observations successors sets = record {
   states = length observations;
   sets = length sets;
   start = 1;
@@ -35,24 +35,24 @@ machineOf observations successors sets = record {
 -- "By" has the rig before it and the score after it.
 infix 20 ◌by◌
 ◌by◌ : Machine → Machine → Pair
-C by A = pairUnder 0 C A
+C by A = pair_under 0 C A
 
 -- the same machines under a hidden mask
 under : ℕ → Pair → Pair
-under hidden p = pairUnder hidden p.concrete p.abstraction
+under hidden p = pair_under hidden p.concrete p.abstraction
 
 -- K with its observation and its sets
 K : ℕ → List ℕ → Machine
-K o sets = machineOf (o ∷ []) (1 ∷ []) sets
+K o sets = machine_of (o ∷ []) (1 ∷ []) sets
 
 S : Machine
-S = machineOf (0 ∷ 0 ∷ []) (3 ∷ 2 ∷ []) (2 ∷ [])
+S = machine_of (0 ∷ 0 ∷ []) (3 ∷ 2 ∷ []) (2 ∷ [])
 
 Late : Machine
-Late = machineOf (0 ∷ 1 ∷ 2 ∷ 3 ∷ []) (2 ∷ 12 ∷ 4 ∷ 8 ∷ []) (15 ∷ [])
+Late = machine_of (0 ∷ 1 ∷ 2 ∷ 3 ∷ []) (2 ∷ 12 ∷ 4 ∷ 8 ∷ []) (15 ∷ [])
 
 Early : Machine
-Early = machineOf (0 ∷ 1 ∷ 1 ∷ 2 ∷ 3 ∷ []) (6 ∷ 8 ∷ 16 ∷ 8 ∷ 16 ∷ []) (31 ∷ [])
+Early = machine_of (0 ∷ 1 ∷ 1 ∷ 2 ∷ 3 ∷ []) (6 ∷ 8 ∷ 16 ∷ 8 ∷ 16 ∷ []) (31 ∷ [])
 
 -- what a case asks, and what is answered: the solver's table, the check's verdict on a table and whether a concrete set is empty, the player's run;
 -- the ranks alone, of machines that the solver refuses or not, and what stops the player
@@ -64,22 +64,22 @@ data Reply : Type 0 where
   stops : Result Played → Reply
 
 solve : Pair → Reply
-solve p = solves (andThen (nonemptyValidity p) (answer (solverTable p)))
+solve p = solves (and_then (nonempty_validity p) (answer (solver_table p)))
 
-rankAll : Pair → Reply
-rankAll p = ranks (solverTable p)
+rank_all : Pair → Reply
+rank_all p = ranks (solver_table p)
 
 check : Pair → List ℕ → Reply
-check p T = let v = linesVerdict p T in says v (emptySetTold p v)
+check p T = let v = lines_verdict p T in says v (empty_set_told p v)
 
-solveAndCheck : Pair → Reply
-solveAndCheck p = check p (solverTable p)
+solve_and_check : Pair → Reply
+solve_and_check p = check p (solver_table p)
 
 play : Pair → List ℕ → Lasso → Reply
-play p T l = plays (playAnswer p T l) (run p T l)
+play p T l = plays (play_answer p T l) (run p T l)
 
 stop : Pair → List ℕ → Lasso → Reply
-stop p T l = stops (playAnswer p T l)
+stop p T l = stops (play_answer p T l)
 
 -- cases 1 to 12; by document 02, No. 7, cases 2 and 3 are refusals
 asked : List Reply
@@ -89,14 +89,14 @@ asked =
     ∷ solve (K 0 (0 ∷ []) by K 0 (0 ∷ []))
     ∷ solve (K 0 (1 ∷ []) by K 1 (1 ∷ []))
     ∷ solve (K 0 (1 ∷ []) by S)
-    ∷ solveAndCheck (K 0 (1 ∷ []) by S)
+    ∷ solve_and_check (K 0 (1 ∷ []) by S)
     ∷ check (K 0 (1 ∷ []) by S) (1 ∷ 0 ∷ [])
     ∷ check (K 0 (1 ∷ []) by S) (0 ∷ 0 ∷ [])
     ∷ check (K 0 (1 ∷ []) by S) (3 ∷ 0 ∷ [])
     ∷ check (K 0 (1 ∷ []) by S) (blank ∷ 0 ∷ [])
     ∷ play (K 0 (1 ∷ []) by S) (2 ∷ 0 ∷ []) (record { stem = []; loop = 0 ∷ [] })
-    ∷ solveAndCheck (Late by Early)
-    ∷ solveAndCheck (Early by Late)
+    ∷ solve_and_check (Late by Early)
+    ∷ solve_and_check (Early by Late)
     ∷ []
 
 answered : List Reply
@@ -110,58 +110,58 @@ answered =
     ∷ says (answer (carried 2)) false
     ∷ says (refused (refusal 12 1 0 0)) false
     ∷ says (refused (refusal 12 1 0 0)) false
-    ∷ says (answer (notCarried 0 1)) false
+    ∷ says (answer (not_carried 0 1)) false
     ∷ plays (answer (played 1 1)) (0 ∷ 1 ∷ [])
-    ∷ says (answer (notCarried 0 2)) false
+    ∷ says (answer (not_carried 0 2)) false
     ∷ says (answer (carried 5)) false
     ∷ []
 
 cases : asked ≡ answered
-unfolding machineOf ◌by◌ K S Late Early solve check solveAndCheck play asked answered not and or hasBit every some first sum count everyIn someIn maskOf table observation successors moves starts fairSet inFairSet sameObservation matched next andThen passOn countsOk beyond stateBeyond setBeyond beyondCounts firstEmpty hasEmptySet contentValidity setsValidity contentTests pairTests moment steps better least partner staying singleStep found stateOf iterate settle pairSet mem sameSet none allMatched goals inX roundX xOver xsOver union levelOver levels turn firstFamily sameFamily family levelOf setOf towerOver tower rankIn rankTable solverTable entryIndex entry covers coveredCount nonBlank lower atMost goalLine rankLine passes linesValidity startCovered lackingStart startVerdict linesVerdict emptySetTold badLength badStep missedSet lassoValidity startPartner startValidity sectionAfter follow stepTo placeAt samePlace lastRound earlierRound stemLength loopLength run playValidity playAnswer
+unfolding machine_of ◌by◌ K S Late Early solve check solve_and_check play asked answered not and or has_bit every some first sum count every_in some_in mask_of table observation successors moves starts fair_set in_fair_set same_observation matched next and_then pass_on counts_ok beyond state_beyond set_beyond is_beyond_counts first_empty has_empty_set content_validity sets_validity content_tests pair_tests moment steps better least partner staying single_step found state_of iterate settle pair_set mem same_set none all_matched goals in_x round_x x_over xs_over union level_over levels turn first_family same_family family level_of set_of tower_over tower rank_in rank_table solver_table entry_index entry covers covered_count non_blank lower at_most goal_line rank_line passes lines_validity start_covered lacking_start start_verdict lines_verdict empty_set_told has_bad_length bad_step missed_set lasso_validity start_partner start_validity section_after follow step_to place_at same_place last_round earlier_round stem_length loop_length run play_validity play_answer
 cases = refl
 
 -- a concrete machine of two states, 0 to 0 and 1 to 0, one observation
 Two : List ℕ → Machine
-Two sets = machineOf (0 ∷ 0 ∷ []) (1 ∷ 1 ∷ []) sets
+Two sets = machine_of (0 ∷ 0 ∷ []) (1 ∷ 1 ∷ []) sets
 
 -- a machine of one state, which has no successor, and of one set, which is empty
 Stuck : Machine
-Stuck = machineOf (0 ∷ []) (0 ∷ []) (0 ∷ [])
+Stuck = machine_of (0 ∷ []) (0 ∷ []) (0 ∷ [])
 
 -- a concrete machine that shows a lamp, bit 2, in every second state
 Lamp : Machine
-Lamp = machineOf (0 ∷ 4 ∷ []) (2 ∷ 1 ∷ []) (3 ∷ [])
+Lamp = machine_of (0 ∷ 4 ∷ []) (2 ∷ 1 ∷ []) (3 ∷ [])
 
 -- an abstract machine that goes from 0 to 1 or 2 and back, and shows the lamp in 2
 Choice : Machine
-Choice = machineOf (0 ∷ 0 ∷ 4 ∷ []) (6 ∷ 1 ∷ 1 ∷ []) (7 ∷ [])
+Choice = machine_of (0 ∷ 0 ∷ 4 ∷ []) (6 ∷ 1 ∷ 1 ∷ []) (7 ∷ [])
 
 -- an abstract machine that goes from 0 to 1, and from 1 to 0 or 1
 Back : List ℕ → Machine
-Back sets = machineOf (0 ∷ 0 ∷ []) (2 ∷ 3 ∷ []) sets
+Back sets = machine_of (0 ∷ 0 ∷ []) (2 ∷ 3 ∷ []) sets
 
 -- an abstract machine of three states that goes from each to the two others
 Others : Machine
-Others = machineOf (0 ∷ 0 ∷ 0 ∷ []) (6 ∷ 5 ∷ 3 ∷ []) (7 ∷ [])
+Others = machine_of (0 ∷ 0 ∷ 0 ∷ []) (6 ∷ 5 ∷ 3 ∷ []) (7 ∷ [])
 
 -- cases with two concrete states, or with more than one set; what check and player say of the machines of case 2 and of case 3, where NotCarried and a
 -- failing entry stand beside an empty concrete set too; the order of 21: the concrete machine's before 11 of the abstract one, 11 before 21 of the
 -- same machine, and the lowest set first; then case 4 with bit 0 hidden and with bit 1 hidden, a lamp that is compared and one
 -- that is hidden, and a play in which the hidden lamp leaves the lowest state to be taken; then plays that stay in the present state, 1, though the
 -- lower state 0 is as good; that leave it for a lower entry; and that leave it since it has no move to itself
-askedMore : List Reply
-askedMore =
-    rankAll (Two (2 ∷ []) by K 0 (0 ∷ []))
+asked_more : List Reply
+asked_more =
+    rank_all (Two (2 ∷ []) by K 0 (0 ∷ []))
     ∷ check (Two (2 ∷ []) by K 0 (0 ∷ [])) (1 ∷ 1 ∷ [])
     ∷ check (K 0 (1 ∷ []) by K 0 (0 ∷ [])) (1 ∷ [])
     ∷ check (K 0 (0 ∷ []) by K 0 (0 ∷ 0 ∷ [])) (blank ∷ 1 ∷ [])
     ∷ check (K 0 (0 ∷ []) by K 0 (0 ∷ 1 ∷ [])) (blank ∷ 0 ∷ [])
-    ∷ rankAll (K 0 (1 ∷ []) by K 0 (0 ∷ 1 ∷ []))
-    ∷ rankAll (K 0 (1 ∷ 0 ∷ []) by K 0 (0 ∷ 0 ∷ []))
-    ∷ rankAll (K 0 (1 ∷ []) by K 0 (0 ∷ []))
+    ∷ rank_all (K 0 (1 ∷ []) by K 0 (0 ∷ 1 ∷ []))
+    ∷ rank_all (K 0 (1 ∷ 0 ∷ []) by K 0 (0 ∷ 0 ∷ []))
+    ∷ rank_all (K 0 (1 ∷ []) by K 0 (0 ∷ []))
     ∷ check (K 0 (1 ∷ []) by K 0 (0 ∷ [])) (blank ∷ [])
     ∷ stop (K 0 (1 ∷ []) by K 0 (0 ∷ [])) (blank ∷ []) (record { stem = []; loop = 0 ∷ [] })
-    ∷ rankAll (K 0 (0 ∷ []) by K 0 (0 ∷ []))
+    ∷ rank_all (K 0 (0 ∷ []) by K 0 (0 ∷ []))
     ∷ check (K 0 (0 ∷ []) by K 0 (0 ∷ [])) (1 ∷ [])
     ∷ stop (K 0 (0 ∷ []) by K 0 (0 ∷ [])) (1 ∷ []) (record { stem = []; loop = 0 ∷ [] })
     ∷ check (K 0 (0 ∷ []) by K 0 (0 ∷ [])) (blank ∷ [])
@@ -171,10 +171,10 @@ askedMore =
     ∷ solve (Stuck by K 0 (1 ∷ []))
     ∷ solve (K 0 (1 ∷ []) by K 0 (1 ∷ 0 ∷ 0 ∷ []))
     ∷ solve (under 1 (K 0 (1 ∷ []) by K 1 (1 ∷ [])))
-    ∷ solveAndCheck (under 1 (K 0 (1 ∷ []) by K 1 (1 ∷ [])))
+    ∷ solve_and_check (under 1 (K 0 (1 ∷ []) by K 1 (1 ∷ [])))
     ∷ solve (under 2 (K 0 (1 ∷ []) by K 1 (1 ∷ [])))
-    ∷ solveAndCheck (Lamp by K 0 (1 ∷ []))
-    ∷ solveAndCheck (under 4 (Lamp by K 0 (1 ∷ [])))
+    ∷ solve_and_check (Lamp by K 0 (1 ∷ []))
+    ∷ solve_and_check (under 4 (Lamp by K 0 (1 ∷ [])))
     ∷ solve (Lamp by Choice)
     ∷ solve (under 4 (Lamp by Choice))
     ∷ play (Lamp by Choice) (0 ∷ blank ∷ blank ∷ blank ∷ blank ∷ 0 ∷ []) (record { stem = []; loop = 0 ∷ 1 ∷ [] })
@@ -187,22 +187,22 @@ askedMore =
     ∷ play (K 0 (1 ∷ []) by Others) (0 ∷ 0 ∷ 0 ∷ []) (record { stem = []; loop = 0 ∷ [] })
     ∷ []
 
-answeredMore : List Reply
-answeredMore =
+answered_more : List Reply
+answered_more =
     ranks (1 ∷ 2 ∷ [])
     ∷ says (refused (refusal 12 1 1 0)) false
     ∷ says (refused (refusal 12 1 0 0)) false
-    ∷ says (answer (notCarried 0 1)) true
+    ∷ says (answer (not_carried 0 1)) true
     ∷ says (refused (refusal 12 2 0 0)) false
     ∷ ranks (blank ∷ blank ∷ [])
     ∷ ranks (2 ∷ 2 ∷ [])
     ∷ ranks (blank ∷ [])
-    ∷ says (answer (notCarried 0 0)) false
+    ∷ says (answer (not_carried 0 0)) false
     ∷ stops (refused (refusal 16 0 0 0))
     ∷ ranks (1 ∷ [])
     ∷ says (answer (carried 1)) true
     ∷ stops (refused (refusal 15 1 0 0))
-    ∷ says (answer (notCarried 0 0)) true
+    ∷ says (answer (not_carried 0 0)) true
     ∷ says (refused (refusal 12 1 0 0)) false
     ∷ solves (refused (refusal 21 0 2 0))
     ∷ solves (refused (refusal 11 1 0 0))
@@ -211,7 +211,7 @@ answeredMore =
     ∷ solves (answer (0 ∷ []))
     ∷ says (answer (carried 1)) false
     ∷ solves (answer (blank ∷ []))
-    ∷ says (answer (notCarried 0 0)) false
+    ∷ says (answer (not_carried 0 0)) false
     ∷ says (answer (carried 2)) false
     ∷ solves (answer (0 ∷ blank ∷ blank ∷ blank ∷ blank ∷ 0 ∷ []))
     ∷ solves (answer (0 ∷ 0 ∷ 0 ∷ 0 ∷ 0 ∷ 0 ∷ []))
@@ -225,6 +225,6 @@ answeredMore =
     ∷ plays (answer (played 0 2)) (0 ∷ 1 ∷ [])
     ∷ []
 
-casesMore : askedMore ≡ answeredMore
-unfolding machineOf ◌by◌ K S Late Early solve rankAll check solveAndCheck play stop askedMore answeredMore Two Stuck under Lamp Choice Back Others not and or hasBit every some first sum count everyIn someIn maskOf table observation successors moves starts fairSet inFairSet sameObservation matched next andThen passOn countsOk beyond stateBeyond setBeyond beyondCounts firstEmpty hasEmptySet contentValidity setsValidity contentTests pairTests moment steps better least partner staying singleStep found stateOf iterate settle pairSet mem sameSet none allMatched goals inX roundX xOver xsOver union levelOver levels turn firstFamily sameFamily family levelOf setOf towerOver tower rankIn rankTable solverTable entryIndex entry covers coveredCount nonBlank lower atMost goalLine rankLine passes linesValidity startCovered lackingStart startVerdict linesVerdict emptySetTold badLength badStep missedSet lassoValidity startPartner startValidity sectionAfter follow stepTo placeAt samePlace lastRound earlierRound stemLength loopLength run playValidity playAnswer
-casesMore = refl
+cases_more : asked_more ≡ answered_more
+unfolding machine_of ◌by◌ K S Late Early solve rank_all check solve_and_check play stop asked_more answered_more Two Stuck under Lamp Choice Back Others not and or has_bit every some first sum count every_in some_in mask_of table observation successors moves starts fair_set in_fair_set same_observation matched next and_then pass_on counts_ok beyond state_beyond set_beyond is_beyond_counts first_empty has_empty_set content_validity sets_validity content_tests pair_tests moment steps better least partner staying single_step found state_of iterate settle pair_set mem same_set none all_matched goals in_x round_x x_over xs_over union level_over levels turn first_family same_family family level_of set_of tower_over tower rank_in rank_table solver_table entry_index entry covers covered_count non_blank lower at_most goal_line rank_line passes lines_validity start_covered lacking_start start_verdict lines_verdict empty_set_told has_bad_length bad_step missed_set lasso_validity start_partner start_validity section_after follow step_to place_at same_place last_round earlier_round stem_length loop_length run play_validity play_answer
+cases_more = refl

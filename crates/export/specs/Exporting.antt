@@ -2,28 +2,28 @@
 -- not looked at.
 use Rattle.std.specs.Prelude.{cond, List, ℕ, eqb, ltb, length}
 use Rattle.machine.specs.declared.Machine.{Machine}
-use Rattle.machine.specs.Refusals.{Result, answer, refused, Tested, valid, andThen, refusal, out-of-range, bufferValidity, bufferAfter}
-use Rattle.machine.specs.Table.{tableRoom}
-use Rattle.codec.specs.Reader.{pairOf, readValidity}
-use Rattle.hanoi.specs.Text.{textRoom, hoaText}
+use Rattle.machine.specs.Refusals.{Result, answer, refused, Tested, valid, and_then, refusal, out_of_range, buffer_validity, buffer_after}
+use Rattle.machine.specs.Table.{table_room}
+use Rattle.codec.specs.Reader.{pair_of, read_validity}
+use Rattle.hanoi.specs.Text.{text_room, hoa_text}
 
 -- "rig (0), score (1)": which machine of a file
-unfoldable pub machineIn : List ℕ → ℕ → Machine
-machineIn f which = cond (eqb which 0) (pairOf f).concrete (pairOf f).abstraction
+unfoldable pub machine_in : List ℕ → ℕ → Machine
+machine_in f which = cond (eqb which 0) (pair_of f).concrete (pair_of f).abstraction
 
 -- 20: a number that is neither
-unfoldable pub whichValidity : ℕ → Tested
-whichValidity which = cond (ltb which 2) valid (refused (refusal out-of-range 0 0 0))
+unfoldable pub which_validity : ℕ → Tested
+which_validity which = cond (ltb which 2) valid (refused (refusal out_of_range 0 0 0))
 
 -- all that is tested: 1 of the lent buffer, then all that the reader tests, then 20. Machines that were read are well formed, so that 5 and 9 to 11 are
 -- the reader's.
-unfoldable pub exportValidity : List ℕ → ℕ → ℕ → Tested
-exportValidity f which room = andThen (bufferValidity textRoom room) (andThen (readValidity f tableRoom) (whichValidity which))
+unfoldable pub export_validity : List ℕ → ℕ → ℕ → Tested
+export_validity f which room = and_then (buffer_validity text_room room) (and_then (read_validity f table_room) (which_validity which))
 
 -- the text's length, or a refusal
-unfoldable pub exportAnswer : List ℕ → ℕ → ℕ → Result ℕ
-exportAnswer f which room = andThen (exportValidity f which room) (answer (length (hoaText (machineIn f which))))
+unfoldable pub export_answer : List ℕ → ℕ → ℕ → Result ℕ
+export_answer f which room = and_then (export_validity f which room) (answer (length (hoa_text (machine_in f which))))
 
 -- the lent buffer's final content
-unfoldable pub exportBuffer : List ℕ → ℕ → List ℕ → List ℕ
-exportBuffer f which buffer = bufferAfter (exportValidity f which (length buffer)) (hoaText (machineIn f which)) buffer
+unfoldable pub export_buffer : List ℕ → ℕ → List ℕ → List ℕ
+export_buffer f which buffer = buffer_after (export_validity f which (length buffer)) (hoa_text (machine_in f which)) buffer

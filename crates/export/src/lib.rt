@@ -2,17 +2,17 @@
 #![tactic(auto)]
 
 ghost use Rattle.std.specs.Prelude.{◌≡◌, length};
-ghost use Rattle.machine.specs.Refusals.{spotAfter};
-ghost use Rattle.codec.specs.Answers.{sizedOf, lengthOf};
-ghost use Rattle.export.specs.Exporting.{exportAnswer, exportBuffer};
+ghost use Rattle.machine.specs.Refusals.{spot_after};
+ghost use Rattle.codec.specs.Answers.{sized_of, length_of};
+ghost use Rattle.export.specs.Exporting.{export_answer, export_buffer};
 
 use codec::{Reading, Size};
 
 // Writes the text of one machine of a file into a lent buffer of 20,000 bytes or more: of the concrete machine for 0, of the abstract one for 1. It
 // gives the text's length, or where the call was stopped.
 pub fn text_bytes(bytes: &[u8], which: usize, out: &mut [u8]) -> Size
-    ensures answer { sizedOf result ≡ exportAnswer bytes.now which (length out.old) }
-    ensures content { out.new ≡ exportBuffer bytes.now which out.old }
+    ensures answer { sized_of result ≡ export_answer bytes.now which (length out.old) }
+    ensures content { out.new ≡ export_buffer bytes.now which out.old }
 {
     if out.len() < hanoi::TEXT_ROOM {
         return Size::Refused(machine::refuse(machine::SHORT_BUFFER, 0, 0, 0));
@@ -35,9 +35,9 @@ pub fn text_bytes(bytes: &[u8], which: usize, out: &mut [u8]) -> Size
 
 // The same for C: the text's length, or 0 with the refusal's number and spot in `spot`, which is unchanged beside a length.
 pub fn hoa_file(bytes: &[u8], which: usize, out: &mut [u8], spot: &mut [u64; 4]) -> usize
-    ensures value { result ≡ lengthOf (exportAnswer bytes.now which (length out.old)) }
-    ensures content { out.new ≡ exportBuffer bytes.now which out.old }
-    ensures numbers { spot.new ≡ spotAfter (exportAnswer bytes.now which (length out.old)) spot.old }
+    ensures value { result ≡ length_of (export_answer bytes.now which (length out.old)) }
+    ensures content { out.new ≡ export_buffer bytes.now which out.old }
+    ensures numbers { spot.new ≡ spot_after (export_answer bytes.now which (length out.old)) spot.old }
 {
     match text_bytes(bytes, which, out) {
         Size::Bytes(n) => n,

@@ -3,53 +3,53 @@ use Rattle.std.specs.Prelude.{List, ◌++◌, ◌≡◌, ℕ, ◌≤◌, ◌<◌
 use Rattle.std.proofs.Common.{sym, ap, ◌∙◌, arith}
 use Rattle.machine.specs.declared.Machine.{Machine}
 use Rattle.machine.specs.declared.Refusal.{Refusal}
-use Rattle.machine.specs.Refusals.{answer, refused, valid, refusal, short-buffer}
-use Rattle.machine.specs.RefusalsLaws.{then-of, then-refused, buffer-valid, buffer-short, buffer-made, buffer-kept}
-use Rattle.machine.specs.WellFormed.{machineValidity}
+use Rattle.machine.specs.Refusals.{answer, refused, valid, refusal, short_buffer}
+use Rattle.machine.specs.RefusalsLaws.{then_of, then_refused, buffer_valid, buffer_short, buffer_made, buffer_kept}
+use Rattle.machine.specs.WellFormed.{machine_validity}
 use Rattle.machine.specs.WellFormedLaws.{WellMachine}
-use Rattle.codec.specs.ListLaws.{sets-front}
-use Rattle.hanoi.specs.Text.{textRoom, hoaText, textValidity, textAnswer, textBuffer}
-use Rattle.hanoi.specs.Parts.{textParts}
+use Rattle.codec.specs.ListLaws.{sets_front}
+use Rattle.hanoi.specs.Text.{text_room, hoa_text, text_validity, text_answer, text_buffer}
+use Rattle.hanoi.specs.Parts.{text_parts}
 use Rattle.hanoi.specs.Puts.{Placed}
-use Rattle.hanoi.specs.PutLaws.{Left, left-parts}
-use Rattle.hanoi.proofs.TextLaws.{text-parts}
-use Rattle.hanoi.proofs.FitsLaws.{text-most}
+use Rattle.hanoi.specs.PutLaws.{Left, left_parts}
+use Rattle.hanoi.proofs.TextLaws.{text_parts_lem}
+use Rattle.hanoi.proofs.FitsLaws.{text_most}
 
 -- the parts of a well-formed machine's text, and their room
-pub text-start : (out : List ℕ) (m : Machine) → WellMachine 8 m
-    → Left out 0 (hoaText m) out 0 (textParts m)
-text-start out m w = left-parts out 0 (hoaText m) _ (text-parts m (omega (arith, w.sets-high))) (omega (arith, text-most m w))
+pub text_start : (out : List ℕ) (m : Machine) → WellMachine 8 m
+    → Left out 0 (hoa_text m) out 0 (text_parts m)
+text_start out m w = left_parts out 0 (hoa_text m) _ (text_parts_lem m (omega (arith, w.sets_high))) (omega (arith, text_most m w))
 
 module _ (m : Machine) (buffer : List ℕ) where
-  stopped : (r : Refusal) → textValidity m (length buffer) ≡ refused r → (textAnswer m (length buffer) ≡ refused r) × (textBuffer m buffer ≡ buffer)
-  unfolding textAnswer textBuffer
-  stopped r e = (then-refused _ _ r e, buffer-kept _ _ buffer e)
+  stopped : (r : Refusal) → text_validity m (length buffer) ≡ refused r → (text_answer m (length buffer) ≡ refused r) × (text_buffer m buffer ≡ buffer)
+  unfolding text_answer text_buffer
+  stopped r e = (then_refused _ _ r e, buffer_kept _ _ buffer e)
 
-  pub text-short : length buffer < textRoom → (textAnswer m (length buffer) ≡ refused (refusal short-buffer 0 0 0)) × (textBuffer m buffer ≡ buffer)
-  unfolding textValidity
-  text-short h = stopped _ (then-refused _ _ _ (buffer-short textRoom (length buffer) h))
+  pub text_short : length buffer < text_room → (text_answer m (length buffer) ≡ refused (refusal short_buffer 0 0 0)) × (text_buffer m buffer ≡ buffer)
+  unfolding text_validity
+  text_short h = stopped _ (then_refused _ _ _ (buffer_short text_room (length buffer) h))
 
-  pub text-stopped : {r : Refusal} → textRoom ≤ length buffer → machineValidity 8 m ≡ refused r
-      → (textAnswer m (length buffer) ≡ refused r) × (textBuffer m buffer ≡ buffer)
-  unfolding textValidity
-  text-stopped h e = stopped _ (then-of _ _ (buffer-valid textRoom (length buffer) h) ∙ e)
+  pub text_stopped : {r : Refusal} → text_room ≤ length buffer → machine_validity 8 m ≡ refused r
+      → (text_answer m (length buffer) ≡ refused r) × (text_buffer m buffer ≡ buffer)
+  unfolding text_validity
+  text_stopped h e = stopped _ (then_of _ _ (buffer_valid text_room (length buffer) h) ∙ e)
 
-  module _ (h : textRoom ≤ length buffer) (e : machineValidity 8 m ≡ valid) where
-    tests : textValidity m (length buffer) ≡ valid
-    unfolding textValidity
-    tests = then-of _ _ (buffer-valid textRoom (length buffer) h) ∙ e
+  module _ (h : text_room ≤ length buffer) (e : machine_validity 8 m ≡ valid) where
+    tests : text_validity m (length buffer) ≡ valid
+    unfolding text_validity
+    tests = then_of _ _ (buffer_valid text_room (length buffer) h) ∙ e
 
-    pub text-given : textAnswer m (length buffer) ≡ answer (length (hoaText m))
-    unfolding textAnswer
-    text-given = then-of _ _ tests
+    pub text_given : text_answer m (length buffer) ≡ answer (length (hoa_text m))
+    unfolding text_answer
+    text_given = then_of _ _ tests
 
-    pub text-left : textBuffer m buffer ≡ hoaText m ++ drop (length (hoaText m)) buffer
-    unfolding textBuffer
-    text-left = buffer-made _ _ buffer tests
+    pub text_left : text_buffer m buffer ≡ hoa_text m ++ drop (length (hoa_text m)) buffer
+    unfolding text_buffer
+    text_left = buffer_made _ _ buffer tests
 
-    pub text-placed : WellMachine 8 m → {after : List ℕ} {n : ℕ} → Placed buffer 0 (hoaText m) after n
-        → (answer n ≡ textAnswer m (length buffer)) × (after ≡ textBuffer m buffer)
-    text-placed w p = (
-      ap answer (omega (arith, p.place)) ∙ sym text-given,
-      p.bytes ∙ sets-front buffer (hoaText m) (omega (arith, text-most m w)) ∙ sym text-left,
+    pub text_placed : WellMachine 8 m → {after : List ℕ} {n : ℕ} → Placed buffer 0 (hoa_text m) after n
+        → (answer n ≡ text_answer m (length buffer)) × (after ≡ text_buffer m buffer)
+    text_placed w p = (
+      ap answer (omega (arith, p.place)) ∙ sym text_given,
+      p.bytes ∙ sets_front buffer (hoa_text m) (omega (arith, text_most m w)) ∙ sym text_left,
     )

@@ -2,12 +2,12 @@
 -- several. Its masks all differ, and so do the numbers of states and sets; no two bits can change places in all observations and leave the text as it is.
 use mathlib.Core.List.{◌∷◌, ◌++◌, flat_map, flatten}
 use Rattle.std.specs.Prelude.{◌≡◌, refl, replicate}
-use Rattle.mask.specs.Bits.{hasBit}
-use Rattle.text.specs.Decimal.{decimal, digitsUpTo}
+use Rattle.mask.specs.Bits.{has_bit}
+use Rattle.text.specs.Decimal.{decimal, digits_up_to}
 use Rattle.machine.specs.declared.Machine.{Machine}
-use Rattle.machine.specs.Machines.{observation, successors, fairSet, inFairSet}
-use Rattle.hanoi.specs.Words.{ascii, numbers, chosen, statesOf, spread, joined}
-use Rattle.hanoi.specs.Text.{line, startLine, name, namesLine, infinitely, acceptance, literal, label, setsWith, inBraces, stateLines, hoaText}
+use Rattle.machine.specs.Machines.{observation, successors, fair_set, in_fair_set}
+use Rattle.hanoi.specs.Words.{ascii, numbers, chosen, states_of, spread, joined}
+use Rattle.hanoi.specs.Text.{line, start_line, name, names_line, infinitely, acceptance, literal, label, sets_with, in_braces, state_lines, hoa_text}
 
 distinct : Machine
 distinct = record {
@@ -19,7 +19,7 @@ distinct = record {
   fairness = 4 ∷ 6 ∷ replicate 6 0;
 }
 
-distinct-text : hoaText distinct
+distinct_text : hoa_text distinct
     ≡ ascii "HOA: v1\n"
     ++ ascii "States: 3\n"
     ++ ascii "Start: 0\n"
@@ -36,5 +36,5 @@ distinct-text : hoaText distinct
     ++ ascii "State: [!0&!1&!2&!3&4&5&6&7] 2 {0 1}\n"
     ++ ascii "0 1 2\n"
     ++ ascii "--END--\n"
-unfolding distinct flat_map flatten hoaText line startLine name namesLine infinitely acceptance literal label setsWith inBraces stateLines numbers chosen statesOf spread joined decimal digitsUpTo observation successors inFairSet fairSet hasBit
-distinct-text = refl
+unfolding distinct flat_map flatten hoa_text line start_line name names_line infinitely acceptance literal label sets_with in_braces state_lines numbers chosen states_of spread joined decimal digits_up_to observation successors in_fair_set fair_set has_bit
+distinct_text = refl

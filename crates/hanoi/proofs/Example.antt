@@ -2,12 +2,12 @@
 -- successors, a bit that is one.
 use mathlib.Core.List.{◌∷◌, ◌++◌, flat_map, flatten}
 use Rattle.std.specs.Prelude.{◌≡◌, refl, replicate}
-use Rattle.mask.specs.Bits.{hasBit}
-use Rattle.text.specs.Decimal.{decimal, digitsUpTo}
+use Rattle.mask.specs.Bits.{has_bit}
+use Rattle.text.specs.Decimal.{decimal, digits_up_to}
 use Rattle.machine.specs.declared.Machine.{Machine}
-use Rattle.machine.specs.Machines.{observation, successors, fairSet, inFairSet}
-use Rattle.hanoi.specs.Words.{ascii, numbers, chosen, statesOf, spread, joined}
-use Rattle.hanoi.specs.Text.{line, startLine, name, namesLine, infinitely, acceptance, literal, label, setsWith, inBraces, stateLines, hoaText}
+use Rattle.machine.specs.Machines.{observation, successors, fair_set, in_fair_set}
+use Rattle.hanoi.specs.Words.{ascii, numbers, chosen, states_of, spread, joined}
+use Rattle.hanoi.specs.Text.{line, start_line, name, names_line, infinitely, acceptance, literal, label, sets_with, in_braces, state_lines, hoa_text}
 
 example : Machine
 example = record {
@@ -19,7 +19,7 @@ example = record {
   fairness = 2 ∷ 2 ∷ replicate 6 0;
 }
 
-example-text : hoaText example
+example_text : hoa_text example
     ≡ ascii "HOA: v1\n"
     ++ ascii "States: 2\n"
     ++ ascii "Start: 0\n"
@@ -34,5 +34,5 @@ example-text : hoaText example
     ++ ascii "State: [!0&!1&!2&!3&!4&!5&!6&!7] 1 {0 1}\n"
     ++ ascii "1\n"
     ++ ascii "--END--\n"
-unfolding example flat_map flatten hoaText line startLine name namesLine infinitely acceptance literal label setsWith inBraces stateLines numbers chosen statesOf spread joined decimal digitsUpTo observation successors inFairSet fairSet hasBit
-example-text = refl
+unfolding example flat_map flatten hoa_text line start_line name names_line infinitely acceptance literal label sets_with in_braces state_lines numbers chosen states_of spread joined decimal digits_up_to observation successors in_fair_set fair_set has_bit
+example_text = refl

@@ -2,12 +2,12 @@
 use Rattle.std.specs.Prelude.{Bool, cond, ℕ, zero, suc}
 use mathlib.Core.List.{List, [], ◌∷◌, ◌++◌, flat_map}
 use Prim.Native.Char.{code}
-use Prim.Native.String.{String, [] as noText, ◌∷◌ as ◌then◌}
-use Rattle.mask.specs.Bits.{hasBit}
+use Prim.Native.String.{String, [] as no_text, ◌∷◌ as ◌then◌}
+use Rattle.mask.specs.Bits.{has_bit}
 
 -- the bytes of a quoted text of ASCII characters
 abbrev pub ascii : String → List ℕ
-ascii noText = []
+ascii no_text = []
 ascii (c then s) = code c ∷ ascii s
 
 -- `count` numbers from `first` on, ascending
@@ -25,8 +25,8 @@ chosen p [] = []
 chosen p (x ∷ l) = let later = chosen p l in cond (p x) (x ∷ later) later
 
 -- the states of a mask, ascending; of a mask of sets, the sets. Document 01: "A mask is 64 bits wide; bit s means state s."
-unfoldable pub statesOf : ℕ → List ℕ
-statesOf mask = chosen (hasBit mask) (below 64)
+unfoldable pub states_of : ℕ → List ℕ
+states_of mask = chosen (has_bit mask) (below 64)
 
 -- each item of a list behind `between`
 unfoldable pub spread : List ℕ → List (List ℕ) → List ℕ

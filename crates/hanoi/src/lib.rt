@@ -3,13 +3,13 @@
 #![tactic(auto)]
 
 ghost use Rattle.std.specs.Prelude.{cond, ◌++◌, ◌≡◌, ◌≤◌, ◌<◌, length};
-ghost use Rattle.mask.specs.Bits.{hasBit};
+ghost use Rattle.mask.specs.Bits.{has_bit};
 ghost use Rattle.text.specs.Decimal.{decimal};
 ghost use Rattle.machine.specs.Refusals.{valid};
-ghost use Rattle.machine.specs.WellFormed.{machineValidity};
-ghost use Rattle.codec.specs.Answers.{sizedOf};
-ghost use Rattle.hanoi.specs.Text.{acceptance, label, hoaText, textAnswer, textBuffer};
-ghost use Rattle.hanoi.specs.Parts.{items, startLines, braces, stateText, setsMask, linesBelow, headText};
+ghost use Rattle.machine.specs.WellFormed.{machine_validity};
+ghost use Rattle.codec.specs.Answers.{sized_of};
+ghost use Rattle.hanoi.specs.Text.{acceptance, label, hoa_text, text_answer, text_buffer};
+ghost use Rattle.hanoi.specs.Parts.{items, start_lines, braces, state_text, sets_mask, lines_below, head_text};
 ghost use Rattle.hanoi.specs.Puts.{Room, Placed};
 
 use codec::Size;
@@ -60,8 +60,8 @@ fn put_items(out: &mut [u8], at: usize, m: u64) -> usize
 
 // Puts a line for each start state.
 fn put_starts(out: &mut [u8], at: usize, start: u64) -> usize
-    requires { Room at (startLines start) }
-    ensures { Placed out.old at (startLines start) out.new result }
+    requires { Room at (start_lines start) }
+    ensures { Placed out.old at (start_lines start) out.new result }
 {
     let mut to = at;
     let mut left = start;
@@ -90,8 +90,8 @@ fn put_acceptance(out: &mut [u8], at: usize, n: usize) -> usize
 // Puts all lines before those of the states, by the counts of states and sets and the start mask.
 fn put_head(out: &mut [u8], states: usize, sets: usize, start: u64) -> usize
     requires sets_nonzero { 0 < sets }
-    requires room { Room 0 (headText states sets start) }
-    ensures { Placed out.old 0 (headText states sets start) out.new result }
+    requires room { Room 0 (head_text states sets start) }
+    ensures { Placed out.old 0 (head_text states sets start) out.new result }
 {
     let counted = put_numbered(out, 0, b"HOA: v1\nStates: ", states);
     let starts = put_word(out, counted, b"\n");
@@ -116,8 +116,8 @@ fn put_head(out: &mut [u8], states: usize, sets: usize, start: u64) -> usize
 
 // Puts the number i behind the first word where bit i is one, and behind the second where it is zero.
 fn put_literal(out: &mut [u8], at: usize, o: u8, i: usize, one: &[u8], zero: &[u8]) -> usize
-    requires { Room at (cond (hasBit o i) one.now zero.now ++ decimal i) }
-    ensures { Placed out.old at (cond (hasBit o i) one.now zero.now ++ decimal i) out.new result }
+    requires { Room at (cond (has_bit o i) one.now zero.now ++ decimal i) }
+    ensures { Placed out.old at (cond (has_bit o i) one.now zero.now ++ decimal i) out.new result }
 {
     if mask::has(o as u64, i) {
         put_numbered(out, at, one, i)
@@ -153,8 +153,8 @@ fn put_braces(out: &mut [u8], at: usize, members: u64) -> usize
 
 // Puts the two lines of state s, by its observation and the masks of its sets and successors.
 fn put_state(out: &mut [u8], at: usize, s: usize, o: u8, members: u64, successors: u64) -> usize
-    requires { Room at (stateText s o members successors) }
-    ensures { Placed out.old at (stateText s o members successors) out.new result }
+    requires { Room at (state_text s o members successors) }
+    ensures { Placed out.old at (state_text s o members successors) out.new result }
 {
     let first = put_word(out, at, b"State: [");
     let labelled = put_label(out, first, o);
@@ -168,7 +168,7 @@ fn put_state(out: &mut [u8], at: usize, s: usize, o: u8, members: u64, successor
 // The mask of the sets below k that have state s.
 fn sets_with(k: usize, fairness: &[u64; 8], s: usize) -> u64
     requires { k ≤ 8 }
-    ensures { result ≡ setsMask k fairness.now s }
+    ensures { result ≡ sets_mask k fairness.now s }
 {
     let mut m: u64 = 0;
     for j in 0..k {
@@ -191,8 +191,8 @@ fn put_states(
 ) -> usize
     requires n_bound { n ≤ 64 }
     requires k_bound { k ≤ 8 }
-    requires room { Room at (linesBelow n k observations.now successors.now fairness.now) }
-    ensures { Placed out.old at (linesBelow n k observations.now successors.now fairness.now) out.new result }
+    requires room { Room at (lines_below n k observations.now successors.now fairness.now) }
+    ensures { Placed out.old at (lines_below n k observations.now successors.now fairness.now) out.new result }
 {
     let mut to = at;
     for s in 0..n {
@@ -206,8 +206,8 @@ fn put_states(
 
 // Puts the text of a well-formed machine at the front.
 fn put_text(out: &mut [u8], m: Machine) -> usize
-    requires { machineValidity 8 m ≡ valid }
-    ensures { Placed out.old 0 (hoaText m) out.new result }
+    requires { machine_validity 8 m ≡ valid }
+    ensures { Placed out.old 0 (hoa_text m) out.new result }
 {
     let observations = m.observations;
     let successors = m.successors;
@@ -227,8 +227,8 @@ fn put_text(out: &mut [u8], m: Machine) -> usize
 
 // Writes the text of one machine, of either kind, into a lent buffer of 20,000 bytes or more, and gives the text's length, or where the call was stopped.
 pub fn write_text(m: Machine, out: &mut [u8]) -> Size
-    ensures answer { sizedOf result ≡ textAnswer m (length out.old) }
-    ensures content { out.new ≡ textBuffer m out.old }
+    ensures answer { sized_of result ≡ text_answer m (length out.old) }
+    ensures content { out.new ≡ text_buffer m out.old }
 {
     if out.len() < TEXT_ROOM {
         return Size::Refused(machine::refuse(machine::SHORT_BUFFER, 0, 0, 0));

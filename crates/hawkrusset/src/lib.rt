@@ -2,22 +2,22 @@
 #![tactic(auto)]
 
 ghost use Rattle.std.specs.Prelude.{◌≡◌, take, length};
-ghost use Rattle.verdict.specs.Outcomes.{fileOutcome, outcomeNumber};
-ghost use Rattle.codec.specs.Reader.{sizeOf};
-ghost use Rattle.console.specs.FirstBlock.{sizeNumber};
-ghost use Rattle.machine.specs.Refusals.{spotAfter};
-ghost use Rattle.codec.specs.Answers.{lengthOf};
-ghost use Rattle.restore.specs.Restoring.{restoreAnswer, restoreBuffer};
+ghost use Rattle.verdict.specs.Outcomes.{file_outcome, outcome_number};
+ghost use Rattle.codec.specs.Reader.{size_of};
+ghost use Rattle.console.specs.FirstBlock.{size_number};
+ghost use Rattle.machine.specs.Refusals.{spot_after};
+ghost use Rattle.codec.specs.Answers.{length_of};
+ghost use Rattle.restore.specs.Restoring.{restore_answer, restore_buffer};
 ghost use Rattle.machine.specs.Lassos.{given};
-ghost use Rattle.playback.specs.Playing.{fileRun, fileRunBuffer, toldToC, runNumber};
-ghost use Rattle.watch.specs.Watching.{firstFile, firstFileRows, readyNumber, turnFile, turnFileRows, turnFileTable, toldNumber, lookUpFile};
-ghost use Rattle.export.specs.Exporting.{exportAnswer, exportBuffer};
+ghost use Rattle.playback.specs.Playing.{file_run, file_run_buffer, told_to_c, run_number};
+ghost use Rattle.watch.specs.Watching.{first_file, first_file_rows, ready_number, turn_file, turn_file_rows, turn_file_table, told_number, look_up_file};
+ghost use Rattle.export.specs.Exporting.{export_answer, export_buffer};
 
 // What is said of the file with these bytes, as one number: a refusal's, 101 without a table, 100 for Carried, or 200 with the lowest start state
 // that lacks a partner added.
 #[unsafe(no_mangle)]
 pub extern "C" fn console_answer(bytes: &[u8]) -> u32
-    ensures { result ≡ outcomeNumber (fileOutcome bytes.now) }
+    ensures { result ≡ outcome_number (file_outcome bytes.now) }
 {
     console::console_answer(bytes)
 }
@@ -26,7 +26,7 @@ pub extern "C" fn console_answer(bytes: &[u8]) -> u32
 // no more than the first block; fewer bytes are refused.
 #[unsafe(no_mangle)]
 pub extern "C" fn first_block_answer(bytes: &[u8]) -> u32
-    ensures { result ≡ sizeNumber (sizeOf (take 512 bytes.now)) }
+    ensures { result ≡ size_number (size_of (take 512 bytes.now)) }
 {
     console::first_block_answer(bytes)
 }
@@ -34,9 +34,9 @@ pub extern "C" fn first_block_answer(bytes: &[u8]) -> u32
 // The show of a file with the solver's table: the file's length, or 0 with the refusal's number and spot in `spot`, which is unchanged beside a length.
 #[unsafe(no_mangle)]
 pub extern "C" fn solve_file(bytes: &[u8], out: &mut [u8], spot: &mut [u64; 4]) -> usize
-    ensures value { result ≡ lengthOf (restoreAnswer bytes.now out.old) }
-    ensures content { out.new ≡ restoreBuffer bytes.now out.old }
-    ensures numbers { spot.new ≡ spotAfter (restoreAnswer bytes.now out.old) spot.old }
+    ensures value { result ≡ length_of (restore_answer bytes.now out.old) }
+    ensures content { out.new ≡ restore_buffer bytes.now out.old }
+    ensures numbers { spot.new ≡ spot_after (restore_answer bytes.now out.old) spot.old }
 {
     restore::solve_file(bytes, out, spot)
 }
@@ -51,9 +51,9 @@ pub extern "C" fn play_file(
     run: &mut [u8],
     spot: &mut [u64; 4],
 ) -> u64
-    ensures value { result ≡ runNumber (toldToC (fileRun bytes.now (given stem.now cycle.now) run.old)) }
-    ensures content { run.new ≡ fileRunBuffer bytes.now (given stem.now cycle.now) run.old }
-    ensures numbers { spot.new ≡ spotAfter (toldToC (fileRun bytes.now (given stem.now cycle.now) run.old)) spot.old }
+    ensures value { result ≡ run_number (told_to_c (file_run bytes.now (given stem.now cycle.now) run.old)) }
+    ensures content { run.new ≡ file_run_buffer bytes.now (given stem.now cycle.now) run.old }
+    ensures numbers { spot.new ≡ spot_after (told_to_c (file_run bytes.now (given stem.now cycle.now) run.old)) spot.old }
 {
     playback::play_file(bytes, stem, cycle, run, spot)
 }
@@ -65,9 +65,9 @@ pub extern "C" fn first_family_file(
     family: &mut [u64; 448],
     spot: &mut [u64; 4],
 ) -> u32
-    ensures number { result ≡ readyNumber (firstFile bytes.now) }
-    ensures rows { family.new ≡ firstFileRows bytes.now family.old }
-    ensures numbers { spot.new ≡ spotAfter (firstFile bytes.now) spot.old }
+    ensures number { result ≡ ready_number (first_file bytes.now) }
+    ensures rows { family.new ≡ first_file_rows bytes.now family.old }
+    ensures numbers { spot.new ≡ spot_after (first_file bytes.now) spot.old }
 {
     watch::first_family_file(bytes, family, spot)
 }
@@ -81,10 +81,10 @@ pub extern "C" fn turn_file(
     table: &mut [u16],
     spot: &mut [u64; 4],
 ) -> u32
-    ensures number { result ≡ toldNumber (turnFile bytes.now family.old (length table.old)) }
-    ensures rows { family.new ≡ turnFileRows bytes.now family.old (length table.old) }
-    ensures entries { table.new ≡ turnFileTable bytes.now family.old table.old }
-    ensures numbers { spot.new ≡ spotAfter (turnFile bytes.now family.old (length table.old)) spot.old }
+    ensures number { result ≡ told_number (turn_file bytes.now family.old (length table.old)) }
+    ensures rows { family.new ≡ turn_file_rows bytes.now family.old (length table.old) }
+    ensures entries { table.new ≡ turn_file_table bytes.now family.old table.old }
+    ensures numbers { spot.new ≡ spot_after (turn_file bytes.now family.old (length table.old)) spot.old }
 {
     watch::turn_file(bytes, family, table, spot)
 }
@@ -99,8 +99,8 @@ pub extern "C" fn look_up_file(
     a: usize,
     spot: &mut [u64; 4],
 ) -> u32
-    ensures number { result ≡ toldNumber (lookUpFile bytes.now family.now section c a) }
-    ensures numbers { spot.new ≡ spotAfter (lookUpFile bytes.now family.now section c a) spot.old }
+    ensures number { result ≡ told_number (look_up_file bytes.now family.now section c a) }
+    ensures numbers { spot.new ≡ spot_after (look_up_file bytes.now family.now section c a) spot.old }
 {
     watch::look_up_file(bytes, family, section, c, a, spot)
 }
@@ -108,9 +108,9 @@ pub extern "C" fn look_up_file(
 // The text of one machine of a file: the text's length, or 0 with the refusal's number and spot in `spot`, which is unchanged beside a length.
 #[unsafe(no_mangle)]
 pub extern "C" fn hoa_file(bytes: &[u8], which: usize, out: &mut [u8], spot: &mut [u64; 4]) -> usize
-    ensures value { result ≡ lengthOf (exportAnswer bytes.now which (length out.old)) }
-    ensures content { out.new ≡ exportBuffer bytes.now which out.old }
-    ensures numbers { spot.new ≡ spotAfter (exportAnswer bytes.now which (length out.old)) spot.old }
+    ensures value { result ≡ length_of (export_answer bytes.now which (length out.old)) }
+    ensures content { out.new ≡ export_buffer bytes.now which out.old }
+    ensures numbers { spot.new ≡ spot_after (export_answer bytes.now which (length out.old)) spot.old }
 {
     export::hoa_file(bytes, which, out, spot)
 }

@@ -2,5 +2,5 @@
 use Rattle.std.specs.Prelude.{ℕ, ◌+◌, ◌-◌, ◌/◌, ◌^◌}
 
 -- 2^19 / m, rounded up
-unfoldable pub reciprocalOf : ℕ → ℕ
-reciprocalOf m = (2 ^ 19 + m - 1) / m
+unfoldable pub reciprocal_of : ℕ → ℕ
+reciprocal_of m = (2 ^ 19 + m - 1) / m

@@ -1,22 +1,22 @@
 // The line check: document 01, "Line check". It sees the machines and the step, and not the solver.
 // Cost: for each non-blank entry and each successor of its concrete state, one search among the successors of its abstract state, which stops
-// at the first that serves: at most n x nC x nA x nC x nA looks at an entry, and on passing tables far fewer. Nothing divides but by fixed powers
+// at the first that serves: at most n x n_c x n_a x n_c x n_a looks at an entry, and on passing tables far fewer. Nothing divides but by fixed powers
 // of two.
 #![tactic(auto)]
 
 ghost use Rattle.std.specs.Prelude.{true, ◌≡◌, ◌<◌, ◌≤◌, length, get_or, eqb};
 ghost use Rattle.mask.specs.Logic.{not};
 ghost use Rattle.mask.specs.Bounded.{count};
-ghost use Rattle.machine.specs.WellFormed.{hasEmptySet, wellFormed};
-ghost use Rattle.machine.specs.Ranks.{levelOf, setOf};
-ghost use Rattle.machine.specs.Table.{blank, tableRoom};
-ghost use Rattle.machine.specs.Lines.{linesValidity};
-ghost use Rattle.machine.specs.Observed.{matchedMasks};
-ghost use Rattle.machine.specs.Refusals.{answer, testedOf};
-ghost use Rattle.machine.specs.Verdict.{lackingStart, startVerdict, checkVerdict, checkEmptySet};
-ghost use Rattle.linecheck.specs.Answers.{verdictOf, emptySetOf};
-ghost use Rattle.linecheck.specs.Bounds.{lineOf};
-ghost use Rattle.linecheck.specs.Reciprocal.{reciprocalOf};
+ghost use Rattle.machine.specs.WellFormed.{has_empty_set, well_formed};
+ghost use Rattle.machine.specs.Ranks.{level_of, set_of};
+ghost use Rattle.machine.specs.Table.{blank, table_room};
+ghost use Rattle.machine.specs.Lines.{lines_validity};
+ghost use Rattle.machine.specs.Observed.{matched_masks};
+ghost use Rattle.machine.specs.Refusals.{answer, tested_of};
+ghost use Rattle.machine.specs.Verdict.{lacking_start, start_verdict, check_verdict, check_empty_set};
+ghost use Rattle.linecheck.specs.Answers.{verdict_of, empty_set_of};
+ghost use Rattle.linecheck.specs.Bounds.{line_of};
+ghost use Rattle.linecheck.specs.Reciprocal.{reciprocal_of};
 
 use machine::{Pair, Refusal, Validity};
 
@@ -48,7 +48,7 @@ struct Level {
 // has an arm, so that the compiler makes a list of them and tests no range.
 fn reciprocal_of(m: usize) -> usize
     requires { (0 < m) × (m ≤ 8) }
-    ensures { result ≡ reciprocalOf m }
+    ensures { result ≡ reciprocal_of m }
 {
     match m % 8 {
         0 => 65536,
@@ -65,7 +65,7 @@ fn reciprocal_of(m: usize) -> usize
 // The l and k of an entry that is not 0. A division by m would be dear on some processors.
 fn level_of(m: usize, e: u16) -> Level
     requires { ((0 < m) × (m ≤ 8)) × (0 < e) }
-    ensures { (result.level ≡ levelOf m e) × (result.set ≡ setOf m e) }
+    ensures { (result.level ≡ level_of m e) × (result.set ≡ set_of m e) }
 {
     let entry = e as usize;
     let x = entry - 1;
@@ -91,7 +91,7 @@ fn line_of(
     abstract_set: u64,
 ) -> Line
     requires { (0 < m) × (m ≤ 8) }
-    ensures { result ≡ lineOf m most j next c a e matched concrete_sets.now abstract_set }
+    ensures { result ≡ line_of m most j next c a e matched concrete_sets.now abstract_set }
 {
     let fails = Line {
         holds: false,
@@ -126,8 +126,8 @@ fn line_of(
 
 // Whether each line of a table of well-formed machines holds, and if not where the first is that fails.
 fn lines_validity(p: Pair, matched: [u64; 64], table: &[u16]) -> Validity
-    requires { (wellFormed p ≡ true) × ((matched ≡ matchedMasks p) × (tableRoom ≤ length table.now)) }
-    ensures { testedOf result ≡ linesValidity p table.now }
+    requires { (well_formed p ≡ true) × ((matched ≡ matched_masks p) × (table_room ≤ length table.now)) }
+    ensures { tested_of result ≡ lines_validity p table.now }
 {
     let concrete = p.concrete;
     let abstraction = p.abstraction;
@@ -202,8 +202,8 @@ fn covered_count(table: &[u16], entries: usize) -> usize
 
 // The lowest concrete start state without an abstract start state beside it that is not blank in section 1; nc where there is none.
 fn lacking_start(p: Pair, table: &[u16]) -> usize
-    requires { (wellFormed p ≡ true) × (tableRoom ≤ length table.now) }
-    ensures { result ≡ lackingStart p table.now }
+    requires { (well_formed p ≡ true) × (table_room ≤ length table.now) }
+    ensures { result ≡ lacking_start p table.now }
 {
     let concrete = p.concrete;
     let abstraction = p.abstraction;
@@ -230,8 +230,8 @@ fn lacking_start(p: Pair, table: &[u16]) -> usize
 
 // The check: what the table says of the pair, or where it was stopped.
 pub fn check_table(p: Pair, table: &[u16]) -> Checked
-    ensures verdict { verdictOf result ≡ checkVerdict p table.now }
-    ensures empty { emptySetOf result ≡ checkEmptySet p table.now }
+    ensures verdict { verdict_of result ≡ check_verdict p table.now }
+    ensures empty { empty_set_of result ≡ check_empty_set p table.now }
 {
     if table.len() < machine::TABLE_ROOM {
         return Checked::Refused(machine::refuse(machine::SHORT_BUFFER, 0, 0, 0));
@@ -249,9 +249,9 @@ pub fn check_table(p: Pair, table: &[u16]) -> Checked
 
 // What is said of a table that passes each line.
 fn verdict_of_starts(p: Pair, table: &[u16]) -> Checked
-    requires { (wellFormed p ≡ true) × (tableRoom ≤ length table.now) }
-    ensures verdict { verdictOf result ≡ answer (startVerdict p table.now) }
-    ensures empty { emptySetOf result ≡ hasEmptySet p.concrete }
+    requires { (well_formed p ≡ true) × (table_room ≤ length table.now) }
+    ensures verdict { verdict_of result ≡ answer (start_verdict p table.now) }
+    ensures empty { empty_set_of result ≡ has_empty_set p.concrete }
 {
     let concrete = p.concrete;
     let abstraction = p.abstraction;

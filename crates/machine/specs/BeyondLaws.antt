@@ -5,31 +5,31 @@ use Rattle.std.proofs.Common.{⊎_elim, div-lt_iff_lt-mul, arith, pow_pos, eqb-t
 use Rattle.std.proofs.Math.Nat.{div-eq_of_lt}
 use Rattle.std.proofs.lemmas.Bool.{eqb-false, not-true, not-false}
 use Rattle.mask.specs.LogicLaws.{dec, clash, both}
-use Rattle.mask.specs.BitsLaws.{has-lt}
+use Rattle.mask.specs.BitsLaws.{has_lt}
 use Rattle.machine.specs.WellFormed.{beyond}
-use Rattle.machine.specs.WellFormedLaws.{beyond-none, none-beyond, bits-small}
+use Rattle.machine.specs.WellFormedLaws.{beyond_none, none_beyond, bits_small}
 
 -- a mask has no state at or past n exactly if it is a number of n bits
-pub beyond-low : (n m : ℕ) → m < 2 ^ 64 → beyond n m ≡ false → m < 2 ^ n
-beyond-low n m h e = bits-small n m h (beyond-none n m e)
+pub beyond_low : (n m : ℕ) → m < 2 ^ 64 → beyond n m ≡ false → m < 2 ^ n
+beyond_low n m h e = bits_small n m h (beyond_none n m e)
 
-pub low-beyond : (n m : ℕ) → m < 2 ^ n → beyond n m ≡ false
-low-beyond n m h = none-beyond n m (λ i l t. has-lt n m i h t)
+pub low_beyond : (n m : ℕ) → m < 2 ^ n → beyond n m ≡ false
+low_beyond n m h = none_beyond n m (λ i l t. has_lt n m i h t)
 
 -- no mask has one at or past 64
-pub past-beyond : (n m : ℕ) → 64 ≤ n → beyond n m ≡ false
-past-beyond n m h = none-beyond n m (λ i l t. omega arith)
+pub past_beyond : (n m : ℕ) → 64 ≤ n → beyond n m ≡ false
+past_beyond n m h = none_beyond n m (λ i l t. omega arith)
 
 -- as a shift decides it
-pub beyond-shift : (n m : ℕ) → m < 2 ^ 64 → B.not (eqb (m / 2 ^ n) 0) ≡ beyond n m
-beyond-shift n m h = both _ _ fwd bwd
+pub beyond_shift : (n m : ℕ) → m < 2 ^ 64 → B.not (eqb (m / 2 ^ n) 0) ≡ beyond n m
+beyond_shift n m h = both _ _ fwd bwd
   where
     fwd : B.not (eqb (m / 2 ^ n) 0) ≡ true → beyond n m ≡ true
     fwd e = ⊎_elim (λ t. t)
-        (λ t. absurd (eqb-false (m / 2 ^ n) 0 (not-true _ e) (div-eq_of_lt (beyond-low n m h t)))) (dec (beyond n m))
+        (λ t. absurd (eqb-false (m / 2 ^ n) 0 (not-true _ e) (div-eq_of_lt (beyond_low n m h t)))) (dec (beyond n m))
 
     bwd : beyond n m ≡ true → B.not (eqb (m / 2 ^ n) 0) ≡ true
     bwd e = ⊎_elim (λ t. t)
         (λ t. let z : m / 2 ^ n ≡ 0 = eqb-true _ _ (not-false _ t) in
-        absurd (clash (low-beyond n m (omega (arith, (div-lt_iff_lt-mul {k = 2 ^ n} {x = m} {y = 1} (pow_pos n)).0 (omega arith)))) e))
+        absurd (clash (low_beyond n m (omega (arith, (div-lt_iff_lt-mul {k = 2 ^ n} {x = m} {y = 1} (pow_pos n)).0 (omega arith)))) e))
         (dec (B.not (eqb (m / 2 ^ n) 0)))

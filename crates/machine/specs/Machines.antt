@@ -3,7 +3,7 @@
 -- document 01's set k and section j are number k - 1 and j - 1.
 use Rattle.std.specs.Prelude.{Bool, cond, ℕ, suc, ◌*◌, get_or, eqb, ltb}
 use Rattle.std.specs.Int.Bits.{bit_or}
-use Rattle.mask.specs.Bits.{hasBit}
+use Rattle.mask.specs.Bits.{has_bit}
 use Rattle.machine.specs.declared.Machine.{Machine}
 use Rattle.machine.specs.declared.Pair.{Pair}
 
@@ -17,48 +17,48 @@ successors m s = get_or m.successors s 0
 
 -- t is a successor of s
 unfoldable pub moves : Machine → ℕ → ℕ → Bool
-moves m s t = hasBit (successors m s) t
+moves m s t = has_bit (successors m s) t
 
 -- s is a start state
 unfoldable pub starts : Machine → ℕ → Bool
-starts m s = hasBit m.start s
+starts m s = has_bit m.start s
 
 -- the mask of fairness set k
-unfoldable pub fairSet : Machine → ℕ → ℕ
-fairSet m k = get_or m.fairness k 0
+unfoldable pub fair_set : Machine → ℕ → ℕ
+fair_set m k = get_or m.fairness k 0
 
 -- s is in fairness set k
-unfoldable pub inFairSet : Machine → ℕ → ℕ → Bool
-inFairSet m k s = hasBit (fairSet m k) s
+unfoldable pub in_fair_set : Machine → ℕ → ℕ → Bool
+in_fair_set m k s = has_bit (fair_set m k) s
 
 -- Document 02, No. 4: "the hidden mask, one byte for both machines; a set bit isn't compared". Two observations are the same in the bits that
 -- are not hidden: with the hidden bits set in both, they are equal.
-unfoldable pub sameObservation : ℕ → ℕ → ℕ → Bool
-sameObservation hidden x y = eqb (bit_or hidden x) (bit_or hidden y)
+unfoldable pub same_observation : ℕ → ℕ → ℕ → Bool
+same_observation hidden x y = eqb (bit_or hidden x) (bit_or hidden y)
 
 -- two machines under a hidden mask
-abbrev pub pairUnder : ℕ → Machine → Machine → Pair
-pairUnder hidden concrete abstraction = record { concrete = concrete; abstraction = abstraction; hidden = hidden }
+abbrev pub pair_under : ℕ → Machine → Machine → Pair
+pair_under hidden concrete abstraction = record { concrete = concrete; abstraction = abstraction; hidden = hidden }
 
--- document 01's nC, m, nA, n and P of a pair
-abbrev pub nC : Pair → ℕ
-nC p = p.concrete.states
+-- document 01's n_c, m, n_a, n and P of a pair
+abbrev pub n_c : Pair → ℕ
+n_c p = p.concrete.states
 
-abbrev pub setsC : Pair → ℕ
-setsC p = p.concrete.sets
+abbrev pub sets_c : Pair → ℕ
+sets_c p = p.concrete.sets
 
-abbrev pub nA : Pair → ℕ
-nA p = p.abstraction.states
+abbrev pub n_a : Pair → ℕ
+n_a p = p.abstraction.states
 
-abbrev pub setsA : Pair → ℕ
-setsA p = p.abstraction.sets
+abbrev pub sets_a : Pair → ℕ
+sets_a p = p.abstraction.sets
 
 abbrev pub pairs : Pair → ℕ
-pairs p = nC p * nA p
+pairs p = n_c p * n_a p
 
 -- "A pair (c, a) is matched if the observations of c and a are equal", and by document 02, No. 4, "equal in the other bits", those not hidden
 unfoldable pub matched : Pair → ℕ → ℕ → Bool
-matched p c a = sameObservation p.hidden (observation p.concrete c) (observation p.abstraction a)
+matched p c a = same_observation p.hidden (observation p.concrete c) (observation p.abstraction a)
 
 -- "Sections run 1 to n, and after n comes 1."
 unfoldable pub next : ℕ → ℕ → ℕ

@@ -7,43 +7,43 @@ use native.Mathlib.Omega.{arith}
 use Rattle.std.proofs.Math.ListN.{length}
 use borrow.Author.Tests.{eqb-true, eqb-false, eq-eqb, ne_eqb, ltb-false, lt-ltb, le-ltb, le-leb, lt-leb, not-true, not-false}
 use Rattle.mask.specs.Logic.{not, and}
-use Rattle.mask.specs.LogicLaws.{cond-cases, or-l, or-r, or-false-l, or-none, not-i, not-f, not-is, and-true-l, and-false-l}
+use Rattle.mask.specs.LogicLaws.{cond_cases, or_l, or_r, or_false_l, or_none, not_i, not_f, not_is, and_true_l, and_false_l}
 use Rattle.mask.specs.Bounded.{first}
 use Rattle.machine.specs.declared.Machine.{Machine}
 use Rattle.machine.specs.declared.Pair.{Pair}
 use Rattle.machine.specs.declared.Partner.TheVariants.{State, Nobody}
 use Rattle.machine.specs.declared.Refusal.{Refusal}
-use Rattle.machine.specs.Refusals.{andThen, valid, refused, refusal, bad-lasso-length, bad-lasso-step, unfair-lasso, no-start-partner}
-use Rattle.machine.specs.RefusalsLaws.{then-of, then-refused, valid-next}
-use Rattle.machine.specs.Machines.{moves, starts, next, setsA}
-use Rattle.machine.specs.WellFormed.{pairValidity}
-use Rattle.machine.specs.Lassos.{Lasso, lassoLength, moment}
-use Rattle.machine.specs.Step.{singleStep, found}
-use Rattle.machine.specs.StepLaws.{next-lt}
-use Rattle.machine.specs.SingleStepLaws.{single-none}
+use Rattle.machine.specs.Refusals.{and_then, valid, refused, refusal, bad_lasso_length, bad_lasso_step, unfair_lasso, no_start_partner}
+use Rattle.machine.specs.RefusalsLaws.{then_of, then_refused, valid_next}
+use Rattle.machine.specs.Machines.{moves, starts, next, sets_a}
+use Rattle.machine.specs.WellFormed.{pair_validity}
+use Rattle.machine.specs.Lassos.{Lasso, lasso_length, moment}
+use Rattle.machine.specs.Step.{single_step, found}
+use Rattle.machine.specs.StepLaws.{next_lt}
+use Rattle.machine.specs.SingleStepLaws.{single_none}
 use Rattle.machine.specs.Table.{entry}
-use Rattle.machine.specs.Lines.{nonBlank, linesValidity}
-use Rattle.machine.specs.Player.{badLength, badStep, missedSet, lassoValidity, Place, startPartner, startValidity, sectionAfter, playValidity}
+use Rattle.machine.specs.Lines.{non_blank, lines_validity}
+use Rattle.machine.specs.Player.{has_bad_length, bad_step, missed_set, lasso_validity, Place, start_partner, start_validity, section_after, play_validity}
 
 -- ---- 13
 module _ (l : Lasso) where
-  pub length-empty : length l.loop ≡ 0 → badLength l ≡ true
-  unfolding badLength
-  length-empty e = or-l _ (eq-eqb _ _ e)
+  pub length_empty : length l.loop ≡ 0 → has_bad_length l ≡ true
+  unfolding has_bad_length
+  length_empty e = or_l _ (eq-eqb _ _ e)
 
-  pub length-over : 64 < lassoLength l → badLength l ≡ true
-  unfolding badLength
-  length-over h = or-r _ (lt-ltb _ _ h)
+  pub length_over : 64 < lasso_length l → has_bad_length l ≡ true
+  unfolding has_bad_length
+  length_over h = or_r _ (lt-ltb _ _ h)
 
-  pub length-whole : (length l.loop ≡ 0 → ⊥) → badLength l ≡ ltb 64 (lassoLength l)
-  unfolding badLength
-  length-whole d = or-false-l _ (ne_eqb _ _ d)
+  pub length_whole : (length l.loop ≡ 0 → ⊥) → has_bad_length l ≡ ltb 64 (lasso_length l)
+  unfolding has_bad_length
+  length_whole d = or_false_l _ (ne_eqb _ _ d)
 
-  pub good-length : badLength l ≡ false → (0 < length l.loop) × (lassoLength l ≤ 64)
-  unfolding badLength
-  good-length t =
-      let q = or-none _ _ t in
-      let some-loop : length l.loop ≡ 0 → ⊥ = eqb-false _ _ q.0 in
+  pub good_length : has_bad_length l ≡ false → (0 < length l.loop) × (lasso_length l ≤ 64)
+  unfolding has_bad_length
+  good_length t =
+      let q = or_none _ _ t in
+      let some_loop : length l.loop ≡ 0 → ⊥ = eqb-false _ _ q.0 in
       (omega arith, ltb-false _ _ q.1)
 
 -- ---- 14
@@ -54,116 +54,116 @@ module _ (m : Machine) (l : Lasso) (i : ℕ) where
     pub entered : (i ≡ 0 → ⊥) → moves m (moment l (i - 1)) (moment l i) ≡ true
 
   -- what is left to test where the state is one of the machine's and is entered rightly
-  rest : moment l i < m.states → Entered → badStep m l i ≡ and (eqb (suc i) (lassoLength l)) (not (moves m (moment l i) (moment l (suc i))))
-  unfolding badStep
-  rest h r = or-false-l _ (lt-leb _ _ h) ∙ or-false-l _ (cond-cases (eqb i 0) (λ b. b ≡ false)
+  rest : moment l i < m.states → Entered → bad_step m l i ≡ and (eqb (suc i) (lasso_length l)) (not (moves m (moment l i) (moment l (suc i))))
+  unfolding bad_step
+  rest h r = or_false_l _ (lt-leb _ _ h) ∙ or_false_l _ (cond_cases (eqb i 0) (λ b. b ≡ false)
       (not (starts m (moment l 0))) (not (moves m (moment l (i - 1)) (moment l i)))
-      (λ t. not-f (r.start (eqb-true _ _ t))) (λ t. not-f (r.entered (eqb-false _ _ t))))
+      (λ t. not_f (r.start (eqb-true _ _ t))) (λ t. not_f (r.entered (eqb-false _ _ t))))
 
   -- s is the state at position i
   module _ (s : ℕ) (at : s ≡ moment l i) where
-    pub bad-state : m.states ≤ s → true ≡ badStep m l i
-    unfolding badStep
-    bad-state h = sym (or-l _ (le-leb m.states (moment l i) (rw (← at) h)))
+    pub bad_state : m.states ≤ s → true ≡ bad_step m l i
+    unfolding bad_step
+    bad_state h = sym (or_l _ (le-leb m.states (moment l i) (rw (← at) h)))
 
     -- r tells whether s is a start
     module _ (e : i ≡ 0) (r : Bool) (is : r ≡ starts m s) where
-      starts-is : starts m (moment l 0) ≡ r
-      starts-is = cc (e, at, is)
+      starts_is : starts m (moment l 0) ≡ r
+      starts_is = cc (e, at, is)
 
-      pub bad-start : B.not r ≡ true → true ≡ badStep m l i
-      unfolding badStep
-      bad-start t = sym (or-r _ (or-l _ (rw (eq-eqb i 0 e) (not-i (starts-is ∙ not-true r t)))))
+      pub bad_start : B.not r ≡ true → true ≡ bad_step m l i
+      unfolding bad_step
+      bad_start t = sym (or_r _ (or_l _ (rw (eq-eqb i 0 e) (not_i (starts_is ∙ not-true r t)))))
 
-      pub good-start : B.not r ≡ false → Entered
-      good-start t = record { start = λ z. starts-is ∙ not-false r t; entered = λ n. absurd (n e) }
+      pub good_start : B.not r ≡ false → Entered
+      good_start t = record { start = λ z. starts_is ∙ not-false r t; entered = λ n. absurd (n e) }
 
     -- r tells whether p, the state before, moves to s
     module _ (n : i ≡ 0 → ⊥) (p : ℕ) (before : p ≡ moment l (i - 1)) (r : Bool) (is : r ≡ moves m p s) where
-      entry-is : moves m (moment l (i - 1)) (moment l i) ≡ r
-      entry-is = cc (before, at, is)
+      entry_is : moves m (moment l (i - 1)) (moment l i) ≡ r
+      entry_is = cc (before, at, is)
 
-      pub bad-entry : B.not r ≡ true → true ≡ badStep m l i
-      unfolding badStep
-      bad-entry t = sym (or-r _ (or-l _ (rw (ne_eqb i 0 n) (not-i (entry-is ∙ not-true r t)))))
+      pub bad_entry : B.not r ≡ true → true ≡ bad_step m l i
+      unfolding bad_step
+      bad_entry t = sym (or_r _ (or_l _ (rw (ne_eqb i 0 n) (not_i (entry_is ∙ not-true r t)))))
 
-      pub good-entry : B.not r ≡ false → Entered
-      good-entry t = record { start = λ e. absurd (n e); entered = λ z. entry-is ∙ not-false r t }
+      pub good_entry : B.not r ≡ false → Entered
+      good_entry t = record { start = λ e. absurd (n e); entered = λ z. entry_is ∙ not-false r t }
 
     -- before the last position nothing is left; at the last position, the closing step
     module _ (h : s < m.states) (b : Entered) where
-      pub good-before : (suc i ≡ lassoLength l → ⊥) → false ≡ badStep m l i
-      good-before d = sym (rest (rw (← at) h) b ∙ and-false-l _ (ne_eqb (suc i) (lassoLength l) d))
+      pub good_before : (suc i ≡ lasso_length l → ⊥) → false ≡ bad_step m l i
+      good_before d = sym (rest (rw (← at) h) b ∙ and_false_l _ (ne_eqb (suc i) (lasso_length l) d))
 
-      pub closing : suc i ≡ lassoLength l → (t : ℕ) → t ≡ moment l (suc i) → (r : Bool) → r ≡ moves m s t → B.not r ≡ badStep m l i
+      pub closing : suc i ≡ lasso_length l → (t : ℕ) → t ≡ moment l (suc i) → (r : Bool) → r ≡ moves m s t → B.not r ≡ bad_step m l i
       closing e t back r is =
           let c : moves m (moment l i) (moment l (suc i)) ≡ r = cc (at, is, back) in
-          sym (rest (rw (← at) h) b ∙ and-true-l _ (eq-eqb _ _ e) ∙ ap not c ∙ not-is r)
+          sym (rest (rw (← at) h) b ∙ and_true_l _ (eq-eqb _ _ e) ∙ ap not c ∙ not_is r)
 
 -- ---- 13 to 15 together, each after all that is tested before it
 module _ (m : Machine) (l : Lasso) where
-  pub refused-length : badLength l ≡ true → lassoValidity m l ≡ refused (refusal bad-lasso-length 0 0 0)
-  unfolding lassoValidity
-  refused-length e = rw e
+  pub refused_length : has_bad_length l ≡ true → lasso_validity m l ≡ refused (refusal bad_lasso_length 0 0 0)
+  unfolding lasso_validity
+  refused_length e = rw e
 
   -- i is the first wrong position, and k the first missed set
-  module _ (fit : badLength l ≡ false) (i : ℕ) (position : i ≡ first (lassoLength l) (badStep m l)) where
-    pub refused-step : i < lassoLength l → lassoValidity m l ≡ refused (refusal bad-lasso-step i 0 0)
-    unfolding lassoValidity
-    refused-step h = rw (fit, ← position, lt-ltb i (lassoLength l) h)
+  module _ (fit : has_bad_length l ≡ false) (i : ℕ) (position : i ≡ first (lasso_length l) (bad_step m l)) where
+    pub refused_step : i < lasso_length l → lasso_validity m l ≡ refused (refusal bad_lasso_step i 0 0)
+    unfolding lasso_validity
+    refused_step h = rw (fit, ← position, lt-ltb i (lasso_length l) h)
 
-    module _ (past : lassoLength l ≤ i) (k : ℕ) (set : k ≡ first m.sets (missedSet m l)) where
-      pub refused-set : k < m.sets → lassoValidity m l ≡ refused (refusal unfair-lasso (k + 1) 0 0)
-      unfolding lassoValidity
-      refused-set h = rw (fit, ← position, le-ltb i (lassoLength l) past, ← set, lt-ltb k m.sets h, add-one)
+    module _ (past : lasso_length l ≤ i) (k : ℕ) (set : k ≡ first m.sets (missed_set m l)) where
+      pub refused_set : k < m.sets → lasso_validity m l ≡ refused (refusal unfair_lasso (k + 1) 0 0)
+      unfolding lasso_validity
+      refused_set h = rw (fit, ← position, le-ltb i (lasso_length l) past, ← set, lt-ltb k m.sets h, add-one)
 
-      pub not-refused : m.sets ≤ k → lassoValidity m l ≡ valid
-      unfolding lassoValidity
-      not-refused h = rw (fit, ← position, le-ltb i (lassoLength l) past, ← set, le-ltb k m.sets h)
+      pub not_refused : m.sets ≤ k → lasso_validity m l ≡ valid
+      unfolding lasso_validity
+      not_refused h = rw (fit, ← position, le-ltb i (lasso_length l) past, ← set, le-ltb k m.sets h)
 
-  pub lasso-length : lassoValidity m l ≡ valid → (0 < length l.loop) × (lassoLength l ≤ 64)
-  unfolding lassoValidity
-  lasso-length e = good-length l (valid-next _ _ _ e).0
+  pub lasso_length_lem : lasso_validity m l ≡ valid → (0 < length l.loop) × (lasso_length l ≤ 64)
+  unfolding lasso_validity
+  lasso_length_lem e = good_length l (valid_next _ _ _ e).0
 
 -- ---- sections
 -- the section after a place is one of n
-pub after-lt : (n j e : ℕ) → j < n → cond (eqb e 0) (next n j) j < n
-after-lt n j e h = cond-cases (eqb e 0) (λ (i : ℕ). i < n) (next n j) j (λ t. next-lt n j h) (λ t. h)
+pub after_lt : (n j e : ℕ) → j < n → cond (eqb e 0) (next n j) j < n
+after_lt n j e h = cond_cases (eqb e 0) (λ (i : ℕ). i < n) (next n j) j (λ t. next_lt n j h) (λ t. h)
 
 module _ (p : Pair) (T : List ℕ) where
   -- ---- the start is a single step where no state is present
-  pub start-single : (c present : ℕ) → 64 ≤ present → singleStep present p.abstraction.start (nonBlank p T 0 c) (entry p T 0 c) ≡ startPartner p T c
-  unfolding startPartner
-  start-single c present h = single-none present p.abstraction.start (nonBlank p T 0 c) (entry p T 0 c) h
+  pub start_single : (c present : ℕ) → 64 ≤ present → single_step present p.abstraction.start (non_blank p T 0 c) (entry p T 0 c) ≡ start_partner p T c
+  unfolding start_partner
+  start_single c present h = single_none present p.abstraction.start (non_blank p T 0 c) (entry p T 0 c) h
 
-  pub section-lt : (c : ℕ) (at : Place) → at.section < setsA p → sectionAfter p T c at < setsA p
-  unfolding sectionAfter
-  section-lt c at h = after-lt (setsA p) at.section (entry p T at.section c at.state) h
+  pub section_lt : (c : ℕ) (at : Place) → at.section < sets_a p → section_after p T c at < sets_a p
+  unfolding section_after
+  section_lt c at h = after_lt (sets_a p) at.section (entry p T at.section c at.state) h
 
   -- ---- 5, 9 to 16: which test tells what is said
   module _ (l : Lasso) where
-    pub play-ill : (r : Refusal) → pairValidity p ≡ refused r → playValidity p T l ≡ refused r
-    unfolding playValidity
-    play-ill r e = then-refused _ _ r e
+    pub play_ill : (r : Refusal) → pair_validity p ≡ refused r → play_validity p T l ≡ refused r
+    unfolding play_validity
+    play_ill r e = then_refused _ _ r e
 
-    module _ (v : pairValidity p ≡ valid) where
-      pub play-fails : (r : Refusal) → linesValidity p T ≡ refused r → playValidity p T l ≡ refused r
-      unfolding playValidity
-      play-fails r e = then-of _ _ v ∙ then-refused _ _ r e
+    module _ (v : pair_validity p ≡ valid) where
+      pub play_fails : (r : Refusal) → lines_validity p T ≡ refused r → play_validity p T l ≡ refused r
+      unfolding play_validity
+      play_fails r e = then_of _ _ v ∙ then_refused _ _ r e
 
-      module _ (t : linesValidity p T ≡ valid) where
-        left : playValidity p T l ≡ andThen (lassoValidity p.concrete l) (startValidity p T l)
-        unfolding playValidity
-        left = then-of _ _ v ∙ then-of _ _ t
+      module _ (t : lines_validity p T ≡ valid) where
+        left : play_validity p T l ≡ and_then (lasso_validity p.concrete l) (start_validity p T l)
+        unfolding play_validity
+        left = then_of _ _ v ∙ then_of _ _ t
 
-        pub play-unfit : (r : Refusal) → lassoValidity p.concrete l ≡ refused r → playValidity p T l ≡ refused r
-        play-unfit r e = left ∙ then-refused _ _ r e
+        pub play_unfit : (r : Refusal) → lasso_validity p.concrete l ≡ refused r → play_validity p T l ≡ refused r
+        play_unfit r e = left ∙ then_refused _ _ r e
 
-        module _ (f : lassoValidity p.concrete l ≡ valid) where
-          pub play-alone : startPartner p T (moment l 0) ≡ Nobody → playValidity p T l ≡ refused (refusal no-start-partner 0 0 0)
-          unfolding startValidity found
-          play-alone e = left ∙ then-of _ _ f ∙ rw e
+        module _ (f : lasso_validity p.concrete l ≡ valid) where
+          pub play_alone : start_partner p T (moment l 0) ≡ Nobody → play_validity p T l ≡ refused (refusal no_start_partner 0 0 0)
+          unfolding start_validity found
+          play_alone e = left ∙ then_of _ _ f ∙ rw e
 
-          pub play-valid : (a : ℕ) → startPartner p T (moment l 0) ≡ State a → playValidity p T l ≡ valid
-          unfolding startValidity found
-          play-valid a e = left ∙ then-of _ _ f ∙ rw e
+          pub play_valid : (a : ℕ) → start_partner p T (moment l 0) ≡ State a → play_validity p T l ≡ valid
+          unfolding start_validity found
+          play_valid a e = left ∙ then_of _ _ f ∙ rw e

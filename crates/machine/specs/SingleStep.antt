@@ -1,13 +1,13 @@
 -- What document 02, No. 10, asks of the single step: which state is the chosen one, and what it is to name that. SingleStepLaws.antt proves that it does.
 use Rattle.std.specs.Prelude.{Bool, true, ◌↔◌, ◌≡◌, ℕ, ◌^◌, ◌≤◌, ◌<◌}
-use Rattle.mask.specs.Bits.{hasBit}
+use Rattle.mask.specs.Bits.{has_bit}
 use Rattle.machine.specs.declared.Partner.TheVariants.{State, Nobody}
-use Rattle.machine.specs.Step.{singleStep, found}
+use Rattle.machine.specs.Step.{single_step, found}
 
 -- a state of the moves that is in the set
 pub record Candidate (moves : ℕ) (S : ℕ → Bool) (a : ℕ) : Type 0 where
   pub below : a < 64
-  pub moved : hasBit moves a ≡ true
+  pub moved : has_bit moves a ≡ true
   pub inside : S a ≡ true
 
 -- a has the least key of these, and is the lowest of those that have it
@@ -25,9 +25,9 @@ pub record Chosen (present moves : ℕ) (S : ℕ → Bool) (entries : ℕ → �
 
 -- the single step "shall name the chosen partner, or none exactly if there is none"; of moves of w bits it names a number below w
 pub record Names (present moves : ℕ) (S : ℕ → Bool) (entries : ℕ → ℕ) : Type 0 where
-  pub chosen : (a : ℕ) → (singleStep present moves S entries ≡ State a) ↔ Chosen present moves S entries a
-  pub nobody : (singleStep present moves S entries ≡ Nobody) ↔ ((i : ℕ) → Candidate moves S i → ⊥)
-  pub width : (w : ℕ) → w ≤ 64 → moves < 2 ^ w → (a : ℕ) → singleStep present moves S entries ≡ State a → a < w
+  pub chosen : (a : ℕ) → (single_step present moves S entries ≡ State a) ↔ Chosen present moves S entries a
+  pub nobody : (single_step present moves S entries ≡ Nobody) ↔ ((i : ℕ) → Candidate moves S i → ⊥)
+  pub width : (w : ℕ) → w ≤ 64 → moves < 2 ^ w → (a : ℕ) → single_step present moves S entries ≡ State a → a < w
 
 -- for any mask, any set and any entries
 abbrev pub NamesChosen : Type 0
@@ -35,4 +35,4 @@ NamesChosen = (present moves : ℕ) (S : ℕ → Bool) (entries : ℕ → ℕ) �
 
 -- whether there is one does not depend on the present state
 abbrev pub FoundAnywhere : Type 0
-FoundAnywhere = (moves : ℕ) (S : ℕ → Bool) (entries : ℕ → ℕ) (a b : ℕ) → found (singleStep a moves S entries) ≡ found (singleStep b moves S entries)
+FoundAnywhere = (moves : ℕ) (S : ℕ → Bool) (entries : ℕ → ℕ) (a b : ℕ) → found (single_step a moves S entries) ≡ found (single_step b moves S entries)

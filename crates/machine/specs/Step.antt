@@ -1,16 +1,16 @@
 -- Document 01, "The game": the step, and the single step that names a partner (document 02, No. 10).
 use Rattle.std.specs.Prelude.{Bool, true, false, cond, List, ℕ, zero, suc, ◌+◌, ◌*◌, length, get_or, eqb, ltb, leb}
 use Rattle.mask.specs.Logic.{and}
-use Rattle.mask.specs.Bits.{hasBit}
-use Rattle.mask.specs.Bounded.{everyIn, someIn}
+use Rattle.mask.specs.Bits.{has_bit}
+use Rattle.mask.specs.Bounded.{every_in, some_in}
 use Rattle.machine.specs.declared.Pair.{Pair}
 use Rattle.machine.specs.declared.Partner.{Partner}
 use Rattle.machine.specs.declared.Partner.TheVariants.{State, Nobody}
-use Rattle.machine.specs.Machines.{successors, nC, nA}
+use Rattle.machine.specs.Machines.{successors, n_c, n_a}
 
 -- "A pair steps into a set S if for each successor c' of c some successor a' of a has (c', a') in S." A set is given by its test.
 unfoldable pub steps : Pair → (ℕ → ℕ → Bool) → ℕ → ℕ → Bool
-steps p S c a = everyIn (nC p) (successors p.concrete c) (λ d. someIn (nA p) (successors p.abstraction a) (S d))
+steps p S c a = every_in (n_c p) (successors p.concrete c) (λ d. some_in (n_a p) (successors p.abstraction a) (S d))
 
 -- whether state s is taken in place of the best state before it: of equal keys the lower number stays
 unfoldable pub better : (ℕ → ℕ) → ℕ → Partner → Bool
@@ -24,7 +24,7 @@ least (suc n) p key = let best = least n p key in cond (and (p n) (better key n 
 
 -- of the states of the mask `moves`, the partner in a set S (given by its test beside c'), of least key; the lowest of these
 unfoldable pub partner : ℕ → (ℕ → Bool) → (ℕ → ℕ) → Partner
-partner moves S key = least 64 (λ a. and (hasBit moves a) (S a)) key
+partner moves S key = least 64 (λ a. and (has_bit moves a) (S a)) key
 
 -- Document 02, No. 10: "least entry, then the present score state if it is among them, then the lowest number". Of equal entries the present
 -- state has the lower key.
@@ -32,16 +32,16 @@ unfoldable pub staying : ℕ → (ℕ → ℕ) → ℕ → ℕ
 staying present entries a = 2 * entries a + cond (eqb a present) 0 1
 
 -- the single step, in the abstract state `present`
-unfoldable pub singleStep : ℕ → ℕ → (ℕ → Bool) → (ℕ → ℕ) → Partner
-singleStep present moves S entries = partner moves S (staying present entries)
+unfoldable pub single_step : ℕ → ℕ → (ℕ → Bool) → (ℕ → ℕ) → Partner
+single_step present moves S entries = partner moves S (staying present entries)
 
 -- "In a set without entries all count as equal."
 abbrev pub alike : ℕ → ℕ
 alike a = 0
 
 -- a set given by entries with a bound: the matched states whose entry in the row is at most the bound
-unfoldable pub inRow : ℕ → List ℕ → ℕ → ℕ → Bool
-inRow matched row bound a = and (hasBit matched a) (and (ltb a (length row)) (leb (get_or row a 0) bound))
+unfoldable pub in_row : ℕ → List ℕ → ℕ → ℕ → Bool
+in_row matched row bound a = and (has_bit matched a) (and (ltb a (length row)) (leb (get_or row a 0) bound))
 
 -- there is a partner
 unfoldable pub found : Partner → Bool
@@ -49,6 +49,6 @@ found (State a) = true
 found Nobody = false
 
 -- the partner's number, 0 where there is none
-unfoldable pub stateOf : Partner → ℕ
-stateOf (State a) = a
-stateOf Nobody = 0
+unfoldable pub state_of : Partner → ℕ
+state_of (State a) = a
+state_of Nobody = 0

@@ -4,12 +4,12 @@
 
 ghost use Rattle.std.specs.Prelude.{◌≡◌, ℕ, get_or};
 ghost use Rattle.std.proofs.lemmas.List.Edits.{sets};
-ghost use Rattle.mask.specs.Bits.{hasBit};
-ghost use Rattle.machine.specs.Machines.{sameObservation, next};
-ghost use Rattle.machine.specs.Refusals.{refusal, fourNumbers};
-ghost use Rattle.machine.specs.Step.{partner, singleStep, found, stateOf, alike, inRow};
-ghost use Rattle.machine.specs.Observed.{sameMask, matchedMasks};
-ghost use Rattle.machine.specs.Table.{placeOf};
+ghost use Rattle.mask.specs.Bits.{has_bit};
+ghost use Rattle.machine.specs.Machines.{same_observation, next};
+ghost use Rattle.machine.specs.Refusals.{refusal, four_numbers};
+ghost use Rattle.machine.specs.Step.{partner, single_step, found, state_of, alike, in_row};
+ghost use Rattle.machine.specs.Observed.{same_mask, matched_masks};
+ghost use Rattle.machine.specs.Table.{place_of};
 
 // A finite machine with fairness sets. Document 01: the rig is the concrete machine, the score the abstract one.
 #[derive(Clone, Copy)]
@@ -120,7 +120,7 @@ pub fn refuse(number: u32, first: usize, second: usize, third: usize) -> Refusal
 
 // Writes the four numbers of a refusal, as C gets them.
 pub fn put_refusal(spot: &mut [u64; 4], r: Refusal)
-    ensures { spot.new ≡ sets spot.old 0 (fourNumbers r) }
+    ensures { spot.new ≡ sets spot.old 0 (four_numbers r) }
 {
     spot[0] = r.number as u64;
     spot[1] = r.first as u64;
@@ -132,14 +132,14 @@ pub fn put_refusal(spot: &mut [u64; 4], r: Refusal)
 
 // Whether two observations are the same in the bits that are not hidden.
 pub fn same_observation(hidden: u8, x: u8, y: u8) -> bool
-    ensures { result ≡ sameObservation hidden x y }
+    ensures { result ≡ same_observation hidden x y }
 {
     hidden | x == hidden | y
 }
 
 // The mask of the states below n, and below 64, whose observation is o in the bits that are not hidden.
 fn same_mask(hidden: u8, o: u8, n: usize, observations: &[u8; 64]) -> u64
-    ensures { result ≡ sameMask hidden o n observations.now }
+    ensures { result ≡ same_mask hidden o n observations.now }
 {
     let end = if n < 64 { n } else { 64 };
     let mut m: u64 = 0;
@@ -153,7 +153,7 @@ fn same_mask(hidden: u8, o: u8, n: usize, observations: &[u8; 64]) -> u64
 
 // For each concrete state the mask of the abstract states that are matched with it.
 pub fn matched_masks(p: Pair) -> [u64; 64]
-    ensures { result ≡ matchedMasks p }
+    ensures { result ≡ matched_masks p }
 {
     let c = p.concrete;
     let a = p.abstraction;
@@ -179,7 +179,7 @@ pub fn matched_masks(p: Pair) -> [u64; 64]
 // The single step, in the abstract state `present`, into a set that is given by the mask of its states beside c': of the moves that are in the
 // row the present state if it is among them, else the lowest.
 pub fn partner_in(present: usize, moves: u64, row: u64) -> Partner
-    ensures { result ≡ singleStep present moves (hasBit row) alike }
+    ensures { result ≡ single_step present moves (has_bit row) alike }
 {
     let m = moves & row;
     if mask::has(m, present) {
@@ -194,7 +194,7 @@ pub fn partner_in(present: usize, moves: u64, row: u64) -> Partner
 
 // Of the moves that are matched with c' and whose entry is at most the bound, the one of least entry, the lowest of these.
 fn least_within(moves: u64, matched: u64, row: &[u16], bound: u16) -> Partner
-    ensures { result ≡ partner moves (inRow matched row.now bound) (λ a. get_or row.now a 0) }
+    ensures { result ≡ partner moves (in_row matched row.now bound) (λ a. get_or row.now a 0) }
 {
     let mut m = moves & matched;
     let mut best = Partner::Nobody;
@@ -217,7 +217,7 @@ fn least_within(moves: u64, matched: u64, row: &[u16], bound: u16) -> Partner
 // The single step, in the abstract state `present`, into a set that is given by its entries beside c' and a bound: of the moves that are matched
 // with c' and whose entry is at most the bound, those of least entry; of these the present state if it is among them, else the lowest.
 pub fn partner_within(present: usize, moves: u64, matched: u64, row: &[u16], bound: u16) -> Partner
-    ensures { result ≡ singleStep present moves (inRow matched row.now bound) (λ a. get_or row.now a 0) }
+    ensures { result ≡ single_step present moves (in_row matched row.now bound) (λ a. get_or row.now a 0) }
 {
     let found = least_within(moves, matched, row, bound);
     let Partner::State(best) = found else {
@@ -235,7 +235,7 @@ pub fn partner_within(present: usize, moves: u64, matched: u64, row: &[u16], bou
 
 // Whether `partner_within` names a partner, whatever the present state; it stops at the first.
 pub fn has_partner(moves: u64, matched: u64, row: &[u16], bound: u16) -> bool
-    ensures { (present : ℕ) → result ≡ found (singleStep present moves (inRow matched row.now bound) (λ a. get_or row.now a 0)) }
+    ensures { (present : ℕ) → result ≡ found (single_step present moves (in_row matched row.now bound) (λ a. get_or row.now a 0)) }
 {
     let mut m = moves & matched;
     while m != 0 {
@@ -252,7 +252,7 @@ pub fn has_partner(moves: u64, matched: u64, row: &[u16], bound: u16) -> bool
 
 // The partner's number, 0 where there is none.
 pub fn state_of(found: Partner) -> usize
-    ensures { result ≡ stateOf found }
+    ensures { result ≡ state_of found }
 {
     match found {
         Partner::State(a) => a,
@@ -274,7 +274,7 @@ pub fn next_section(n: usize, j: usize) -> usize
 
 // The place in a table of entry (j, c, a). It takes each number modulo 256, so that any have an answer; counts, sections and states are less.
 pub fn entry_index(nc: usize, na: usize, j: usize, c: usize, a: usize) -> usize
-    ensures { result ≡ placeOf nc na j c a }
+    ensures { result ≡ place_of nc na j c a }
 {
     (j % 256 * (nc % 256) + c % 256) * (na % 256) + a % 256
 }

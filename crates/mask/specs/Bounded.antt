@@ -1,7 +1,7 @@
 -- "For every", "for some", "the first" and "how many" of the numbers below a bound, as tests; and over the states of a mask.
 use Rattle.std.specs.Prelude.{Bool, true, false, cond, ℕ, zero, suc, ◌+◌}
 use Rattle.mask.specs.Logic.{not, and, or}
-use Rattle.mask.specs.Bits.{hasBit}
+use Rattle.mask.specs.Bits.{has_bit}
 
 -- every number below n passes p
 unfoldable pub every : ℕ → (ℕ → Bool) → Bool
@@ -28,9 +28,9 @@ unfoldable pub count : ℕ → (ℕ → Bool) → ℕ
 count n p = sum n (λ i. cond (p i) 1 0)
 
 -- every state of the mask m below w passes p
-unfoldable pub everyIn : ℕ → ℕ → (ℕ → Bool) → Bool
-everyIn w m p = every w (λ s. or (not (hasBit m s)) (p s))
+unfoldable pub every_in : ℕ → ℕ → (ℕ → Bool) → Bool
+every_in w m p = every w (λ s. or (not (has_bit m s)) (p s))
 
 -- some state of the mask m below w passes p
-unfoldable pub someIn : ℕ → ℕ → (ℕ → Bool) → Bool
-someIn w m p = some w (λ s. and (hasBit m s) (p s))
+unfoldable pub some_in : ℕ → ℕ → (ℕ → Bool) → Bool
+some_in w m p = some w (λ s. and (has_bit m s) (p s))

@@ -2,9 +2,9 @@
 use Rattle.std.specs.Prelude.{Bool, cond, List, [], ◌∷◌, ◌++◌, ℕ, zero, suc, ◌+◌, ◌^◌, drop}
 
 -- the mask of the states below w that pass p
-unfoldable pub maskOf : ℕ → (ℕ → Bool) → ℕ
-maskOf zero p = 0
-maskOf (suc w) p = cond (p w) (2 ^ w) 0 + maskOf w p
+unfoldable pub mask_of : ℕ → (ℕ → Bool) → ℕ
+mask_of zero p = 0
+mask_of (suc w) p = cond (p w) (2 ^ w) 0 + mask_of w p
 
 -- the list f 0, .., f (n - 1)
 unfoldable pub table : {A : Type 0} → ℕ → (ℕ → A) → List A

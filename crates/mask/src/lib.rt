@@ -2,19 +2,19 @@
 #![tactic(auto)]
 
 ghost use Rattle.std.specs.Prelude.{◌≡◌, min};
-ghost use Rattle.mask.specs.Bits.{hasBit, lowestOf, restOf, withBit, fullMask};
+ghost use Rattle.mask.specs.Bits.{has_bit, lowest_of, rest_of, with_bit, full_mask};
 ghost use Rattle.mask.specs.Bounded.{count};
 
 // Whether state i is in the mask.
 pub fn has(m: u64, i: usize) -> bool
-    ensures { result ≡ hasBit m i }
+    ensures { result ≡ has_bit m i }
 {
     if i < 64 { (m >> i) & 1 == 1 } else { false }
 }
 
 // The mask of all states below a width; of all 64 for a width over 64.
 pub fn full(width: usize) -> u64
-    ensures { result ≡ fullMask (min width 64) }
+    ensures { result ≡ full_mask (min width 64) }
 {
     if width < 64 {
         (1u64 << width) - 1
@@ -25,28 +25,28 @@ pub fn full(width: usize) -> u64
 
 // The lowest state of the mask, 64 for the empty mask.
 pub fn lowest(m: u64) -> usize
-    ensures { result ≡ lowestOf 64 m }
+    ensures { result ≡ lowest_of 64 m }
 {
     u64::trailing_zeros(m) as usize
 }
 
 // The mask without its lowest state; the empty mask stays empty.
 pub fn rest(m: u64) -> u64
-    ensures { result ≡ restOf m }
+    ensures { result ≡ rest_of m }
 {
     if m == 0 { 0 } else { m & (m - 1) }
 }
 
 // The mask with state i; unchanged for an i of 64 or more.
 pub fn with(m: u64, i: usize) -> u64
-    ensures { result ≡ withBit m i }
+    ensures { result ≡ with_bit m i }
 {
     if i < 64 { m | (1u64 << i) } else { m }
 }
 
 // How many states the mask has.
 pub fn size(m: u64) -> usize
-    ensures { result ≡ count 64 (hasBit m) }
+    ensures { result ≡ count 64 (has_bit m) }
 {
     u64::count_ones(m) as usize
 }

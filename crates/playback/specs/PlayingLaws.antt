@@ -5,130 +5,130 @@ use Rattle.std.proofs.Math.Path.{refl, ap}
 use Rattle.std.proofs.Common.{sym, ◌∙◌, arith, length-take}
 use Rattle.machine.specs.declared.Pair.{Pair}
 use Rattle.machine.specs.declared.Refusal.{Refusal}
-use Rattle.machine.specs.Refusals.{Result, answer, refused, refusal, passOn, bufferValidity, bufferAfter, short-buffer}
-use Rattle.machine.specs.RefusalsLaws.{then-of, then-refused, then-answer, given-at, buffer-valid, buffer-short, buffer-room, buffer-made, buffer-kept}
-use Rattle.machine.specs.Table.{tableRoom}
-use Rattle.machine.specs.Verdict.{no-table}
+use Rattle.machine.specs.Refusals.{Result, answer, refused, refusal, pass_on, buffer_validity, buffer_after, short_buffer}
+use Rattle.machine.specs.RefusalsLaws.{then_of, then_refused, then_answer, given_at, buffer_valid, buffer_short, buffer_room, buffer_made, buffer_kept}
+use Rattle.machine.specs.Table.{table_room}
+use Rattle.machine.specs.Verdict.{no_table}
 use Rattle.machine.specs.Lassos.{Lasso}
-use Rattle.machine.specs.Player.{Played, played, runRoom, run, allValidity, playerAnswer, playerBuffer}
-use Rattle.codec.specs.Reader.{taken, pairOf, readAnswer}
-use Rattle.codec.specs.Outcomes.{Outcome, says, noTable, tableIn, outcomeBy}
-use Rattle.codec.specs.OutcomesLaws.{outcome-refused, outcome-bare, outcome-taken, outcome-says, outcome-none}
-use Rattle.codec.proofs.FileLaws.{was-taken}
-use Rattle.soundness.specs.PlayLaws.{play-at}
+use Rattle.machine.specs.Player.{Played, played, run_room, run, all_validity, player_answer, player_buffer}
+use Rattle.codec.specs.Reader.{taken, pair_of, read_answer}
+use Rattle.codec.specs.Outcomes.{Outcome, says, without_table, table_in, outcome_by}
+use Rattle.codec.specs.OutcomesLaws.{outcome_refused, outcome_bare, outcome_taken, outcome_says, outcome_none}
+use Rattle.codec.proofs.FileLaws.{was_taken}
+use Rattle.soundness.specs.PlayLaws.{play_at}
 use Rattle.player.specs.declared.Played as player
-use Rattle.player.specs.Answers.{playedOf}
+use Rattle.player.specs.Answers.{played_of}
 use Rattle.player.specs.Statements.{RunGiven}
-use Rattle.player.specs.Theorems.{given-run-is-right, refusal-keeps-buffer}
+use Rattle.player.specs.Theorems.{given_run_is_right, refusal_keeps_buffer}
 use Rattle.playback.specs.declared.FileRun.{FileRun}
 use Rattle.playback.specs.declared.FileRun.TheVariants.{Run, NoTable, Refused}
-use Rattle.playback.specs.Playing.{fileRun, fileRunBuffer, runOutcomeOf, toldToC}
+use Rattle.playback.specs.Playing.{file_run, file_run_buffer, run_outcome_of, told_to_c}
 
 -- what is left in the buffer after the player's answer, passed on, is what is left after its tests
-after-tests : (p : Pair) (T : List ℕ) (l : Lasso) (buffer : List ℕ) (v : Result Played) → playerAnswer p T l buffer ≡ v
-    → bufferAfter (passOn v (λ r. answer (says r))) (run p T l) buffer ≡ playerBuffer p T l buffer
-unfolding passOn bufferAfter playerAnswer playerBuffer
-after-tests p T l buffer (answer r) e = sym (buffer-made (allValidity p T l buffer) (run p T l) buffer (given-at _ _ e).0)
-after-tests p T l buffer (refused r) e = sym (refusal-keeps-buffer p T l buffer r e)
+after_tests : (p : Pair) (T : List ℕ) (l : Lasso) (buffer : List ℕ) (v : Result Played) → player_answer p T l buffer ≡ v
+    → buffer_after (pass_on v (λ r. answer (says r))) (run p T l) buffer ≡ player_buffer p T l buffer
+unfolding pass_on buffer_after player_answer player_buffer
+after_tests p T l buffer (answer r) e = sym (buffer_made (all_validity p T l buffer) (run p T l) buffer (given_at _ _ e).0)
+after_tests p T l buffer (refused r) e = sym (refusal_keeps_buffer p T l buffer r e)
 
 module _ (f : List ℕ) (l : Lasso) (buffer : List ℕ) where
   -- what the player says of machines and a table
   abbrev call : Pair → List ℕ → Result Played
-  call p T = playerAnswer p T l buffer
+  call p T = player_answer p T l buffer
 
   -- ---- where the call is stopped
-  stopped : {r : Refusal} → fileRun f l buffer ≡ refused r → (fileRun f l buffer ≡ refused r) × (fileRunBuffer f l buffer ≡ buffer)
-  unfolding fileRunBuffer
-  stopped e = (e, buffer-kept _ _ buffer e)
+  stopped : {r : Refusal} → file_run f l buffer ≡ refused r → (file_run f l buffer ≡ refused r) × (file_run_buffer f l buffer ≡ buffer)
+  unfolding file_run_buffer
+  stopped e = (e, buffer_kept _ _ buffer e)
 
-  pub run-short : length buffer < runRoom → (fileRun f l buffer ≡ refused (refusal short-buffer 0 0 0)) × (fileRunBuffer f l buffer ≡ buffer)
-  unfolding fileRun
-  run-short h = stopped (then-refused _ _ _ (buffer-short runRoom (length buffer) h))
+  pub run_short : length buffer < run_room → (file_run f l buffer ≡ refused (refusal short_buffer 0 0 0)) × (file_run_buffer f l buffer ≡ buffer)
+  unfolding file_run
+  run_short h = stopped (then_refused _ _ _ (buffer_short run_room (length buffer) h))
 
-  module _ (room : runRoom ≤ length buffer) where
-    after-room : fileRun f l buffer ≡ outcomeBy call f
-    unfolding fileRun
-    after-room = then-of _ _ (buffer-valid runRoom (length buffer) room)
+  module _ (room : run_room ≤ length buffer) where
+    after_room : file_run f l buffer ≡ outcome_by call f
+    unfolding file_run
+    after_room = then_of _ _ (buffer_valid run_room (length buffer) room)
 
-    pub run-refused : {r : Refusal} → readAnswer f (replicate tableRoom 0) ≡ refused r → (fileRun f l buffer ≡ refused r) × (fileRunBuffer f l buffer ≡ buffer)
-    run-refused e = stopped (after-room ∙ outcome-refused call f e)
+    pub run_refused : {r : Refusal} → read_answer f (replicate table_room 0) ≡ refused r → (file_run f l buffer ≡ refused r) × (file_run_buffer f l buffer ≡ buffer)
+    run_refused e = stopped (after_room ∙ outcome_refused call f e)
 
     -- ---- by what was read
-    pub run-bare : {p : Pair} → readAnswer f (replicate tableRoom 0) ≡ answer (taken p false)
-        → (fileRun f l buffer ≡ answer noTable) × (fileRunBuffer f l buffer ≡ buffer)
-    unfolding fileRunBuffer
-    run-bare e =
-        let said = after-room ∙ outcome-bare call f e in
-        let note = (was-taken f (replicate tableRoom 0) _ false e).note-is in
-        (said, buffer-made _ _ buffer said ∙ rw note)
+    pub run_bare : {p : Pair} → read_answer f (replicate table_room 0) ≡ answer (taken p false)
+        → (file_run f l buffer ≡ answer without_table) × (file_run_buffer f l buffer ≡ buffer)
+    unfolding file_run_buffer
+    run_bare e =
+        let said = after_room ∙ outcome_bare call f e in
+        let note = (was_taken f (replicate table_room 0) _ false e).note_is in
+        (said, buffer_made _ _ buffer said ∙ rw note)
 
     -- with a table, the buffer is as the player leaves it
-    buffer-played : {p : Pair} → readAnswer f (replicate tableRoom 0) ≡ answer (taken p true) → fileRunBuffer f l buffer ≡ playerBuffer p (tableIn f) l buffer
-    unfolding fileRunBuffer
-    buffer-played {p} e =
-        let was = was-taken f (replicate tableRoom 0) p true e in
-        let said = after-room ∙ outcome-taken call f e refl refl in
-        rw (said, was.note-is, was.pair_is) (after-tests p (tableIn f) l buffer _ refl)
+    buffer_played : {p : Pair} → read_answer f (replicate table_room 0) ≡ answer (taken p true) → file_run_buffer f l buffer ≡ player_buffer p (table_in f) l buffer
+    unfolding file_run_buffer
+    buffer_played {p} e =
+        let was = was_taken f (replicate table_room 0) p true e in
+        let said = after_room ∙ outcome_taken call f e refl refl in
+        rw (said, was.note_is, was.pair_is) (after_tests p (table_in f) l buffer _ refl)
 
     -- what is said and left, by the player's answer v and the buffer that it left, as the code has them
-    pub run-played : {p : Pair} {T left : List ℕ} {v w : player.Played} → readAnswer f (replicate tableRoom 0) ≡ answer (taken p true) → T ≡ tableIn f
-        → playedOf v ≡ playerAnswer p T l buffer → left ≡ playerBuffer p T l buffer → v ≡ w
-        → (passOn (playedOf w) (λ r. answer (says r)) ≡ fileRun f l buffer) × (left ≡ fileRunBuffer f l buffer)
-    run-played {p} read same said kept is = (
-      sym (after-room ∙ outcome-taken call f read same (ap playedOf (sym is) ∙ said)),
-      kept ∙ ap (λ (T : List ℕ). playerBuffer p T l buffer) same ∙ sym (buffer-played read),
+    pub run_played : {p : Pair} {T left : List ℕ} {v w : player.Played} → read_answer f (replicate table_room 0) ≡ answer (taken p true) → T ≡ table_in f
+        → played_of v ≡ player_answer p T l buffer → left ≡ player_buffer p T l buffer → v ≡ w
+        → (pass_on (played_of w) (λ r. answer (says r)) ≡ file_run f l buffer) × (left ≡ file_run_buffer f l buffer)
+    run_played {p} read same said kept is = (
+      sym (after_room ∙ outcome_taken call f read same (ap played_of (sym is) ∙ said)),
+      kept ∙ ap (λ (T : List ℕ). player_buffer p T l buffer) same ∙ sym (buffer_played read),
     )
 
   -- ---- where there is an answer
   -- the buffer has room
-  answered : {o : Outcome Played} → fileRun f l buffer ≡ answer o → (runRoom ≤ length buffer) × (outcomeBy call f ≡ answer o)
-  unfolding fileRun
-  answered e = let a = then-answer (bufferValidity runRoom (length buffer)) _ e in (buffer-room runRoom (length buffer) a.0, a.1)
+  answered : {o : Outcome Played} → file_run f l buffer ≡ answer o → (run_room ≤ length buffer) × (outcome_by call f ≡ answer o)
+  unfolding file_run
+  answered e = let a = then_answer (buffer_validity run_room (length buffer)) _ e in (buffer_room run_room (length buffer) a.0, a.1)
 
   -- a run is the player's, and stands in the buffer as the player leaves it
-  pub run-given : {s q : ℕ} → fileRun f l buffer ≡ answer (says (played s q))
-      → RunGiven (pairOf f) (tableIn f) l buffer s q × (fileRunBuffer f l buffer ≡ playerBuffer (pairOf f) (tableIn f) l buffer)
-  run-given {s} {q} e =
+  pub run_given : {s q : ℕ} → file_run f l buffer ≡ answer (says (played s q))
+      → RunGiven (pair_of f) (table_in f) l buffer s q × (file_run_buffer f l buffer ≡ player_buffer (pair_of f) (table_in f) l buffer)
+  run_given {s} {q} e =
       let a = answered e in
-      let said = outcome-says call f a.1 in
-      let is-pair : pairOf f ≡ said.0 = (was-taken f (replicate tableRoom 0) said.0 true said.1).pair_is in
-      rw is-pair (given-run-is-right said.0 (tableIn f) l buffer s q said.2, buffer-played a.0 said.1)
+      let said = outcome_says call f a.1 in
+      let is_pair_lem : pair_of f ≡ said.0 = (was_taken f (replicate table_room 0) said.0 true said.1).pair_is in
+      rw is_pair_lem (given_run_is_right said.0 (table_in f) l buffer s q said.2, buffer_played a.0 said.1)
 
   -- it fits its buffer
-  pub run-small : {s q : ℕ} → fileRun f l buffer ≡ answer (says (played s q)) → s + q ≤ runRoom
-  run-small e = (run-given e).0.fits
+  pub run_small : {s q : ℕ} → file_run f l buffer ≡ answer (says (played s q)) → s + q ≤ run_room
+  run_small e = (run_given e).0.fits
 
   -- its loop is not empty, so that its number is not 0
-  pub run-loop : {s q : ℕ} → fileRun f l buffer ≡ answer (says (played s q)) → 0 < q
-  run-loop {s} {q} e =
-      let fair = (run-given e).0.fair in
-      omega (arith, (play-at _ _ fair).some-loop, length-take q (drop s (playerBuffer (pairOf f) (tableIn f) l buffer)))
+  pub run_loop : {s q : ℕ} → file_run f l buffer ≡ answer (says (played s q)) → 0 < q
+  run_loop {s} {q} e =
+      let fair = (run_given e).0.fair in
+      omega (arith, (play_at _ _ fair).some_loop, length-take q (drop s (player_buffer (pair_of f) (table_in f) l buffer)))
 
   -- ---- the buffer's length stays
-  pub run-length : length (fileRunBuffer f l buffer) ≡ length buffer
-  run-length = go (fileRun f l buffer) refl
+  pub run_length : length (file_run_buffer f l buffer) ≡ length buffer
+  run_length = go (file_run f l buffer) refl
     where
-      go : (v : Result (Outcome Played)) → fileRun f l buffer ≡ v → length (fileRunBuffer f l buffer) ≡ length buffer
-      go (answer (says (played s q))) e = let g = run-given e in ap length g.1 ∙ g.0.long
-      go (answer noTable) e = let a = answered e in ap length (run-bare a.0 (outcome-none call f a.1).1).1
+      go : (v : Result (Outcome Played)) → file_run f l buffer ≡ v → length (file_run_buffer f l buffer) ≡ length buffer
+      go (answer (says (played s q))) e = let g = run_given e in ap length g.1 ∙ g.0.long
+      go (answer without_table) e = let a = answered e in ap length (run_bare a.0 (outcome_none call f a.1).1).1
       go (refused r) e = ap length (stopped e).1
 
-  -- ---- of the contract `runOutcomeOf v ≡ fileRun f l buffer`
-  module _ {v : FileRun} (e : runOutcomeOf v ≡ fileRun f l buffer) where
+  -- ---- of the contract `run_outcome_of v ≡ file_run f l buffer`
+  module _ {v : FileRun} (e : run_outcome_of v ≡ file_run f l buffer) where
     -- what C is told in each case
-    pub told-run : {s q : ℕ} → v ≡ Run s q → toldToC (fileRun f l buffer) ≡ answer (played s q)
-    unfolding runOutcomeOf toldToC
-    told-run is = ap toldToC (sym e ∙ ap runOutcomeOf is)
+    pub told_run : {s q : ℕ} → v ≡ Run s q → told_to_c (file_run f l buffer) ≡ answer (played s q)
+    unfolding run_outcome_of told_to_c
+    told_run is = ap told_to_c (sym e ∙ ap run_outcome_of is)
 
-    pub told-bare : v ≡ NoTable → toldToC (fileRun f l buffer) ≡ refused (refusal no-table 0 0 0)
-    unfolding runOutcomeOf toldToC
-    told-bare is = ap toldToC (sym e ∙ ap runOutcomeOf is)
+    pub told_bare : v ≡ NoTable → told_to_c (file_run f l buffer) ≡ refused (refusal no_table 0 0 0)
+    unfolding run_outcome_of told_to_c
+    told_bare is = ap told_to_c (sym e ∙ ap run_outcome_of is)
 
-    pub told-refused : {r : Refusal} → v ≡ Refused r → toldToC (fileRun f l buffer) ≡ refused r
-    unfolding runOutcomeOf toldToC
-    told-refused is = ap toldToC (sym e ∙ ap runOutcomeOf is)
+    pub told_refused : {r : Refusal} → v ≡ Refused r → told_to_c (file_run f l buffer) ≡ refused r
+    unfolding run_outcome_of told_to_c
+    told_refused is = ap told_to_c (sym e ∙ ap run_outcome_of is)
 
     -- the lengths of a run fit
-    pub told-small : {s q : ℕ} → v ≡ Run s q → s + q ≤ runRoom
-    unfolding runOutcomeOf
-    told-small is = run-small (sym e ∙ ap runOutcomeOf is)
+    pub told_small : {s q : ℕ} → v ≡ Run s q → s + q ≤ run_room
+    unfolding run_outcome_of
+    told_small is = run_small (sym e ∙ ap run_outcome_of is)

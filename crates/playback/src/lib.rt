@@ -2,9 +2,9 @@
 #![tactic(auto)]
 
 ghost use Rattle.std.specs.Prelude.{◌≡◌};
-ghost use Rattle.machine.specs.Refusals.{spotAfter};
+ghost use Rattle.machine.specs.Refusals.{spot_after};
 ghost use Rattle.machine.specs.Lassos.{given};
-ghost use Rattle.playback.specs.Playing.{fileRun, fileRunBuffer, runOutcomeOf, toldToC, runNumber};
+ghost use Rattle.playback.specs.Playing.{file_run, file_run_buffer, run_outcome_of, told_to_c, run_number};
 
 use codec::Reading;
 use machine::Refusal;
@@ -20,8 +20,8 @@ pub enum FileRun {
 
 // Plays a lasso of the concrete machine by the table of a file: the abstract run goes to the lent buffer `run`.
 pub fn play_bytes(bytes: &[u8], stem: &[u8], cycle: &[u8], run: &mut [u8]) -> FileRun
-    ensures answer { runOutcomeOf result ≡ fileRun bytes.now (given stem.now cycle.now) run.old }
-    ensures content { run.new ≡ fileRunBuffer bytes.now (given stem.now cycle.now) run.old }
+    ensures answer { run_outcome_of result ≡ file_run bytes.now (given stem.now cycle.now) run.old }
+    ensures content { run.new ≡ file_run_buffer bytes.now (given stem.now cycle.now) run.old }
 {
     if run.len() < player::RUN_ROOM {
         return FileRun::Refused(machine::refuse(machine::SHORT_BUFFER, 0, 0, 0));
@@ -51,9 +51,9 @@ pub fn play_file(
     run: &mut [u8],
     spot: &mut [u64; 4],
 ) -> u64
-    ensures value { result ≡ runNumber (toldToC (fileRun bytes.now (given stem.now cycle.now) run.old)) }
-    ensures content { run.new ≡ fileRunBuffer bytes.now (given stem.now cycle.now) run.old }
-    ensures numbers { spot.new ≡ spotAfter (toldToC (fileRun bytes.now (given stem.now cycle.now) run.old)) spot.old }
+    ensures value { result ≡ run_number (told_to_c (file_run bytes.now (given stem.now cycle.now) run.old)) }
+    ensures content { run.new ≡ file_run_buffer bytes.now (given stem.now cycle.now) run.old }
+    ensures numbers { spot.new ≡ spot_after (told_to_c (file_run bytes.now (given stem.now cycle.now) run.old)) spot.old }
 {
     match play_bytes(bytes, stem, cycle, run) {
         FileRun::Run(s, q) => s as u64 * 65536 + q as u64,

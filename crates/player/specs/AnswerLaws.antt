@@ -7,81 +7,81 @@ use Rattle.std.proofs.Math.Decide.{dec_lt}
 use Rattle.machine.specs.declared.Pair.{Pair}
 use Rattle.machine.specs.declared.Partner.TheVariants.{State, Nobody}
 use Rattle.machine.specs.declared.Refusal.{Refusal}
-use Rattle.machine.specs.Refusals.{valid, answer, refused, refusal, short-buffer, no-start-partner}
-use Rattle.machine.specs.RefusalsLaws.{then-of, then-refused, then-answer, then-cases, given-refused, buffer-valid, buffer-short, buffer-room, buffer-made, buffer-kept}
-use Rattle.machine.specs.WellFormed.{pairValidity}
+use Rattle.machine.specs.Refusals.{valid, answer, refused, refusal, short_buffer, no_start_partner}
+use Rattle.machine.specs.RefusalsLaws.{then_of, then_refused, then_answer, then_cases, given_refused, buffer_valid, buffer_short, buffer_room, buffer_made, buffer_kept}
+use Rattle.machine.specs.WellFormed.{pair_validity}
 use Rattle.machine.specs.Lassos.{Lasso, moment}
-use Rattle.machine.specs.Table.{tableRoom}
-use Rattle.machine.specs.Lines.{linesValidity}
-use Rattle.machine.specs.Verdict.{Verdict, linesVerdict, checkVerdict}
-use Rattle.machine.specs.VerdictLaws.{lines-said}
-use Rattle.machine.specs.Player.{lassoValidity, startPartner, playValidity, runRoom, allValidity, playerAnswer, playerBuffer}
-use Rattle.machine.specs.PlayerLaws.{play-ill, play-fails, play-unfit, play-alone, play-valid}
+use Rattle.machine.specs.Table.{table_room}
+use Rattle.machine.specs.Lines.{lines_validity}
+use Rattle.machine.specs.Verdict.{Verdict, lines_verdict, check_verdict}
+use Rattle.machine.specs.VerdictLaws.{lines_said}
+use Rattle.machine.specs.Player.{lasso_validity, start_partner, play_validity, run_room, all_validity, player_answer, player_buffer}
+use Rattle.machine.specs.PlayerLaws.{play_ill, play_fails, play_unfit, play_alone, play_valid}
 use Rattle.player.specs.declared.Played.TheVariants.{Refused as NotPlayed}
-use Rattle.player.specs.Answers.{playedOf, runOf}
+use Rattle.player.specs.Answers.{played_of, run_of}
 use Rattle.player.specs.Places.{written}
 
 module _ (p : Pair) (T : List ℕ) where
   -- the table is long enough, the pair well formed, and each line passes
   pub record Passes : Type 0 where
-    pub long : tableRoom ≤ length T
-    pub pair : pairValidity p ≡ valid
-    pub lines : linesValidity p T ≡ valid
+    pub long : table_room ≤ length T
+    pub pair : pair_validity p ≡ valid
+    pub lines : lines_validity p T ≡ valid
 
   -- where the check refuses nothing
-  pub check-tells : {v : Verdict} → checkVerdict p T ≡ answer v → Passes
-  unfolding checkVerdict
-  check-tells {v} e =
-      let a = then-answer _ _ e in
-      let b = lines-said p T v a.1 in
-      record { long = buffer-room tableRoom (length T) a.0; pair = b.0; lines = b.1 }
+  pub check_tells : {v : Verdict} → check_verdict p T ≡ answer v → Passes
+  unfolding check_verdict
+  check_tells {v} e =
+      let a = then_answer _ _ e in
+      let b = lines_said p T v a.1 in
+      record { long = buffer_room table_room (length T) a.0; pair = b.0; lines = b.1 }
 
   module _ (l : Lasso) (buffer : List ℕ) where
     -- ---- where the call is stopped
-    pub stopped-by : (r : Refusal) → allValidity p T l buffer ≡ refused r
-        → (playedOf (NotPlayed r) ≡ playerAnswer p T l buffer) × (buffer ≡ playerBuffer p T l buffer)
-    unfolding playedOf playerAnswer playerBuffer
-    stopped-by r e = (sym (then-refused _ _ r e), sym (buffer-kept _ _ _ e))
+    pub stopped_by : (r : Refusal) → all_validity p T l buffer ≡ refused r
+        → (played_of (NotPlayed r) ≡ player_answer p T l buffer) × (buffer ≡ player_buffer p T l buffer)
+    unfolding played_of player_answer player_buffer
+    stopped_by r e = (sym (then_refused _ _ r e), sym (buffer_kept _ _ _ e))
 
-    pub short-run : length buffer < runRoom → allValidity p T l buffer ≡ refused (refusal short-buffer 0 0 0)
-    unfolding allValidity
-    short-run h = by_cases (dec_lt (length T) tableRoom)
-        (λ b. then-refused _ _ _ (buffer-short tableRoom (length T) b))
-        (λ b. then-of _ _ (buffer-valid tableRoom (length T) (omega arith)) ∙ then-refused _ _ _ (buffer-short runRoom (length buffer) h))
+    pub short_run : length buffer < run_room → all_validity p T l buffer ≡ refused (refusal short_buffer 0 0 0)
+    unfolding all_validity
+    short_run h = by_cases (dec_lt (length T) table_room)
+        (λ b. then_refused _ _ _ (buffer_short table_room (length T) b))
+        (λ b. then_of _ _ (buffer_valid table_room (length T) (omega arith)) ∙ then_refused _ _ _ (buffer_short run_room (length buffer) h))
 
-    module _ (room : runRoom ≤ length buffer) where
+    module _ (room : run_room ≤ length buffer) where
       -- where both lent buffers are long enough, the other tests tell
-      left : tableRoom ≤ length T → allValidity p T l buffer ≡ playValidity p T l
-      unfolding allValidity
-      left h = then-of _ _ (buffer-valid tableRoom (length T) h) ∙ then-of _ _ (buffer-valid runRoom (length buffer) room)
+      left : table_room ≤ length T → all_validity p T l buffer ≡ play_validity p T l
+      unfolding all_validity
+      left h = then_of _ _ (buffer_valid table_room (length T) h) ∙ then_of _ _ (buffer_valid run_room (length buffer) room)
 
-      pub check-stops : (r : Refusal) → checkVerdict p T ≡ refused r → allValidity p T l buffer ≡ refused r
-      unfolding checkVerdict linesVerdict allValidity
-      check-stops r e = ⊎_elim
-          (λ q. then-refused _ _ r q)
-          (λ q. left (buffer-room tableRoom (length T) q.0) ∙ ⊎_elim
-          (λ z. play-ill p T l r z)
-          (λ z. play-fails p T l z.0 r (given-refused (linesValidity p T) _ z.1))
-          (then-cases (pairValidity p) _ r q.1))
-          (then-cases _ (linesVerdict p T) r e)
+      pub check_stops : (r : Refusal) → check_verdict p T ≡ refused r → all_validity p T l buffer ≡ refused r
+      unfolding check_verdict lines_verdict all_validity
+      check_stops r e = ⊎_elim
+          (λ q. then_refused _ _ r q)
+          (λ q. left (buffer_room table_room (length T) q.0) ∙ ⊎_elim
+          (λ z. play_ill p T l r z)
+          (λ z. play_fails p T l z.0 r (given_refused (lines_validity p T) _ z.1))
+          (then_cases (pair_validity p) _ r q.1))
+          (then_cases _ (lines_verdict p T) r e)
 
       module _ (h : Passes) where
-        pub lasso-stops : (r : Refusal) → lassoValidity p.concrete l ≡ refused r → allValidity p T l buffer ≡ refused r
-        lasso-stops r e = left h.long ∙ play-unfit p T l h.pair h.lines r e
+        pub lasso_stops : (r : Refusal) → lasso_validity p.concrete l ≡ refused r → all_validity p T l buffer ≡ refused r
+        lasso_stops r e = left h.long ∙ play_unfit p T l h.pair h.lines r e
 
-        module _ (tested : lassoValidity p.concrete l ≡ valid) where
-          pub start-stops : startPartner p T (moment l 0) ≡ Nobody → allValidity p T l buffer ≡ refused (refusal no-start-partner 0 0 0)
-          start-stops e = left h.long ∙ play-alone p T l h.pair h.lines tested e
+        module _ (tested : lasso_validity p.concrete l ≡ valid) where
+          pub start_stops : start_partner p T (moment l 0) ≡ Nobody → all_validity p T l buffer ≡ refused (refusal no_start_partner 0 0 0)
+          start_stops e = left h.long ∙ play_alone p T l h.pair h.lines tested e
 
-          module _ (a : ℕ) (e : startPartner p T (moment l 0) ≡ State a) where
-            all-valid : allValidity p T l buffer ≡ valid
-            all-valid = left h.long ∙ play-valid p T l h.pair h.lines tested a e
+          module _ (a : ℕ) (e : start_partner p T (moment l 0) ≡ State a) where
+            all_valid : all_validity p T l buffer ≡ valid
+            all_valid = left h.long ∙ play_valid p T l h.pair h.lines tested a e
 
             -- ---- the run
-            pub run-answer : playedOf (runOf p T l) ≡ playerAnswer p T l buffer
-            unfolding playedOf runOf playerAnswer
-            run-answer = sym (then-of _ _ all-valid)
+            pub run_answer : played_of (run_of p T l) ≡ player_answer p T l buffer
+            unfolding played_of run_of player_answer
+            run_answer = sym (then_of _ _ all_valid)
 
-            pub run-buffer : written p T l buffer ≡ playerBuffer p T l buffer
-            unfolding written playerBuffer
-            run-buffer = sym (buffer-made _ _ _ all-valid)
+            pub run_buffer : written p T l buffer ≡ player_buffer p T l buffer
+            unfolding written player_buffer
+            run_buffer = sym (buffer_made _ _ _ all_valid)

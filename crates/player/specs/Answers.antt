@@ -4,14 +4,14 @@ use Rattle.machine.specs.declared.Pair.{Pair}
 use Rattle.machine.specs.Refusals.{Result, answer, refused}
 use Rattle.machine.specs.Lassos.{Lasso}
 use Rattle.machine.specs.Player as P
-use Rattle.machine.specs.Player.{stemLength, loopLength}
+use Rattle.machine.specs.Player.{stem_length, loop_length}
 use Rattle.player.specs.declared.Played.{Played}
 use Rattle.player.specs.declared.Played.TheVariants.{Run, Refused}
 
-unfoldable pub playedOf : Played → Result P.Played
-playedOf (Run stem loop) = answer (P.played stem loop)
-playedOf (Refused r) = refused r
+unfoldable pub played_of : Played → Result P.Played
+played_of (Run stem loop) = answer (P.played stem loop)
+played_of (Refused r) = refused r
 
 -- the run's lengths, as the player says them
-unfoldable pub runOf : Pair → List ℕ → Lasso → Played
-runOf p T l = Run (stemLength p T l) (loopLength p T l)
+unfoldable pub run_of : Pair → List ℕ → Lasso → Played
+run_of p T l = Run (stem_length p T l) (loop_length p T l)

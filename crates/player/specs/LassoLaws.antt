@@ -2,46 +2,46 @@
 use Rattle.std.specs.Prelude.{true, false, List, ◌≡◌, refl, ℕ, suc, ◌-◌, ◌≤◌, ◌<◌, length, get_or}
 use Rattle.std.proofs.Common.{sym, ap, ◌∙◌, arith}
 use Rattle.std.proofs.Math.ListN.{get_or-eq_default}
-use Rattle.mask.specs.LogicLaws.{not-i, not-f}
-use Rattle.mask.specs.Bits.{hasBit}
-use Rattle.mask.specs.BitsLaws.{has-none}
+use Rattle.mask.specs.LogicLaws.{not_i, not_f}
+use Rattle.mask.specs.Bits.{has_bit}
+use Rattle.mask.specs.BitsLaws.{has_none}
 use Rattle.mask.specs.Bounded.{first}
-use Rattle.mask.specs.BoundedLaws.{some-of, some-none, first-cong}
+use Rattle.mask.specs.BoundedLaws.{some_of, some_none, first_cong}
 use Rattle.machine.specs.declared.Machine.{Machine}
-use Rattle.machine.specs.Machines.{successors, moves, fairSet, inFairSet}
-use Rattle.machine.specs.Lassos.{Lasso, lassoLength, moment}
-use Rattle.machine.specs.Player.{missedSet}
-use Rattle.machine.specs.LassosLaws.{moment-loop}
-use Rattle.soundness.specs.PlayLaws.{moment-again}
-use Rattle.player.specs.Given.{noneIn}
+use Rattle.machine.specs.Machines.{successors, moves, fair_set, in_fair_set}
+use Rattle.machine.specs.Lassos.{Lasso, lasso_length, moment}
+use Rattle.machine.specs.Player.{missed_set}
+use Rattle.machine.specs.LassosLaws.{moment_loop}
+use Rattle.soundness.specs.PlayLaws.{moment_again}
+use Rattle.player.specs.Given.{none_in}
 
 -- ---- states and moves
 -- the state at a position of the loop
-pub moment-cycle : (l : Lasso) (i : ℕ) → length l.stem ≤ i → i < lassoLength l → get_or l.loop (i - length l.stem) 0 ≡ moment l i
-moment-cycle l i h k = sym (moment-loop l (i - length l.stem) (omega arith)) ∙ ap (moment l) (omega arith)
+pub moment_cycle : (l : Lasso) (i : ℕ) → length l.stem ≤ i → i < lasso_length l → get_or l.loop (i - length l.stem) 0 ≡ moment l i
+moment_cycle l i h k = sym (moment_loop l (i - length l.stem) (omega arith)) ∙ ap (moment l) (omega arith)
 
 -- after the loop's last state comes its first
-pub moment-closing : (l : Lasso) (i : ℕ) → suc i ≡ lassoLength l → moment l (suc i) ≡ moment l (length l.stem)
-moment-closing l i e = ap (moment l) e ∙ moment-again l (length l.stem) (omega arith)
+pub moment_closing : (l : Lasso) (i : ℕ) → suc i ≡ lasso_length l → moment l (suc i) ≡ moment l (length l.stem)
+moment_closing l i e = ap (moment l) e ∙ moment_again l (length l.stem) (omega arith)
 
 -- a state past the machine's entries has no successor
-pub moves-past : (m : Machine) (s t : ℕ) → length m.successors ≤ s → moves m s t ≡ false
+pub moves_past : (m : Machine) (s t : ℕ) → length m.successors ≤ s → moves m s t ≡ false
 unfolding moves successors
-moves-past m s t h = rw (get_or-eq_default m.successors 0 h) (has-none t)
+moves_past m s t h = rw (get_or-eq_default m.successors 0 h) (has_none t)
 
 -- ---- 15
-missed-is : (m : Machine) (l : Lasso) (k : ℕ) → noneIn (get_or m.fairness k 0) l.loop ≡ missedSet m l k
-unfolding missedSet noneIn inFairSet fairSet
-missed-is m l k = refl
+missed_is : (m : Machine) (l : Lasso) (k : ℕ) → none_in (get_or m.fairness k 0) l.loop ≡ missed_set m l k
+unfolding missed_set none_in in_fair_set fair_set
+missed_is m l k = refl
 
 -- the first set that the loop misses
-pub first-missed : (m : Machine) (l : Lasso) → first m.sets (λ k. noneIn (get_or m.fairness k 0) l.loop) ≡ first m.sets (missedSet m l)
-first-missed m l = first-cong m.sets _ _ (λ k h. missed-is m l k)
+pub first_missed : (m : Machine) (l : Lasso) → first m.sets (λ k. none_in (get_or m.fairness k 0) l.loop) ≡ first m.sets (missed_set m l)
+first_missed m l = first_cong m.sets _ _ (λ k h. missed_is m l k)
 
-pub none-of : (members : ℕ) (cycle : List ℕ) → ((i : ℕ) → i < length cycle → hasBit members (get_or cycle i 0) ≡ false) → noneIn members cycle ≡ true
-unfolding noneIn
-none-of members cycle h = not-i (some-none (length cycle) _ h)
+pub none_of : (members : ℕ) (cycle : List ℕ) → ((i : ℕ) → i < length cycle → has_bit members (get_or cycle i 0) ≡ false) → none_in members cycle ≡ true
+unfolding none_in
+none_of members cycle h = not_i (some_none (length cycle) _ h)
 
-pub none-not : (members : ℕ) (cycle : List ℕ) (i : ℕ) → i < length cycle → hasBit members (get_or cycle i 0) ≡ true → noneIn members cycle ≡ false
-unfolding noneIn
-none-not members cycle i h t = not-f (some-of (length cycle) _ i h t)
+pub none_not : (members : ℕ) (cycle : List ℕ) (i : ℕ) → i < length cycle → has_bit members (get_or cycle i 0) ≡ true → none_in members cycle ≡ false
+unfolding none_in
+none_not members cycle i h t = not_f (some_of (length cycle) _ i h t)

@@ -3,19 +3,19 @@
 #![tactic(auto)]
 
 ghost use Rattle.std.specs.Prelude.{true, cond, ◌≡◌, ℕ, ◌+◌, ◌<◌, ◌≤◌, eqb, length, get_or};
-ghost use Rattle.mask.specs.Bits.{hasBit};
+ghost use Rattle.mask.specs.Bits.{has_bit};
 ghost use Rattle.mask.specs.Bounded.{first};
-ghost use Rattle.machine.specs.Machines.{moves, next, nC, nA, setsA};
-ghost use Rattle.machine.specs.Refusals.{testedOf};
+ghost use Rattle.machine.specs.Machines.{moves, next, n_c, n_a, sets_a};
+ghost use Rattle.machine.specs.Refusals.{tested_of};
 ghost use Rattle.machine.specs.Lassos.{moment, given};
-ghost use Rattle.machine.specs.Step.{singleStep, stateOf};
+ghost use Rattle.machine.specs.Step.{single_step, state_of};
 ghost use Rattle.machine.specs.Table.{entry};
-ghost use Rattle.machine.specs.Lines.{nonBlank};
-ghost use Rattle.machine.specs.Player.{badLength, badStep, lassoValidity, startPartner, runRoom, playerAnswer, playerBuffer};
+ghost use Rattle.machine.specs.Lines.{non_blank};
+ghost use Rattle.machine.specs.Player.{has_bad_length, bad_step, lasso_validity, start_partner, run_room, player_answer, player_buffer};
 ghost use Rattle.soundness.specs.PlayerLaws.{Playable};
-ghost use Rattle.player.specs.Answers.{playedOf, runOf};
-ghost use Rattle.player.specs.Given.{noneIn};
-ghost use Rattle.player.specs.Places.{Tabled, OnPlay, Stepped, onward, numberOf, written};
+ghost use Rattle.player.specs.Answers.{played_of, run_of};
+ghost use Rattle.player.specs.Given.{none_in};
+ghost use Rattle.player.specs.Places.{Tabled, OnPlay, Stepped, onward, number_of, written};
 
 use linecheck::Checked;
 use machine::{Machine, Pair, Partner, Refusal, Validity};
@@ -122,9 +122,9 @@ fn best_partner(
     d: usize,
 ) -> Partner
     requires tabled { Tabled p matched.now table.now }
-    requires j_bound { (j < setsA p) × (d < nC p) }
-    requires appended { (i : ℕ) → i < 64 → hasBit moves i ≡ true → i < nA p }
-    ensures { result ≡ singleStep present moves (nonBlank p table.now j d) (entry p table.now j d) }
+    requires j_bound { (j < sets_a p) × (d < n_c p) }
+    requires appended { (i : ℕ) → i < 64 → has_bit moves i ≡ true → i < n_a p }
+    ensures { result ≡ single_step present moves (non_blank p table.now j d) (entry p table.now j d) }
 {
     let concrete = p.concrete;
     let abstraction = p.abstraction;
@@ -142,7 +142,7 @@ fn best_partner(
 
 // The number, below 448, of a state a and a section j. It takes a modulo 64 and j modulo 7, so that any have an answer; states and sections are less.
 fn number_of(a: usize, j: usize) -> usize
-    ensures { result ≡ numberOf a j }
+    ensures { result ≡ number_of a j }
 {
     a % 64 * 7 + j % 7
 }
@@ -174,7 +174,7 @@ fn moves_to(m: Machine, s: usize, t: usize) -> bool
 // Whether refusal 14 holds at position i; the closing step belongs to the last.
 fn bad_step(m: Machine, stem: &[u8], cycle: &[u8], i: usize) -> bool
     requires { (0 < length cycle.now) × ((length stem.now + length cycle.now ≤ 64) × (i < length stem.now + length cycle.now)) }
-    ensures { result ≡ badStep m (given stem.now cycle.now) i }
+    ensures { result ≡ bad_step m (given stem.now cycle.now) i }
 {
     let s = state_at(stem, cycle, i);
     if m.states <= s {
@@ -198,7 +198,7 @@ fn bad_step(m: Machine, stem: &[u8], cycle: &[u8], i: usize) -> bool
 
 // Whether no state of the loop is in the mask of a set.
 fn misses(members: u64, cycle: &[u8]) -> bool
-    ensures { result ≡ noneIn members cycle.now }
+    ensures { result ≡ none_in members cycle.now }
 {
     for i in 0..cycle.len() {
         if mask::has(members, cycle[i] as usize) {
@@ -210,7 +210,7 @@ fn misses(members: u64, cycle: &[u8]) -> bool
 
 // Whether refusal 13 holds.
 fn bad_length(stem: &[u8], cycle: &[u8]) -> bool
-    ensures { result ≡ badLength (given stem.now cycle.now) }
+    ensures { result ≡ has_bad_length (given stem.now cycle.now) }
 {
     if cycle.len() == 0 {
         return true;
@@ -227,7 +227,7 @@ fn bad_length(stem: &[u8], cycle: &[u8]) -> bool
 // The first position at which refusal 14 holds, the count of positions where there is none.
 fn first_bad_step(m: Machine, stem: &[u8], cycle: &[u8]) -> usize
     requires { (0 < length cycle.now) × (length stem.now + length cycle.now ≤ 64) }
-    ensures { result ≡ first (length stem.now + length cycle.now) (badStep m (given stem.now cycle.now)) }
+    ensures { result ≡ first (length stem.now + length cycle.now) (bad_step m (given stem.now cycle.now)) }
 {
     let whole = stem.len() + cycle.len();
     for i in 0..whole {
@@ -241,7 +241,7 @@ fn first_bad_step(m: Machine, stem: &[u8], cycle: &[u8]) -> usize
 // The first set without a state of the loop, the count of sets where there is none.
 fn first_missed_set(m: Machine, cycle: &[u8]) -> usize
     requires { m.sets ≤ 8 }
-    ensures { result ≡ first m.sets (λ k. noneIn (get_or m.fairness k 0) cycle.now) }
+    ensures { result ≡ first m.sets (λ k. none_in (get_or m.fairness k 0) cycle.now) }
 {
     let sets = m.sets;
     let fairness = m.fairness;
@@ -256,7 +256,7 @@ fn first_missed_set(m: Machine, cycle: &[u8]) -> usize
 // Refusals 13 to 15.
 fn lasso_validity(m: Machine, stem: &[u8], cycle: &[u8]) -> Validity
     requires { m.sets ≤ 8 }
-    ensures { testedOf result ≡ lassoValidity m (given stem.now cycle.now) }
+    ensures { tested_of result ≡ lasso_validity m (given stem.now cycle.now) }
 {
     if bad_length(stem, cycle) {
         return Validity::Refused(machine::refuse(machine::BAD_LASSO_LENGTH, 0, 0, 0));
@@ -284,9 +284,9 @@ fn write_run(
 ) -> Played
     requires tabled { Tabled p matched.now table.now }
     requires playable { Playable p table.now (given stem.now cycle.now) }
-    requires first_value { first ≡ stateOf (startPartner p table.now (moment (given stem.now cycle.now) 0)) }
-    requires run_room_in_bounds { runRoom ≤ length run.old }
-    ensures answer { result ≡ runOf p table.now (given stem.now cycle.now) }
+    requires first_value { first ≡ state_of (start_partner p table.now (moment (given stem.now cycle.now) 0)) }
+    requires run_room_in_bounds { run_room ≤ length run.old }
+    ensures answer { result ≡ run_of p table.now (given stem.now cycle.now) }
     ensures buffer { run.new ≡ written p table.now (given stem.now cycle.now) run.old }
 {
     let start = stem.len();
@@ -319,8 +319,8 @@ fn write_run(
 // Plays a lasso of the concrete machine by the table: the abstract run goes to the lent buffer `run`, and its stem length and loop length come
 // back, or where the call was stopped.
 pub fn play(p: Pair, table: &[u16], stem: &[u8], cycle: &[u8], run: &mut [u8]) -> Played
-    ensures answer { playedOf result ≡ playerAnswer p table.now (given stem.now cycle.now) run.old }
-    ensures buffer { run.new ≡ playerBuffer p table.now (given stem.now cycle.now) run.old }
+    ensures answer { played_of result ≡ player_answer p table.now (given stem.now cycle.now) run.old }
+    ensures buffer { run.new ≡ player_buffer p table.now (given stem.now cycle.now) run.old }
 {
     if run.len() < RUN_ROOM {
         return Played::Refused(machine::refuse(machine::SHORT_BUFFER, 0, 0, 0));

@@ -4,13 +4,13 @@
 ghost use Rattle.std.specs.Prelude.{true, ◌∷◌, [], ◌++◌, ◌≡◌, ℕ, suc, ◌+◌, ◌*◌, ◌≤◌, eqb, length, take, drop};
 ghost use Rattle.std.proofs.lemmas.List.Edits.{sets};
 ghost use Rattle.mask.specs.Logic.{or};
-ghost use Rattle.text.specs.Decimal.{decimal, isDigit};
-ghost use Rattle.machine.specs.Player.{runRoom};
-ghost use Rattle.report.specs.Text.{refusalLine};
+ghost use Rattle.text.specs.Decimal.{decimal, is_digit};
+ghost use Rattle.machine.specs.Player.{run_room};
+ghost use Rattle.report.specs.Text.{refusal_line};
 ghost use Rattle.playback.specs.declared.FileRun.TheVariants.{Run};
-ghost use Rattle.playback.specs.Playing.{runOutcomeOf};
-ghost use Rattle.playline.specs.Lasso.{grown, isPlain, numbersIn, strokeAt, readable, statesText};
-ghost use Rattle.playline.specs.Line.{lineRoom, runLine, runOutcomeLine, playLine};
+ghost use Rattle.playback.specs.Playing.{run_outcome_of};
+ghost use Rattle.playline.specs.Lasso.{grown, is_plain, numbers_in, stroke_at, readable, states_text};
+ghost use Rattle.playline.specs.Line.{line_room, run_line, run_outcome_line, play_line};
 
 use machine::Refusal;
 use playback::FileRun;
@@ -28,14 +28,14 @@ struct Numbers {
 // ---- Reading a lasso
 
 fn is_digit(b: u8) -> bool
-    ensures { result ≡ isDigit b }
+    ensures { result ≡ is_digit b }
 {
     if b < b'0' { false } else { b <= b'9' }
 }
 
 // The number with one digit more, 255 for any over it.
 fn grown(n: u8, b: u8) -> u8
-    requires { isDigit b ≡ true }
+    requires { is_digit b ≡ true }
     ensures { result ≡ grown n b }
 {
     let wide = n as u32 * 10 + (b - b'0') as u32;
@@ -61,7 +61,7 @@ fn pushed(list: Numbers, n: u8) -> Numbers
 
 // The numbers that a text writes.
 fn numbers_in(text: &[u8]) -> Numbers
-    ensures { (result.count ≤ 65) × (take result.count result.states ≡ numbersIn text.now) }
+    ensures { (result.count ≤ 65) × (take result.count result.states ≡ numbers_in text.now) }
 {
     let mut list = Numbers {
         states: [0; 65],
@@ -87,7 +87,7 @@ fn numbers_in(text: &[u8]) -> Numbers
 
 // Where the first stroke stands; the text's length where there is none.
 fn stroke_at(text: &[u8]) -> usize
-    ensures { result ≡ strokeAt text.now }
+    ensures { result ≡ stroke_at text.now }
 {
     for i in 0..text.len() {
         if text[i] == b'/' {
@@ -99,21 +99,21 @@ fn stroke_at(text: &[u8]) -> usize
 
 // Whether a byte is a digit or a blank.
 fn is_plain(b: u8) -> bool
-    ensures { result ≡ isPlain b }
+    ensures { result ≡ is_plain b }
 {
     if is_digit(b) { true } else { b == b' ' }
 }
 
 // Whether a byte may stand at place i of a readable text whose stroke stands at a place.
 fn may_stand(b: u8, i: usize, stroke: usize) -> bool
-    ensures { result ≡ or (eqb i stroke) (isPlain b) }
+    ensures { result ≡ or (eqb i stroke) (is_plain b) }
 {
     if i == stroke { true } else { is_plain(b) }
 }
 
 // Whether the text, whose first stroke stands at a place, is a stem, a stroke and a loop.
 fn is_readable(text: &[u8], stroke: usize) -> bool
-    requires { stroke ≡ strokeAt text.now }
+    requires { stroke ≡ stroke_at text.now }
     ensures { result ≡ readable text.now }
 {
     if text.len() <= stroke {
@@ -151,9 +151,9 @@ fn put_state(out: &mut [u8], at: usize, s: u8) -> usize
 // Writes the states from a place on, a blank before each, and gives the place behind them.
 fn put_states(out: &mut [u8], at: usize, states: &[u8]) -> usize
     requires { at + 4 * length states.now ≤ length out.old }
-    ensures place { result ≡ at + length (statesText states.now) }
+    ensures place { result ≡ at + length (states_text states.now) }
     ensures room { result ≤ at + 4 * length states.now }
-    ensures bytes { out.new ≡ sets out.old at (statesText states.now) }
+    ensures bytes { out.new ≡ sets out.old at (states_text states.now) }
 {
     let mut place = at;
     for i in 0..states.len() {
@@ -165,9 +165,9 @@ fn put_states(out: &mut [u8], at: usize, states: &[u8]) -> usize
 // Writes the line of a run with this stem and loop, and gives its length.
 fn put_run(out: &mut [u8], stem: &[u8], cycle: &[u8]) -> usize
     requires { 4 * length stem.now + 4 * length cycle.now + 6 ≤ length out.old }
-    ensures length { result ≡ length (runLine stem.now cycle.now) }
+    ensures length { result ≡ length (run_line stem.now cycle.now) }
     ensures room { result ≤ 4 * length stem.now + 4 * length cycle.now + 6 }
-    ensures bytes { out.new ≡ sets out.old 0 (runLine stem.now cycle.now) }
+    ensures bytes { out.new ≡ sets out.old 0 (run_line stem.now cycle.now) }
 {
     text::put(out, 0, b"run");
     let stroke = put_states(out, 3, stem);
@@ -180,9 +180,9 @@ fn put_run(out: &mut [u8], stem: &[u8], cycle: &[u8]) -> usize
 // The same for a run at a buffer's front: a stem of s states and a loop of q.
 fn put_run_in(out: &mut [u8], run: &[u8], s: usize, q: usize) -> usize
     requires { (s + q ≤ length run.now) × (4 * (s + q) + 6 ≤ length out.old) }
-    ensures length { result ≡ length (runLine (take s run.now) (take q (drop s run.now))) }
+    ensures length { result ≡ length (run_line (take s run.now) (take q (drop s run.now))) }
     ensures room { result ≤ 4 * (s + q) + 6 }
-    ensures bytes { out.new ≡ sets out.old 0 (runLine (take s run.now) (take q (drop s run.now))) }
+    ensures bytes { out.new ≡ sets out.old 0 (run_line (take s run.now) (take q (drop s run.now))) }
 {
     let end = s + q;
     put_run(out, &run[..s], &run[s..end])
@@ -199,9 +199,9 @@ fn put_line(out: &mut [u8], word: &[u8]) -> usize
 
 // Writes the line of a refusal, and gives its length.
 fn put_refused(out: &mut [u8], r: Refusal) -> usize
-    ensures length { result ≡ length (refusalLine r) }
+    ensures length { result ≡ length (refusal_line r) }
     ensures room { result ≤ 128 }
-    ensures bytes { out.new ≡ sets out.old 0 (refusalLine r) }
+    ensures bytes { out.new ≡ sets out.old 0 (refusal_line r) }
 {
     let line = report::refusal_line(r);
     let text = line.text;
@@ -211,10 +211,10 @@ fn put_refused(out: &mut [u8], r: Refusal) -> usize
 
 // Writes the line of what is said, where the run stands in a buffer, and gives its length.
 fn put_outcome(out: &mut [u8], said: FileRun, run: &[u8]) -> usize
-    requires { (length run.now ≤ runRoom) × ((lineRoom ≤ length out.old) × ((s q : ℕ) → said ≡ Run s q → s + q ≤ length run.now)) }
-    ensures length { result ≡ length (runOutcomeLine (runOutcomeOf said) run.now) }
-    ensures room { result ≤ lineRoom }
-    ensures bytes { out.new ≡ sets out.old 0 (runOutcomeLine (runOutcomeOf said) run.now) }
+    requires { (length run.now ≤ run_room) × ((line_room ≤ length out.old) × ((s q : ℕ) → said ≡ Run s q → s + q ≤ length run.now)) }
+    ensures length { result ≡ length (run_outcome_line (run_outcome_of said) run.now) }
+    ensures room { result ≤ line_room }
+    ensures bytes { out.new ≡ sets out.old 0 (run_outcome_line (run_outcome_of said) run.now) }
 {
     match said {
         FileRun::Run(s, q) => put_run_in(out, run, s, q),
@@ -225,9 +225,9 @@ fn put_outcome(out: &mut [u8], said: FileRun, run: &[u8]) -> usize
 
 // Writes the line of a file and of the lasso that the arguments' text writes to the front of `out`, and gives its length.
 pub fn play_line(bytes: &[u8], text: &[u8], out: &mut [u8; LINE_ROOM]) -> usize
-    ensures length { result ≡ length (playLine bytes.now text.now) }
-    ensures room { result ≤ lineRoom }
-    ensures bytes { out.new ≡ sets out.old 0 (playLine bytes.now text.now) }
+    ensures length { result ≡ length (play_line bytes.now text.now) }
+    ensures room { result ≤ line_room }
+    ensures bytes { out.new ≡ sets out.old 0 (play_line bytes.now text.now) }
 {
     let stroke = stroke_at(text);
     if !is_readable(text, stroke) {

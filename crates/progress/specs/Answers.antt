@@ -7,13 +7,13 @@ use Rattle.progress.specs.declared.LookedUp.{LookedUp}
 use Rattle.progress.specs.declared.LookedUp.TheVariants as looked
 
 -- whether the turn is finished
-unfoldable pub turnedOf : Turned → Result Bool
-turnedOf turned.Finished = answer true
-turnedOf turned.Unfinished = answer false
-turnedOf (turned.Refused r) = refused r
+unfoldable pub turned_of : Turned → Result Bool
+turned_of turned.Finished = answer true
+turned_of turned.Unfinished = answer false
+turned_of (turned.Refused r) = refused r
 
 -- whether the pair is still in
-unfoldable pub lookedUpOf : LookedUp → Result Bool
-lookedUpOf looked.StillIn = answer true
-lookedUpOf looked.StruckOut = answer false
-lookedUpOf (looked.Refused r) = refused r
+unfoldable pub looked_up_of : LookedUp → Result Bool
+looked_up_of looked.StillIn = answer true
+looked_up_of looked.StruckOut = answer false
+looked_up_of (looked.Refused r) = refused r

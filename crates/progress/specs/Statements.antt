@@ -1,81 +1,81 @@
 -- What is shown of the solver by turns (document 02, No. 6), "of every list of turns from the first over the same machines", over the definitions
 -- that the contracts cite. Theorems.antt gives a proof of each statement, by name. What is said of lists of turns is for machines that the calls
--- take: `wellFormed p ≡ true` and `nonemptySets p ≡ true`.
+-- take: `well_formed p ≡ true` and `nonempty_sets p ≡ true`.
 use Rattle.std.specs.Prelude.{true, false, cond, List, [], ◌∷◌, ◌++◌, ◌↔◌, ◌≡◌, ℕ, zero, suc, ◌+◌, ◌-◌, ◌≤◌, ◌<◌, leb, length}
 use Rattle.machine.specs.declared.Pair.{Pair}
 use Rattle.machine.specs.declared.Refusal.{Refusal}
-use Rattle.machine.specs.Machines.{matched, nC, nA, setsA}
+use Rattle.machine.specs.Machines.{matched, n_c, n_a, sets_a}
 use Rattle.machine.specs.Refusals.{answer, refused}
-use Rattle.machine.specs.WellFormed.{wellFormed, nonemptySets}
-use Rattle.machine.specs.Ranks.{solverTable}
-use Rattle.machine.specs.Table.{blank, tableRoom, entry, covers, entries}
-use Rattle.solver.specs.Solver.{solveValidity, solvedTable}
-use Rattle.progress.specs.Turns.{firstGiven, turnAnswer, turnFamily, turnTable, saysFinished, lookUpAnswer}
+use Rattle.machine.specs.WellFormed.{well_formed, nonempty_sets}
+use Rattle.machine.specs.Ranks.{solver_table}
+use Rattle.machine.specs.Table.{blank, table_room, entry, covers, entries}
+use Rattle.solver.specs.Solver.{solve_validity, solved_table}
+use Rattle.progress.specs.Turns.{first_given, turn_answer, turn_family, turn_table, says_finished, look_up_answer}
 
 -- a list of turns has the tables that were lent, the latest first; the family that it leaves
-unfoldable pub familyOfTurns : Pair → List (List ℕ) → List ℕ
-familyOfTurns p [] = firstGiven p
-familyOfTurns p (T ∷ Ts) = turnFamily p (familyOfTurns p Ts) (length T)
+unfoldable pub family_of_turns : Pair → List (List ℕ) → List ℕ
+family_of_turns p [] = first_given p
+family_of_turns p (T ∷ Ts) = turn_family p (family_of_turns p Ts) (length T)
 
 -- how many turns were made: a call that was lent too short a table is refused, and is none
-unfoldable pub turnsIn : List (List ℕ) → ℕ
-turnsIn [] = 0
-turnsIn (T ∷ Ts) = cond (leb tableRoom (length T)) (suc (turnsIn Ts)) (turnsIn Ts)
+unfoldable pub turns_in : List (List ℕ) → ℕ
+turns_in [] = 0
+turns_in (T ∷ Ts) = cond (leb table_room (length T)) (suc (turns_in Ts)) (turns_in Ts)
 
 -- turns until one is finished, at most n of them, each with the table that the one before left: what the table holds then
-unfoldable pub turnsUntil : Pair → ℕ → List ℕ → List ℕ → List ℕ
-turnsUntil p zero F T = T
-turnsUntil p (suc n) F T =
-    let made = turnTable p F T in
-    let later = turnsUntil p n (turnFamily p F (length T)) made in
-    cond (saysFinished (turnAnswer p F (length T))) made later
+unfoldable pub turns_until : Pair → ℕ → List ℕ → List ℕ → List ℕ
+turns_until p zero F T = T
+turns_until p (suc n) F T =
+    let made = turn_table p F T in
+    let later = turns_until p n (turn_family p F (length T)) made in
+    cond (says_finished (turn_answer p F (length T))) made later
 
 module _ (p : Pair) where
   -- "It is finished .. after at most n × P + 1 turns": there is one number of the finishing turn, counted from 1, and a turn says finished exactly
   -- if it is that one or a later one
   abbrev pub TurnsFinish : Type 0
-  TurnsFinish = wellFormed p ≡ true → nonemptySets p ≡ true
+  TurnsFinish = well_formed p ≡ true → nonempty_sets p ≡ true
       → (number : ℕ) × ((1 ≤ number) × (number ≤ entries p + 1))
-      × ((Ts : List (List ℕ)) (T : List ℕ) → tableRoom ≤ length T → turnAnswer p (familyOfTurns p Ts) (length T) ≡ answer (leb number (turnsIn Ts + 1)))
+      × ((Ts : List (List ℕ)) (T : List ℕ) → table_room ≤ length T → turn_answer p (family_of_turns p Ts) (length T) ≡ answer (leb number (turns_in Ts + 1)))
 
   -- "only such a turn writes the table": of any family, a call that does not say finished leaves the lent table as it was, and a refused one the
   -- family too
   abbrev pub OnlyFinishedWrites : Type 0
   OnlyFinishedWrites = (F T : List ℕ)
-      → (saysFinished (turnAnswer p F (length T)) ≡ false → turnTable p F T ≡ T)
-      × ((r : Refusal) → turnAnswer p F (length T) ≡ refused r → (turnFamily p F (length T) ≡ F) × (turnTable p F T ≡ T))
+      → (says_finished (turn_answer p F (length T)) ≡ false → turn_table p F T ≡ T)
+      × ((r : Refusal) → turn_answer p F (length T) ≡ refused r → (turn_family p F (length T) ≡ F) × (turn_table p F T ≡ T))
 
   -- "the solver's", and "A turn after that changes no set, writes the same table and says finished": Ts are the turns before one that was lent T and
   -- is finished, and Us the calls behind it, whatever tables they were lent
   pub record Settles (Ts : List (List ℕ)) (T : List ℕ) (Us : List (List ℕ)) : Type 0 where
-    pub writes-solver's : turnTable p (familyOfTurns p Ts) T ≡ solvedTable p T
-    pub changes-none : familyOfTurns p (Us ++ (T ∷ Ts)) ≡ familyOfTurns p Ts
-    pub then-writes : (U : List ℕ) → tableRoom ≤ length U → turnTable p (familyOfTurns p (Us ++ (T ∷ Ts))) U ≡ solvedTable p U
-    pub then-says : (U : List ℕ) → tableRoom ≤ length U → turnAnswer p (familyOfTurns p (Us ++ (T ∷ Ts))) (length U) ≡ answer true
+    pub writes_solver's : turn_table p (family_of_turns p Ts) T ≡ solved_table p T
+    pub changes_none : family_of_turns p (Us ++ (T ∷ Ts)) ≡ family_of_turns p Ts
+    pub then_writes : (U : List ℕ) → table_room ≤ length U → turn_table p (family_of_turns p (Us ++ (T ∷ Ts))) U ≡ solved_table p U
+    pub then_says : (U : List ℕ) → table_room ≤ length U → turn_answer p (family_of_turns p (Us ++ (T ∷ Ts))) (length U) ≡ answer true
 
   abbrev pub FinishedSettles : Type 0
-  FinishedSettles = wellFormed p ≡ true → nonemptySets p ≡ true → (Ts : List (List ℕ)) (T : List ℕ) → turnAnswer p (familyOfTurns p Ts) (length T) ≡ answer true
+  FinishedSettles = well_formed p ≡ true → nonempty_sets p ≡ true → (Ts : List (List ℕ)) (T : List ℕ) → turn_answer p (family_of_turns p Ts) (length T) ≡ answer true
       → (Us : List (List ℕ)) → Settles Ts T Us
 
   -- "Struck out is final, whichever later turns follow", and the solver's table is blank there; the section j is counted from 1 at the look-up
   abbrev pub StruckOutIsFinal : Type 0
-  StruckOutIsFinal = wellFormed p ≡ true → nonemptySets p ≡ true → (Ts : List (List ℕ)) (j c a : ℕ) → lookUpAnswer p (familyOfTurns p Ts) j c a ≡ answer false
-      → ((Us : List (List ℕ)) → lookUpAnswer p (familyOfTurns p (Us ++ Ts)) j c a ≡ answer false) × (entry p (solverTable p) (j - 1) c a ≡ blank)
+  StruckOutIsFinal = well_formed p ≡ true → nonempty_sets p ≡ true → (Ts : List (List ℕ)) (j c a : ℕ) → look_up_answer p (family_of_turns p Ts) j c a ≡ answer false
+      → ((Us : List (List ℕ)) → look_up_answer p (family_of_turns p (Us ++ Ts)) j c a ≡ answer false) × (entry p (solver_table p) (j - 1) c a ≡ blank)
 
   -- "still in promises nothing until the finish": from there on it is that the solver's table is not blank
   abbrev pub FinishedTells : Type 0
-  FinishedTells = wellFormed p ≡ true → nonemptySets p ≡ true → (Ts : List (List ℕ)) (T : List ℕ) → turnAnswer p (familyOfTurns p Ts) (length T) ≡ answer true
-      → (Us : List (List ℕ)) (j c a : ℕ) → 1 ≤ j → j ≤ setsA p → c < nC p → a < nA p
-      → lookUpAnswer p (familyOfTurns p (Us ++ (T ∷ Ts))) j c a ≡ answer (covers p (solverTable p) (j - 1) c a)
+  FinishedTells = well_formed p ≡ true → nonempty_sets p ≡ true → (Ts : List (List ℕ)) (T : List ℕ) → turn_answer p (family_of_turns p Ts) (length T) ≡ answer true
+      → (Us : List (List ℕ)) (j c a : ℕ) → 1 ≤ j → j ≤ sets_a p → c < n_c p → a < n_a p
+      → look_up_answer p (family_of_turns p (Us ++ (T ∷ Ts))) j c a ≡ answer (covers p (solver_table p) (j - 1) c a)
 
   -- "the first being all matched pairs in every section"; a pair that is not matched is struck out of any family, from the first on
   abbrev pub FirstIsMatched : Type 0
-  FirstIsMatched = wellFormed p ≡ true → nonemptySets p ≡ true → (j c a : ℕ) → 1 ≤ j → j ≤ setsA p → c < nC p → a < nA p
-      → (lookUpAnswer p (firstGiven p) j c a ≡ answer (matched p c a)) × ((F : List ℕ) → matched p c a ≡ false → lookUpAnswer p F j c a ≡ answer false)
+  FirstIsMatched = well_formed p ≡ true → nonempty_sets p ≡ true → (j c a : ℕ) → 1 ≤ j → j ≤ sets_a p → c < n_c p → a < n_a p
+      → (look_up_answer p (first_given p) j c a ≡ answer (matched p c a)) × ((F : List ℕ) → matched p c a ≡ false → look_up_answer p F j c a ≡ answer false)
 
   -- the solver is the same as turns from the first until one is finished, n × P + 1 turns at most: it says the same refusals, of any family, and
   -- leaves the same table; of any machines and any lent table
   abbrev pub SolverIsTurns : Type 0
   SolverIsTurns = (T : List ℕ)
-      → (turnsUntil p (entries p + 1) (firstGiven p) T ≡ solvedTable p T)
-      × ((F : List ℕ) (r : Refusal) → (turnAnswer p F (length T) ≡ refused r) ↔ (solveValidity p (length T) ≡ refused r))
+      → (turns_until p (entries p + 1) (first_given p) T ≡ solved_table p T)
+      × ((F : List ℕ) (r : Refusal) → (turn_answer p F (length T) ≡ refused r) ↔ (solve_validity p (length T) ≡ refused r))

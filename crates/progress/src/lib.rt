@@ -6,12 +6,12 @@
 ghost use Rattle.std.specs.Prelude.{true, ◌≡◌, ◌<◌, ◌≤◌, eqb, length, get_or};
 ghost use Rattle.mask.specs.Bounded.{every};
 ghost use Rattle.mask.specs.Tables.{front};
-ghost use Rattle.machine.specs.Machines.{nC, nA, setsA};
-ghost use Rattle.machine.specs.Refusals.{testedOf, andThen};
+ghost use Rattle.machine.specs.Machines.{n_c, n_a, sets_a};
+ghost use Rattle.machine.specs.Refusals.{tested_of, and_then};
 ghost use Rattle.machine.specs.Table.{entries};
-ghost use Rattle.machine.specs.WellFormed.{nonemptyValidity, wellFormed};
-ghost use Rattle.progress.specs.Answers.{turnedOf, lookedUpOf};
-ghost use Rattle.progress.specs.Turns.{firstRows, firstGiven, turnAnswer, turnFamily, turnTable, stillIn, rangeValidity, lookUpAnswer};
+ghost use Rattle.machine.specs.WellFormed.{nonempty_validity, well_formed};
+ghost use Rattle.progress.specs.Answers.{turned_of, looked_up_of};
+ghost use Rattle.progress.specs.Turns.{first_rows, first_given, turn_answer, turn_family, turn_table, still_in, range_validity, look_up_answer};
 
 use machine::{Pair, Refusal, Validity};
 
@@ -49,8 +49,8 @@ pub enum LookedUp {
 
 // All matched pairs in every section.
 fn first_rows(p: Pair) -> [u64; 448]
-    requires { wellFormed p ≡ true }
-    ensures { result ≡ firstRows p }
+    requires { well_formed p ≡ true }
+    ensures { result ≡ first_rows p }
 {
     let abstraction = p.abstraction;
     let n = abstraction.sets;
@@ -64,8 +64,8 @@ fn first_rows(p: Pair) -> [u64; 448]
 
 // The family before the first turn: all matched pairs in every section.
 pub fn first_family(p: Pair) -> FirstFamily
-    ensures validity { testedOf result.validity ≡ nonemptyValidity p }
-    ensures family { result.family ≡ firstGiven p }
+    ensures validity { tested_of result.validity ≡ nonempty_validity p }
+    ensures family { result.family ≡ first_given p }
 {
     let valid = validity::pair_validity(p, validity::NONEMPTY_SETS);
     match valid {
@@ -106,7 +106,7 @@ fn copy_entries(n: usize, from: &[u16], to: &mut [u16])
 
 // How many entries a table of well-formed machines has: n x P.
 fn entries_of(p: Pair) -> usize
-    requires { wellFormed p ≡ true }
+    requires { well_formed p ≡ true }
     ensures { result ≡ entries p }
 {
     let concrete = p.concrete;
@@ -117,9 +117,9 @@ fn entries_of(p: Pair) -> usize
 // A turn: every section's set afresh from the family. It is finished if each row is as it was; only then it writes the table, the ranks over
 // the family, into a lent table of 28,672 entries or more: exactly n x P entries.
 pub fn turn(p: Pair, family: [u64; 448], table: &mut [u16]) -> TurnMade
-    ensures answer { turnedOf result.said ≡ turnAnswer p family (length table.old) }
-    ensures family { result.family ≡ turnFamily p family (length table.old) }
-    ensures content { table.new ≡ turnTable p family table.old }
+    ensures answer { turned_of result.said ≡ turn_answer p family (length table.old) }
+    ensures family { result.family ≡ turn_family p family (length table.old) }
+    ensures content { table.new ≡ turn_table p family table.old }
 {
     if table.len() < machine::TABLE_ROOM {
         return TurnMade {
@@ -152,8 +152,8 @@ pub fn turn(p: Pair, family: [u64; 448], table: &mut [u16]) -> TurnMade
 
 // Whether a pair is still in section j, counted from 0.
 fn still_in(p: Pair, family: [u64; 448], j: usize, c: usize, a: usize) -> bool
-    requires { (wellFormed p ≡ true) × ((j < setsA p) × ((c < nC p) × (a < nA p))) }
-    ensures { result ≡ stillIn p family j c a }
+    requires { (well_formed p ≡ true) × ((j < sets_a p) × ((c < n_c p) × (a < n_a p))) }
+    ensures { result ≡ still_in p family j c a }
 {
     let concrete = p.concrete;
     let abstraction = p.abstraction;
@@ -167,7 +167,7 @@ fn still_in(p: Pair, family: [u64; 448], j: usize, c: usize, a: usize) -> bool
 
 // 20 for a section, counted from 1, or a state that is out of range.
 fn range_validity(p: Pair, section: usize, c: usize, a: usize) -> Validity
-    ensures { testedOf result ≡ rangeValidity p section c a }
+    ensures { tested_of result ≡ range_validity p section c a }
 {
     let concrete = p.concrete;
     let abstraction = p.abstraction;
@@ -189,7 +189,7 @@ fn range_validity(p: Pair, section: usize, c: usize, a: usize) -> Validity
 
 // The first refusal of two tests.
 fn first_refusal(first: Validity, second: Validity) -> Validity
-    ensures { testedOf result ≡ andThen (testedOf first) (testedOf second) }
+    ensures { tested_of result ≡ and_then (tested_of first) (tested_of second) }
 {
     match first {
         Validity::Refused(r) => Validity::Refused(r),
@@ -199,7 +199,7 @@ fn first_refusal(first: Validity, second: Validity) -> Validity
 
 // Looks a pair up in a section, counted from 1: still in, or struck out.
 pub fn look_up(p: Pair, family: [u64; 448], section: usize, c: usize, a: usize) -> LookedUp
-    ensures { lookedUpOf result ≡ lookUpAnswer p family section c a }
+    ensures { looked_up_of result ≡ look_up_answer p family section c a }
 {
     let machines = validity::pair_validity(p, validity::NONEMPTY_SETS);
     let range = range_validity(p, section, c, a);

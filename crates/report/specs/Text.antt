@@ -3,49 +3,49 @@ use Rattle.std.specs.Prelude.{List, [], ◌∷◌, ◌++◌, ℕ, take}
 use Rattle.text.specs.Decimal.{decimal}
 use Rattle.machine.specs.declared.Refusal.{Refusal}
 use Rattle.machine.specs.Refusals.{Result, answer, refused}
-use Rattle.machine.specs.Verdict.{Verdict, carried, notCarried}
-use Rattle.codec.specs.Reader.{inputRoom}
-use Rattle.codec.specs.Outcomes.{Outcome, says, noTable}
-use Rattle.verdict.specs.Outcomes.{fileOutcome}
+use Rattle.machine.specs.Verdict.{Verdict, carried, not_carried}
+use Rattle.codec.specs.Reader.{input_room}
+use Rattle.codec.specs.Outcomes.{Outcome, says, without_table}
+use Rattle.verdict.specs.Outcomes.{file_outcome}
 
-abbrev pub blankSpace : List ℕ
-blankSpace = 32 ∷ []
+abbrev pub blank_space : List ℕ
+blank_space = 32 ∷ []
 
-abbrev pub lineFeed : List ℕ
-lineFeed = 10 ∷ []
+abbrev pub line_feed : List ℕ
+line_feed = 10 ∷ []
 
 -- "carried "
-abbrev pub carriedText : List ℕ
-carriedText = 99 ∷ 97 ∷ 114 ∷ 114 ∷ 105 ∷ 101 ∷ 100 ∷ 32 ∷ []
+abbrev pub carried_text : List ℕ
+carried_text = 99 ∷ 97 ∷ 114 ∷ 114 ∷ 105 ∷ 101 ∷ 100 ∷ 32 ∷ []
 
 -- "not carried "
-abbrev pub notCarriedText : List ℕ
-notCarriedText = 110 ∷ 111 ∷ 116 ∷ 32 ∷ 99 ∷ 97 ∷ 114 ∷ 114 ∷ 105 ∷ 101 ∷ 100 ∷ 32 ∷ []
+abbrev pub not_carried_text : List ℕ
+not_carried_text = 110 ∷ 111 ∷ 116 ∷ 32 ∷ 99 ∷ 97 ∷ 114 ∷ 114 ∷ 105 ∷ 101 ∷ 100 ∷ 32 ∷ []
 
 -- "no table" and a line feed
-abbrev pub noTableText : List ℕ
-noTableText = 110 ∷ 111 ∷ 32 ∷ 116 ∷ 97 ∷ 98 ∷ 108 ∷ 101 ∷ 10 ∷ []
+abbrev pub no_table_text : List ℕ
+no_table_text = 110 ∷ 111 ∷ 32 ∷ 116 ∷ 97 ∷ 98 ∷ 108 ∷ 101 ∷ 10 ∷ []
 
 -- "refused "
-abbrev pub refusedText : List ℕ
-refusedText = 114 ∷ 101 ∷ 102 ∷ 117 ∷ 115 ∷ 101 ∷ 100 ∷ 32 ∷ []
+abbrev pub refused_text : List ℕ
+refused_text = 114 ∷ 101 ∷ 102 ∷ 117 ∷ 115 ∷ 101 ∷ 100 ∷ 32 ∷ []
 
 -- "refused NUMBER P Q R"
-unfoldable pub refusalLine : Refusal → List ℕ
-refusalLine r =
-    refusedText ++ (decimal r.number ++ (blankSpace ++ (decimal r.first ++ (blankSpace ++ (decimal r.second ++ (blankSpace ++ (decimal r.third ++ lineFeed)))))))
+unfoldable pub refusal_line : Refusal → List ℕ
+refusal_line r =
+    refused_text ++ (decimal r.number ++ (blank_space ++ (decimal r.first ++ (blank_space ++ (decimal r.second ++ (blank_space ++ (decimal r.third ++ line_feed)))))))
 
 -- "carried COUNT", "not carried C COUNT"
-unfoldable pub verdictLine : Verdict → List ℕ
-verdictLine (carried n) = carriedText ++ (decimal n ++ lineFeed)
-verdictLine (notCarried c n) = notCarriedText ++ (decimal c ++ (blankSpace ++ (decimal n ++ lineFeed)))
+unfoldable pub verdict_line : Verdict → List ℕ
+verdict_line (carried n) = carried_text ++ (decimal n ++ line_feed)
+verdict_line (not_carried c n) = not_carried_text ++ (decimal c ++ (blank_space ++ (decimal n ++ line_feed)))
 
 -- one of these, "no table", or a refusal's line
-unfoldable pub outcomeLine : Result (Outcome Verdict) → List ℕ
-outcomeLine (answer (says v)) = verdictLine v
-outcomeLine (answer noTable) = noTableText
-outcomeLine (refused r) = refusalLine r
+unfoldable pub outcome_line : Result (Outcome Verdict) → List ℕ
+outcome_line (answer (says v)) = verdict_line v
+outcome_line (answer without_table) = no_table_text
+outcome_line (refused r) = refusal_line r
 
 -- "It takes the first 59,904 bytes of longer input as the file."
-unfoldable pub shelfLine : List ℕ → List ℕ
-shelfLine input = outcomeLine (fileOutcome (take inputRoom input))
+unfoldable pub shelf_line : List ℕ → List ℕ
+shelf_line input = outcome_line (file_outcome (take input_room input))

@@ -3,38 +3,38 @@ use Rattle.std.specs.Prelude.{List, ◌++◌, ◌≡◌, refl, ℕ, ◌≤◌, l
 use Rattle.std.proofs.Common.{append_assoc, sym, ap, ◌∙◌, take_all}
 use Rattle.text.specs.Decimal.{decimal}
 use Rattle.machine.specs.declared.Refusal.{Refusal}
-use Rattle.codec.specs.Reader.{inputRoom}
+use Rattle.codec.specs.Reader.{input_room}
 use Rattle.verdict.specs.declared.FileVerdict.{FileVerdict}
 use Rattle.verdict.specs.declared.FileVerdict.TheVariants.{Carried, NotCarried, NoTable, Refused}
-use Rattle.verdict.specs.Outcomes.{outcomeOf, fileOutcome}
-use Rattle.report.specs.Text.{blankSpace, lineFeed, carriedText, notCarriedText, noTableText, refusedText, refusalLine, verdictLine, outcomeLine, shelfLine}
+use Rattle.verdict.specs.Outcomes.{outcome_of, file_outcome}
+use Rattle.report.specs.Text.{blank_space, line_feed, carried_text, not_carried_text, no_table_text, refused_text, refusal_line, verdict_line, outcome_line, shelf_line}
 
-pub refusal-text : (r : Refusal)
-    → refusedText ++ (decimal r.number ++ blankSpace) ++ (decimal r.first ++ blankSpace) ++ (decimal r.second ++ blankSpace) ++ (decimal r.third ++ lineFeed) ≡ refusalLine r
-unfolding refusalLine
-refusal-text r = simp append_assoc
+pub refusal_text : (r : Refusal)
+    → refused_text ++ (decimal r.number ++ blank_space) ++ (decimal r.first ++ blank_space) ++ (decimal r.second ++ blank_space) ++ (decimal r.third ++ line_feed) ≡ refusal_line r
+unfolding refusal_line
+refusal_text r = simp append_assoc
 
-pub carried-text : (n : ℕ) → carriedText ++ (decimal n ++ lineFeed) ≡ outcomeLine (outcomeOf (Carried n))
-unfolding verdictLine outcomeLine outcomeOf
-carried-text n = refl
+pub carried_text_lem : (n : ℕ) → carried_text ++ (decimal n ++ line_feed) ≡ outcome_line (outcome_of (Carried n))
+unfolding verdict_line outcome_line outcome_of
+carried_text_lem n = refl
 
-pub not-carried-text : (c n : ℕ) → notCarriedText ++ (decimal c ++ blankSpace) ++ (decimal n ++ lineFeed) ≡ outcomeLine (outcomeOf (NotCarried c n))
-unfolding verdictLine outcomeLine outcomeOf
-not-carried-text c n = simp append_assoc
+pub not_carried_text_lem : (c n : ℕ) → not_carried_text ++ (decimal c ++ blank_space) ++ (decimal n ++ line_feed) ≡ outcome_line (outcome_of (NotCarried c n))
+unfolding verdict_line outcome_line outcome_of
+not_carried_text_lem c n = simp append_assoc
 
-pub no-table-text : noTableText ≡ outcomeLine (outcomeOf NoTable)
-unfolding outcomeLine outcomeOf
-no-table-text = refl
+pub no_table_text_lem : no_table_text ≡ outcome_line (outcome_of NoTable)
+unfolding outcome_line outcome_of
+no_table_text_lem = refl
 
-pub refused-text : (r : Refusal) → refusalLine r ≡ outcomeLine (outcomeOf (Refused r))
-unfolding verdictLine outcomeLine outcomeOf
-refused-text r = refl
+pub refused_text_lem : (r : Refusal) → refusal_line r ≡ outcome_line (outcome_of (Refused r))
+unfolding verdict_line outcome_line outcome_of
+refused_text_lem r = refl
 
 -- longer input is cut, and shorter input is taken whole
-pub shelf-cut : (input : List ℕ) (v : FileVerdict) → outcomeOf v ≡ fileOutcome (take inputRoom input) → outcomeLine (outcomeOf v) ≡ shelfLine input
-unfolding shelfLine
-shelf-cut input v e = ap outcomeLine e
+pub shelf_cut : (input : List ℕ) (v : FileVerdict) → outcome_of v ≡ file_outcome (take input_room input) → outcome_line (outcome_of v) ≡ shelf_line input
+unfolding shelf_line
+shelf_cut input v e = ap outcome_line e
 
-pub shelf-whole : (input : List ℕ) (v : FileVerdict) → length input ≤ inputRoom → outcomeOf v ≡ fileOutcome input → outcomeLine (outcomeOf v) ≡ shelfLine input
-unfolding shelfLine
-shelf-whole input v h e = ap outcomeLine (e ∙ ap fileOutcome (sym (take_all inputRoom input h)))
+pub shelf_whole : (input : List ℕ) (v : FileVerdict) → length input ≤ input_room → outcome_of v ≡ file_outcome input → outcome_line (outcome_of v) ≡ shelf_line input
+unfolding shelf_line
+shelf_whole input v h e = ap outcome_line (e ∙ ap file_outcome (sym (take_all input_room input h)))

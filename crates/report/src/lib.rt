@@ -3,9 +3,9 @@
 
 ghost use Rattle.std.specs.Prelude.{List, [], ◌∷◌, ◌++◌, ◌≡◌, ℕ, ◌+◌, ◌≤◌, length};
 ghost use Rattle.text.specs.Decimal.{decimal};
-ghost use Rattle.verdict.specs.Outcomes.{outcomeOf};
-ghost use Rattle.report.specs.Text.{refusalLine, outcomeLine, shelfLine};
-ghost use Rattle.report.specs.Answers.{lineOf};
+ghost use Rattle.verdict.specs.Outcomes.{outcome_of};
+ghost use Rattle.report.specs.Text.{refusal_line, outcome_line, shelf_line};
+ghost use Rattle.report.specs.Answers.{line_of};
 
 use machine::Refusal;
 use verdict::FileVerdict;
@@ -20,7 +20,7 @@ pub struct Line {
 // The line that holds a word.
 fn started(word: &[u8]) -> Line
     requires { length word.now ≤ 128 }
-    ensures value { result ≡ lineOf word.now }
+    ensures value { result ≡ line_of word.now }
     ensures length { result.length ≡ length word.now }
 {
     let mut text = [0u8; 128];
@@ -34,7 +34,7 @@ fn started(word: &[u8]) -> Line
 // The line with a number's digits and one byte more.
 fn numbered(line: Line, n: usize, after: u8) -> Line
     requires { line.length + 21 ≤ 128 }
-    ensures appended { (s : List ℕ) → line ≡ lineOf s → result ≡ lineOf (s ++ (decimal n ++ (after ∷ []))) }
+    ensures appended { (s : List ℕ) → line ≡ line_of s → result ≡ line_of (s ++ (decimal n ++ (after ∷ []))) }
     ensures room { result.length ≤ line.length + 21 }
 {
     let mut text = line.text;
@@ -49,7 +49,7 @@ fn numbered(line: Line, n: usize, after: u8) -> Line
 
 // The line of a refusal.
 pub fn refusal_line(r: Refusal) -> Line
-    ensures value { result ≡ lineOf (refusalLine r) }
+    ensures value { result ≡ line_of (refusal_line r) }
     ensures room { result.length ≤ 128 }
 {
     let word = started(b"refused ");
@@ -61,7 +61,7 @@ pub fn refusal_line(r: Refusal) -> Line
 
 // The line of what is said of a file.
 pub fn verdict_line(v: FileVerdict) -> Line
-    ensures value { result ≡ lineOf (outcomeLine (outcomeOf v)) }
+    ensures value { result ≡ line_of (outcome_line (outcome_of v)) }
     ensures room { result.length ≤ 128 }
 {
     match v {
@@ -78,7 +78,7 @@ pub fn verdict_line(v: FileVerdict) -> Line
 
 // The line of the file whose bytes are the input, or the first 59,904 bytes of longer input.
 pub fn shelf_line(bytes: &[u8]) -> Line
-    ensures value { result ≡ lineOf (shelfLine bytes.now) }
+    ensures value { result ≡ line_of (shelf_line bytes.now) }
     ensures room { result.length ≤ 128 }
 {
     if codec::INPUT_ROOM < bytes.len() {

@@ -2,9 +2,9 @@
 #![tactic(auto)]
 
 ghost use Rattle.std.specs.Prelude.{◌≡◌};
-ghost use Rattle.machine.specs.Refusals.{spotAfter};
-ghost use Rattle.codec.specs.Answers.{sizedOf, lengthOf};
-ghost use Rattle.restore.specs.Restoring.{restoreAnswer, restoreBuffer};
+ghost use Rattle.machine.specs.Refusals.{spot_after};
+ghost use Rattle.codec.specs.Answers.{sized_of, length_of};
+ghost use Rattle.restore.specs.Restoring.{restore_answer, restore_buffer};
 
 use codec::{Reading, Size};
 use machine::Validity;
@@ -12,8 +12,8 @@ use machine::Validity;
 // Writes the show of a file with the solver's table into the buffer, and gives the new file's length, or where it was stopped: by the reader, or
 // by the solver, which refuses an empty set.
 pub fn solve_bytes(bytes: &[u8], out: &mut [u8]) -> Size
-    ensures answer { sizedOf result ≡ restoreAnswer bytes.now out.old }
-    ensures content { out.new ≡ restoreBuffer bytes.now out.old }
+    ensures answer { sized_of result ≡ restore_answer bytes.now out.old }
+    ensures content { out.new ≡ restore_buffer bytes.now out.old }
 {
     if out.len() < codec::FILE_ROOM {
         return Size::Refused(machine::refuse(machine::SHORT_BUFFER, 0, 0, 0));
@@ -34,9 +34,9 @@ pub fn solve_bytes(bytes: &[u8], out: &mut [u8]) -> Size
 
 // The same for C: the file's length, or 0 with the refusal's number and spot in `spot`, which is unchanged beside a length.
 pub fn solve_file(bytes: &[u8], out: &mut [u8], spot: &mut [u64; 4]) -> usize
-    ensures value { result ≡ lengthOf (restoreAnswer bytes.now out.old) }
-    ensures content { out.new ≡ restoreBuffer bytes.now out.old }
-    ensures numbers { spot.new ≡ spotAfter (restoreAnswer bytes.now out.old) spot.old }
+    ensures value { result ≡ length_of (restore_answer bytes.now out.old) }
+    ensures content { out.new ≡ restore_buffer bytes.now out.old }
+    ensures numbers { spot.new ≡ spot_after (restore_answer bytes.now out.old) spot.old }
 {
     match solve_bytes(bytes, out) {
         Size::Bytes(n) => n,

@@ -8,7 +8,7 @@
 
 ghost use Rattle.std.specs.Prelude.{cond, ◌≡◌, ◌<◌, ◌≤◌, get_or, length, ltb};
 ghost use Rattle.mask.specs.Tables.{table};
-ghost use Rattle.rings.specs.Rings.{threeStates, ringMoves, concreteState, furtherStates, lastState, abstractState, ringStates, ringState, ringMachine, ringPair};
+ghost use Rattle.rings.specs.Rings.{three_states, ring_moves, concrete_state, further_states, last_state, abstract_state, ring_states, ring_state, ring_machine, ring_pair};
 
 use machine::{Machine, Pair};
 
@@ -37,7 +37,7 @@ fn pick(b: bool, x: usize, y: usize) -> usize
 
 // The mask of three states; 64 is none.
 fn three_states(a: usize, b: usize, c: usize) -> u64
-    ensures { result ≡ threeStates a b c }
+    ensures { result ≡ three_states a b c }
 {
     mask::with(mask::with(mask::with(0, a), b), c)
 }
@@ -45,7 +45,7 @@ fn three_states(a: usize, b: usize, c: usize) -> u64
 // The successors of state s of a ring that starts at `from` and ends before `end`: the next state, and two more.
 fn ring_moves(from: usize, end: usize, s: usize, a: usize, b: usize) -> u64
     requires { s < 64 }
-    ensures { result ≡ ringMoves from end s a b }
+    ensures { result ≡ ring_moves from end s a b }
 {
     three_states(pick(s + 1 == end, from, s + 1), a, b)
 }
@@ -53,7 +53,7 @@ fn ring_moves(from: usize, end: usize, s: usize, a: usize, b: usize) -> u64
 // State s of a concrete machine; `end` is the one of observation 1.
 fn concrete_state(back: bool, rings: Rings, s: usize) -> State
     requires { s < 64 }
-    ensures { result ≡ concreteState back rings s }
+    ensures { result ≡ concrete_state back rings s }
 {
     let second = rings.first as usize;
     let end = second + rings.second as usize;
@@ -89,7 +89,7 @@ fn concrete_state(back: bool, rings: Rings, s: usize) -> State
 // and 2; in the second family one that leads back into the second ring, one that leads to the last, and the last, which never shows 1 again.
 fn further_state(back: bool, second: usize, after: usize, i: usize) -> State
     requires { (second ≤ 4294967296) × (after ≤ 8589934592) }
-    ensures { result ≡ get_or (furtherStates back second after) i (lastState after) }
+    ensures { result ≡ get_or (further_states back second after) i (last_state after) }
 {
     match i {
         0 => State {
@@ -133,7 +133,7 @@ fn further_state(back: bool, second: usize, after: usize, i: usize) -> State
 // State s of an abstract machine.
 fn abstract_state(back: bool, entry: u32, rings: Rings, s: usize) -> State
     requires { s < 64 }
-    ensures { result ≡ abstractState back entry rings s }
+    ensures { result ≡ abstract_state back entry rings s }
 {
     let second = rings.first as usize;
     let after = second + rings.second as usize;
@@ -165,7 +165,7 @@ fn abstract_state(back: bool, entry: u32, rings: Rings, s: usize) -> State
 
 // How many states a machine has.
 fn ring_states(abstraction: bool, back: bool, rings: Rings) -> usize
-    ensures { result ≡ ringStates abstraction back rings }
+    ensures { result ≡ ring_states abstraction back rings }
 {
     let end = rings.first as usize + rings.second as usize;
     if !abstraction {
@@ -177,7 +177,7 @@ fn ring_states(abstraction: bool, back: bool, rings: Rings) -> usize
 // State s of a machine; past its states everything is zero.
 fn ring_state(abstraction: bool, back: bool, entry: u32, rings: Rings, s: usize) -> State
     requires { s < 64 }
-    ensures { result ≡ ringState abstraction back entry rings s }
+    ensures { result ≡ ring_state abstraction back entry rings s }
 {
     if ring_states(abstraction, back, rings) <= s {
         return State {
@@ -206,7 +206,7 @@ fn put_copies(v: u64, n: usize, out: &mut [u64])
 // A machine of two rings. Start states are those of both rings, of an abstract machine those of the second, so that a play has to follow the
 // ranks along a chain.
 fn ring_machine(abstraction: bool, back: bool, entry: u32, rings: Rings) -> Machine
-    ensures { result ≡ ringMachine abstraction back entry rings }
+    ensures { result ≡ ring_machine abstraction back entry rings }
 {
     let mut observations = [0u8; 64];
     let mut successors = [0u64; 64];
@@ -236,7 +236,7 @@ fn ring_machine(abstraction: bool, back: bool, entry: u32, rings: Rings) -> Mach
 // A pair of such machines, of the second family where `back` says so, with no bit hidden. In the first the first state of the abstract machine
 // leads into its second ring too, to state number `entry` there.
 pub fn ring_pair(back: bool, entry: u32, concrete: Rings, abstraction: Rings) -> Pair
-    ensures { result ≡ ringPair back entry concrete abstraction }
+    ensures { result ≡ ring_pair back entry concrete abstraction }
 {
     Pair {
         concrete: ring_machine(false, back, entry, concrete),

@@ -9,8 +9,8 @@ ghost use Rattle.std.specs.Int.Bits.{bit_or};
 ghost use Rattle.mask.specs.Tables.{table};
 ghost use Rattle.machine.specs.Table.{blank};
 ghost use Rattle.rows.specs.Largest.{Known, Largest};
-ghost use Rattle.rows.specs.Entries.{rowUpto, uptoOf, without, writeRow, writeOf, rowCount};
-ghost use Rattle.rows.specs.Rows.{moversOf, predecessorsOf, partnersOf, partnerRows, meetOf, stepRows, goalRows, joinRows, sameRows};
+ghost use Rattle.rows.specs.Entries.{row_upto, upto_of, without, write_row, write_of, row_count};
+ghost use Rattle.rows.specs.Rows.{movers_of, predecessors_of, partners_of, partner_rows, meet_of, step_rows, goal_rows, join_rows, same_rows};
 
 // The count, 64 for one over 64.
 fn width(n: usize) -> usize
@@ -21,7 +21,7 @@ fn width(n: usize) -> usize
 
 // The states below n that move to b.
 fn movers(n: usize, moves: &[u64; 64], b: usize) -> u64
-    ensures { result ≡ moversOf n moves.now b }
+    ensures { result ≡ movers_of n moves.now b }
 {
     let end = width(n);
     let mut m: u64 = 0;
@@ -35,7 +35,7 @@ fn movers(n: usize, moves: &[u64; 64], b: usize) -> u64
 
 // For each state below n the mask of the states below n that move to it.
 pub fn predecessors(n: usize, moves: &[u64; 64]) -> [u64; 64]
-    ensures { result ≡ predecessorsOf n moves.now }
+    ensures { result ≡ predecessors_of n moves.now }
 {
     let end = width(n);
     let mut out = [0u64; 64];
@@ -54,7 +54,7 @@ fn joined(x: u64, y: u64) -> u64
 
 // The states that have a partner in the row: the predecessors of its states.
 pub fn partners(predecessors: &[u64; 64], row: u64) -> u64
-    ensures { result ≡ partnersOf predecessors.now row }
+    ensures { result ≡ partners_of predecessors.now row }
 {
     let mut m: u64 = 0;
     let mut left = row;
@@ -68,7 +68,7 @@ pub fn partners(predecessors: &[u64; 64], row: u64) -> u64
 
 // For each d below nc the states that have a partner in row d of the set.
 pub fn partner_rows(nc: usize, predecessors: &[u64; 64], set: &[u64; 64]) -> [u64; 64]
-    ensures { result ≡ partnerRows nc predecessors.now set.now }
+    ensures { result ≡ partner_rows nc predecessors.now set.now }
 {
     let end = width(nc);
     let mut out = [0u64; 64];
@@ -80,7 +80,7 @@ pub fn partner_rows(nc: usize, predecessors: &[u64; 64], set: &[u64; 64]) -> [u6
 
 // The states that are in the row of each of the moves.
 pub fn meet(moves: u64, rows: &[u64; 64]) -> u64
-    ensures { result ≡ meetOf moves rows.now }
+    ensures { result ≡ meet_of moves rows.now }
 {
     let mut m = mask::full(64);
     let mut left = moves;
@@ -99,7 +99,7 @@ pub fn step_rows(
     predecessors: &[u64; 64],
     set: &[u64; 64],
 ) -> [u64; 64]
-    ensures { result ≡ stepRows nc moves.now predecessors.now set.now }
+    ensures { result ≡ step_rows nc moves.now predecessors.now set.now }
 {
     let rows = partner_rows(nc, predecessors, set);
     let end = width(nc);
@@ -112,7 +112,7 @@ pub fn step_rows(
 
 // The goals of a section, from its set and from the pairs that step into the next section.
 pub fn goal_rows(matched: &[u64; 64], members: u64, steps: &[u64; 64]) -> [u64; 64]
-    ensures { result ≡ goalRows matched.now members steps.now }
+    ensures { result ≡ goal_rows matched.now members steps.now }
 {
     let mut out = [0u64; 64];
     for c in 0..64 {
@@ -123,7 +123,7 @@ pub fn goal_rows(matched: &[u64; 64], members: u64, steps: &[u64; 64]) -> [u64; 
 
 // The matched pairs that are in one of two sets.
 pub fn join_rows(matched: &[u64; 64], x: &[u64; 64], y: &[u64; 64]) -> [u64; 64]
-    ensures { result ≡ joinRows matched.now x.now y.now }
+    ensures { result ≡ join_rows matched.now x.now y.now }
 {
     let mut out = [0u64; 64];
     for c in 0..64 {
@@ -134,7 +134,7 @@ pub fn join_rows(matched: &[u64; 64], x: &[u64; 64], y: &[u64; 64]) -> [u64; 64]
 
 // Whether two sets have the same rows below nc.
 pub fn same_rows(nc: usize, x: &[u64; 64], y: &[u64; 64]) -> bool
-    ensures { result ≡ sameRows nc x.now y.now }
+    ensures { result ≡ same_rows nc x.now y.now }
 {
     let end = width(nc);
     for c in 0..end {
@@ -149,7 +149,7 @@ pub fn same_rows(nc: usize, x: &[u64; 64], y: &[u64; 64]) -> bool
 
 // What may be in a row of X: its base, and outside the set the states that step into X, by the partner rows of X.
 fn rule_row(moves: u64, reached: &[u64; 64], base: u64, inside: bool) -> u64
-    ensures { result ≡ bit_or base (cond inside 0 (meetOf moves reached.now)) }
+    ensures { result ≡ bit_or base (cond inside 0 (meet_of moves reached.now)) }
 {
     let steps = if inside { 0 } else { meet(moves, reached) };
     base | steps
@@ -191,7 +191,7 @@ pub fn largest(
 
 // How many rows the entries have: nc where they are a section of nc by na pairs, of at most 64 by 64, and else none.
 fn row_count(nc: usize, na: usize, entries: usize) -> usize
-    ensures { result ≡ rowCount nc na entries }
+    ensures { result ≡ row_count nc na entries }
 {
     if 64 < nc {
         return 0;
@@ -205,7 +205,7 @@ fn row_count(nc: usize, na: usize, entries: usize) -> usize
 // The states whose entry in the row is at most the bound.
 fn row_upto(row: &[u16], bound: u16) -> u64
     requires { length row.now ≤ 64 }
-    ensures { result ≡ rowUpto row.now bound }
+    ensures { result ≡ row_upto row.now bound }
 {
     let mut m: u64 = 0;
     for a in 0..row.len() {
@@ -218,7 +218,7 @@ fn row_upto(row: &[u16], bound: u16) -> u64
 
 // The pairs of a section whose entry is at most the bound; none where the entries are no section of nc by na, of at most 64 by 64.
 pub fn upto(nc: usize, na: usize, part: &[u16], bound: u16) -> [u64; 64]
-    ensures { result ≡ uptoOf nc na part.now bound }
+    ensures { result ≡ upto_of nc na part.now bound }
 {
     let mut out = [0u64; 64];
     let end = row_count(nc, na, part.len());
@@ -248,7 +248,7 @@ fn without(x: u64, y: u64) -> u64
 
 // Writes the entry v for each state of the row.
 fn write_row(row: u64, v: u16, part: &mut [u16])
-    ensures { part.new ≡ writeRow row v part.old }
+    ensures { part.new ≡ write_row row v part.old }
 {
     let mut left = row;
     while left != 0 {
@@ -263,7 +263,7 @@ fn write_row(row: u64, v: u16, part: &mut [u16])
 // Writes the entry v for each pair of x that is not in y; nothing where the entries are no section of nc by na, of at most
 // 64 by 64.
 pub fn write_entry(nc: usize, na: usize, x: &[u64; 64], y: &[u64; 64], v: u16, part: &mut [u16])
-    ensures { part.new ≡ writeOf nc na x.now y.now v part.old }
+    ensures { part.new ≡ write_of nc na x.now y.now v part.old }
 {
     let end = row_count(nc, na, part.len());
     for c in 0..end {

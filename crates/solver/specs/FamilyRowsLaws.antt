@@ -8,20 +8,20 @@ use Rattle.std.proofs.Math.Decide.{dec_lt, ℕ_discrete}
 use native.Mathlib.Omega.{arith}
 use Rattle.std.proofs.Math.ListN.{get_or}
 use Rattle.mask.specs.Tables.{table}
-use Rattle.mask.specs.TablesLaws.{table-length, table-at, table-past, table-cong, fill-done}
-use Rattle.mask.specs.FrontLaws.{zeros-at}
+use Rattle.mask.specs.TablesLaws.{table_length, table_at, table_past, table_cong, fill_done}
+use Rattle.mask.specs.FrontLaws.{zeros_at}
 use Rattle.machine.specs.declared.Pair.{Pair}
-use Rattle.machine.specs.Machines.{fairSet, next, nC, setsA}
-use Rattle.machine.specs.StepLaws.{next-lt}
+use Rattle.machine.specs.Machines.{fair_set, next, n_c, sets_a}
+use Rattle.machine.specs.StepLaws.{next_lt}
 use Rattle.machine.specs.WellFormedLaws.{WellPair}
-use Rattle.machine.specs.Observed.{matchedMasks}
-use Rattle.machine.specs.Game.{pairSet, mem, goals, levels, turn}
-use Rattle.theory.specs.GameLaws.{set-canonical}
-use Rattle.rows.specs.Rows.{rowsOf, pairsIn, goalRows, joinRows, stepRows, abstractPredecessors}
-use Rattle.rows.specs.SetRowsLaws.{rows-at, set-back, held-is, goals-is}
+use Rattle.machine.specs.Observed.{matched_masks}
+use Rattle.machine.specs.Game.{pair_set, mem, goals, levels, turn}
+use Rattle.theory.specs.GameLaws.{set_canonical}
+use Rattle.rows.specs.Rows.{rows_of, pairs_in, goal_rows, join_rows, step_rows, abstract_predecessors}
+use Rattle.rows.specs.SetRowsLaws.{rows_at, set_back, held_is, goals_is}
 use Rattle.solver.specs.Ranking.{Holds}
-use Rattle.solver.specs.XLaws.{holds-set}
-use Rattle.solver.specs.Families.{flatOf, sectionOf, familyIn, turnRows, putSection}
+use Rattle.solver.specs.XLaws.{holds_set}
+use Rattle.solver.specs.Families.{flat_of, section_of, family_in, turn_rows, put_section}
 
 -- ---- a set is put into section j, row by row
 pub record Put (F : List ℕ) (j : ℕ) (S : List ℕ) (c : ℕ) (l : List ℕ) : Type 0 where
@@ -31,11 +31,11 @@ pub record Put (F : List ℕ) (j : ℕ) (S : List ℕ) (c : ℕ) (l : List ℕ) 
   pub after : (e : ℕ) → j * 64 + c ≤ e → get_or l e 0 ≡ get_or F e 0
 
 module _ {F : List ℕ} {j : ℕ} {S : List ℕ} where
-  pub put-none : length F ≡ 448 → Put F j S 0 F
-  put-none h = record { long = h; put = λ i l. absurd (omega arith); before = λ e l. refl; after = λ e l. refl }
+  pub put_none : length F ≡ 448 → Put F j S 0 F
+  put_none h = record { long = h; put = λ i l. absurd (omega arith); before = λ e l. refl; after = λ e l. refl }
 
-  pub put-more : {c : ℕ} {l : List ℕ} → j < 7 → c < 64 → Put F j S c l → Put F j S (c + 1) (set l (j * 64 + c) (get_or S c 0))
-  put-more {c} {l} hj hc d = record {
+  pub put_more : {c : ℕ} {l : List ℕ} → j < 7 → c < 64 → Put F j S c l → Put F j S (c + 1) (set l (j * 64 + c) (get_or S c 0))
+  put_more {c} {l} hj hc d = record {
     long = length-set l _ _ ∙ d.long;
     put = λ i q. by_cases (ℕ_discrete i c)
         (λ e. rw e (get_or-set_same l (j * 64 + c) (get_or S c 0) 0 (omega (arith, d.long))))
@@ -44,67 +44,67 @@ module _ {F : List ℕ} {j : ℕ} {S : List ℕ} where
     after = λ e q. get_or-set_other l (j * 64 + c) e (get_or S c 0) 0 (omega arith) ∙ d.after e (omega arith);
   }
 
-  pub put-done : {c : ℕ} {l : List ℕ} → c ≡ 64 → Put F j S c l → l ≡ putSection F j S
-  unfolding putSection
-  put-done {c} {l} z d = fill-done 0 448 l _ d.long (λ e h. by_cases (ℕ_discrete (e / 64) j)
+  pub put_done : {c : ℕ} {l : List ℕ} → c ≡ 64 → Put F j S c l → l ≡ put_section F j S
+  unfolding put_section
+  put_done {c} {l} z d = fill_done 0 448 l _ d.long (λ e h. by_cases (ℕ_discrete (e / 64) j)
       (λ q. let s : e ≡ j * 64 + e % 64 = omega arith in
       rw (eq-eqb (e / 64) j q) (ap (λ (n : ℕ). get_or l n 0) s ∙ d.put (e % 64) (omega arith)))
       (λ q. rw (ne_eqb (e / 64) j q) (by_cases (dec_lt e (j * 64)) (λ k. d.before e k) (λ k. d.after e (omega arith)))))
 
 -- ---- the rows of a family, and back
-pub flat-length : (Z : List (List ℕ)) → length (flatOf Z) ≡ 448
-unfolding flatOf
-flat-length Z = table-length 448 _
+pub flat_length : (Z : List (List ℕ)) → length (flat_of Z) ≡ 448
+unfolding flat_of
+flat_length Z = table_length 448 _
 
 -- the first j sections, and one more
-pub flat-none : (f : ℕ → List ℕ) → replicate 448 0 ≡ flatOf (table 0 f)
-unfolding flatOf table
-flat-none f = fill-done 0 448 (replicate 448 0) _ refl (λ e h. zeros-at 448 e)
+pub flat_none : (f : ℕ → List ℕ) → replicate 448 0 ≡ flat_of (table 0 f)
+unfolding flat_of table
+flat_none f = fill_done 0 448 (replicate 448 0) _ refl (λ e h. zeros_at 448 e)
 
-pub flat-more : (f : ℕ → List ℕ) (j : ℕ) (S : List ℕ) → j < 7 → ((c : ℕ) → c < 64 → get_or S c 0 ≡ get_or (f j) c 0)
-    → putSection (flatOf (table j f)) j S ≡ flatOf (table (j + 1) f)
-unfolding putSection flatOf
-flat-more f j S h s = table-cong 448 _ _ (λ e l. by_cases (ℕ_discrete (e / 64) j)
-    (λ q. rw (eq-eqb (e / 64) j q, q, table-at (j + 1) f j [] (omega arith)) (s (e % 64) (omega arith)))
-    (λ q. rw (ne_eqb (e / 64) j q, table-at 448 (λ i. get_or (get_or (table j f) (i / 64) []) (i % 64) 0) e 0 l)
+pub flat_more : (f : ℕ → List ℕ) (j : ℕ) (S : List ℕ) → j < 7 → ((c : ℕ) → c < 64 → get_or S c 0 ≡ get_or (f j) c 0)
+    → put_section (flat_of (table j f)) j S ≡ flat_of (table (j + 1) f)
+unfolding put_section flat_of
+flat_more f j S h s = table_cong 448 _ _ (λ e l. by_cases (ℕ_discrete (e / 64) j)
+    (λ q. rw (eq-eqb (e / 64) j q, q, table_at (j + 1) f j [] (omega arith)) (s (e % 64) (omega arith)))
+    (λ q. rw (ne_eqb (e / 64) j q, table_at 448 (λ i. get_or (get_or (table j f) (i / 64) []) (i % 64) 0) e 0 l)
     (ap (λ (R : List ℕ). get_or R (e % 64) 0) (by_cases (dec_lt (e / 64) j)
-    (λ k. table-at j f (e / 64) [] k ∙ sym (table-at (j + 1) f (e / 64) [] (omega arith)))
-    (λ k. table-past j f (e / 64) [] (omega arith) ∙ sym (table-past (j + 1) f (e / 64) [] (omega arith)))))))
+    (λ k. table_at j f (e / 64) [] k ∙ sym (table_at (j + 1) f (e / 64) [] (omega arith)))
+    (λ k. table_past j f (e / 64) [] (omega arith) ∙ sym (table_past (j + 1) f (e / 64) [] (omega arith)))))))
 
 module _ (p : Pair) (w : WellPair p) where
-  few : (j : ℕ) → j < setsA p → j < 7
-  few j h = omega (arith, w.abstraction.sets-high)
+  few : (j : ℕ) → j < sets_a p → j < 7
+  few j h = omega (arith, w.abstraction.sets_high)
 
-  pub family-at : (F : List ℕ) (j : ℕ) → j < setsA p → get_or (familyIn p F) j [] ≡ pairSet p (mem p (sectionOf F j))
-  unfolding familyIn
-  family-at F j h = table-at (setsA p) (λ i. pairSet p (mem p (sectionOf F i))) j [] h
+  pub family_at : (F : List ℕ) (j : ℕ) → j < sets_a p → get_or (family_in p F) j [] ≡ pair_set p (mem p (section_of F j))
+  unfolding family_in
+  family_at F j h = table_at (sets_a p) (λ i. pair_set p (mem p (section_of F i))) j [] h
 
   -- the rows of a section, met with the matched pairs, hold what the family has there
-  pub section-in : (F : List ℕ) (j : ℕ) → j < setsA p → pairsIn p (joinRows (matchedMasks p) (sectionOf F j) (sectionOf F j)) ≡ get_or (familyIn p F) j []
-  section-in F j h =
-      ap (pairsIn p) (held-is p w (sectionOf F j)) ∙ set-back p w (pairSet p (mem p (sectionOf F j))) (set-canonical p (mem p (sectionOf F j)))
-      ∙ sym (family-at F j h)
+  pub section_in : (F : List ℕ) (j : ℕ) → j < sets_a p → pairs_in p (join_rows (matched_masks p) (section_of F j) (section_of F j)) ≡ get_or (family_in p F) j []
+  section_in F j h =
+      ap (pairs_in p) (held_is p w (section_of F j)) ∙ set_back p w (pair_set p (mem p (section_of F j))) (set_canonical p (mem p (section_of F j)))
+      ∙ sym (family_at F j h)
 
   -- ---- a turn, section by section
   module _ (F : List ℕ) where
-    pub goals-done : {matched predecessors rows set g : List ℕ} {i : ℕ} (j : ℕ) → j < setsA p → matched ≡ matchedMasks p → predecessors ≡ abstractPredecessors p
-        → i ≡ next (setsA p) j → rows ≡ sectionOf F i → set ≡ joinRows matched rows rows → g ≡ goalRows matched (fairSet p.abstraction j) (stepRows (nC p) p.concrete.successors predecessors set)
-        → g ≡ rowsOf (goals p (familyIn p F) j)
-    goals-done j h em ep ei er es eg =
-        eg ∙ rw (ep, es, em, er, ei) (goals-is p w (familyIn p F) j _ (section-in F (next (setsA p) j) (next-lt (setsA p) j h)))
+    pub goals_done : {matched predecessors rows set g : List ℕ} {i : ℕ} (j : ℕ) → j < sets_a p → matched ≡ matched_masks p → predecessors ≡ abstract_predecessors p
+        → i ≡ next (sets_a p) j → rows ≡ section_of F i → set ≡ join_rows matched rows rows → g ≡ goal_rows matched (fair_set p.abstraction j) (step_rows (n_c p) p.concrete.successors predecessors set)
+        → g ≡ rows_of (goals p (family_in p F) j)
+    goals_done j h em ep ei er es eg =
+        eg ∙ rw (ep, es, em, er, ei) (goals_is p w (family_in p F) j _ (section_in F (next (sets_a p) j) (next_lt (sets_a p) j h)))
 
-    pub goals-hold : {g : List ℕ} (j : ℕ) → g ≡ rowsOf (goals p (familyIn p F) j) → Holds p g
+    pub goals_hold : {g : List ℕ} (j : ℕ) → g ≡ rows_of (goals p (family_in p F) j) → Holds p g
     unfolding goals
-    goals-hold j e = holds-set p w (goals p (familyIn p F) j) (set-canonical p _) e
+    goals_hold j e = holds_set p w (goals p (family_in p F) j) (set_canonical p _) e
 
-    pub goals-back : {g : List ℕ} (j : ℕ) → g ≡ rowsOf (goals p (familyIn p F) j) → pairsIn p g ≡ goals p (familyIn p F) j
+    pub goals_back : {g : List ℕ} (j : ℕ) → g ≡ rows_of (goals p (family_in p F) j) → pairs_in p g ≡ goals p (family_in p F) j
     unfolding goals
-    goals-back j e = ap (pairsIn p) e ∙ set-back p w (goals p (familyIn p F) j) (set-canonical p _)
+    goals_back j e = ap (pairs_in p) e ∙ set_back p w (goals p (family_in p F) j) (set_canonical p _)
 
-    pub turn-more : {out : List ℕ} (j : ℕ) → j < setsA p → out ≡ flatOf (table j (λ i. levels p (goals p (familyIn p F) i)))
-        → putSection out j (rowsOf (levels p (goals p (familyIn p F) j))) ≡ flatOf (table (j + 1) (λ i. levels p (goals p (familyIn p F) i)))
-    turn-more j h e = ap (λ (l : List ℕ). putSection l j (rowsOf (levels p (goals p (familyIn p F) j)))) e ∙ flat-more _ j _ (few j h) (λ c l. rows-at _ c l)
+    pub turn_more : {out : List ℕ} (j : ℕ) → j < sets_a p → out ≡ flat_of (table j (λ i. levels p (goals p (family_in p F) i)))
+        → put_section out j (rows_of (levels p (goals p (family_in p F) j))) ≡ flat_of (table (j + 1) (λ i. levels p (goals p (family_in p F) i)))
+    turn_more j h e = ap (λ (l : List ℕ). put_section l j (rows_of (levels p (goals p (family_in p F) j)))) e ∙ flat_more _ j _ (few j h) (λ c l. rows_at _ c l)
 
-    pub turn-all : {j : ℕ} → j ≡ setsA p → flatOf (table j (λ i. levels p (goals p (familyIn p F) i))) ≡ turnRows p F
-    unfolding turnRows turn
-    turn-all e = rw e
+    pub turn_all : {j : ℕ} → j ≡ sets_a p → flat_of (table j (λ i. levels p (goals p (family_in p F) i))) ≡ turn_rows p F
+    unfolding turn_rows turn
+    turn_all e = rw e

@@ -3,29 +3,29 @@ use Rattle.std.specs.Prelude.{true, List, ◌++◌, ◌≡◌, ℕ, ◌≤◌, �
 use Rattle.std.proofs.Common.{◌∙◌, arith, length-append, length-drop}
 use Rattle.machine.specs.declared.Pair.{Pair}
 use Rattle.machine.specs.Refusals.{valid}
-use Rattle.machine.specs.RefusalsLaws.{buffer-made}
-use Rattle.machine.specs.WellFormed.{wellFormed, nonemptySets}
-use Rattle.machine.specs.WellFormedLaws.{well-pair, entries-small}
-use Rattle.machine.specs.EmptySetsLaws.{nonempty-valid}
-use Rattle.machine.specs.Ranks.{solverTable}
-use Rattle.machine.specs.Table.{tableRoom, entries}
-use Rattle.machine.specs.EntriesLaws.{front-same}
-use Rattle.theory.specs.RankLaws.{table-entries}
-use Rattle.solver.specs.Solver.{solveValidity, solvedTable}
-use Rattle.solver.specs.SolverLaws.{solve-long}
+use Rattle.machine.specs.RefusalsLaws.{buffer_made}
+use Rattle.machine.specs.WellFormed.{well_formed, nonempty_sets}
+use Rattle.machine.specs.WellFormedLaws.{well_pair, entries_small}
+use Rattle.machine.specs.EmptySetsLaws.{nonempty_valid}
+use Rattle.machine.specs.Ranks.{solver_table}
+use Rattle.machine.specs.Table.{table_room, entries}
+use Rattle.machine.specs.EntriesLaws.{front_same}
+use Rattle.theory.specs.RankLaws.{table_entries}
+use Rattle.solver.specs.Solver.{solve_validity, solved_table}
+use Rattle.solver.specs.SolverLaws.{solve_long}
 
-module _ (p : Pair) (T : List ℕ) (well : wellFormed p ≡ true) (nonempty : nonemptySets p ≡ true) (room : tableRoom ≤ length T) where
+module _ (p : Pair) (T : List ℕ) (well : well_formed p ≡ true) (nonempty : nonempty_sets p ≡ true) (room : table_room ≤ length T) where
   -- nothing is refused
-  pub solve-takes : solveValidity p (length T) ≡ valid
-  solve-takes = solve-long p (length T) room ∙ nonempty-valid p well nonempty
+  pub solve_takes : solve_validity p (length T) ≡ valid
+  solve_takes = solve_long p (length T) room ∙ nonempty_valid p well nonempty
 
   -- the solver's own entries, and then what was there
-  pub solved-is : solvedTable p T ≡ solverTable p ++ drop (length (solverTable p)) T
-  unfolding solvedTable
-  solved-is = buffer-made _ _ T solve-takes
+  pub solved_is : solved_table p T ≡ solver_table p ++ drop (length (solver_table p)) T
+  unfolding solved_table
+  solved_is = buffer_made _ _ T solve_takes
 
-  pub solved-same : (e : ℕ) → e < entries p → get_or (solvedTable p T) e 0 ≡ get_or (solverTable p) e 0
-  solved-same e l = rw solved-is (front-same p (solverTable p) _ (omega (arith, table-entries p)) e l)
+  pub solved_same : (e : ℕ) → e < entries p → get_or (solved_table p T) e 0 ≡ get_or (solver_table p) e 0
+  solved_same e l = rw solved_is (front_same p (solver_table p) _ (omega (arith, table_entries p)) e l)
 
-  pub solved-room : tableRoom ≤ length (solvedTable p T)
-  solved-room = rw (solved-is, length-append, length-drop, table-entries p) (omega (arith, entries-small p (well-pair p well)))
+  pub solved_room : table_room ≤ length (solved_table p T)
+  solved_room = rw (solved_is, length-append, length-drop, table_entries p) (omega (arith, entries_small p (well_pair p well)))

@@ -3,38 +3,38 @@ use Rattle.std.specs.Prelude.{List, ◌++◌, ◌≡◌, ℕ, ◌≤◌, length,
 use Rattle.std.proofs.Math.Path.{sym}
 use Rattle.machine.specs.declared.Pair.{Pair}
 use Rattle.machine.specs.declared.Refusal.{Refusal}
-use Rattle.machine.specs.Refusals.{valid, refused, bufferValidity}
-use Rattle.machine.specs.RefusalsLaws.{then-of, then-refused, buffer-valid, buffer-made, buffer-kept, state-made, state-kept}
-use Rattle.machine.specs.WellFormed.{nonemptyValidity}
-use Rattle.machine.specs.Table.{tableRoom}
-use Rattle.machine.specs.Ranks.{rankTable, solverTable}
-use Rattle.solver.specs.Families.{familyIn, turnRows}
-use Rattle.solver.specs.Solver.{solveValidity, solvedTable, turnedFamily, turnedTable}
+use Rattle.machine.specs.Refusals.{valid, refused, buffer_validity}
+use Rattle.machine.specs.RefusalsLaws.{then_of, then_refused, buffer_valid, buffer_made, buffer_kept, state_made, state_kept}
+use Rattle.machine.specs.WellFormed.{nonempty_validity}
+use Rattle.machine.specs.Table.{table_room}
+use Rattle.machine.specs.Ranks.{rank_table, solver_table}
+use Rattle.solver.specs.Families.{family_in, turn_rows}
+use Rattle.solver.specs.Solver.{solve_validity, solved_table, turned_family, turned_table}
 
 -- ---- the answer
 module _ (p : Pair) where
-  pub solve-short : (len : ℕ) {r : Refusal} → bufferValidity tableRoom len ≡ refused r → solveValidity p len ≡ refused r
-  unfolding solveValidity
-  solve-short len e = then-refused _ _ _ e
+  pub solve_short : (len : ℕ) {r : Refusal} → buffer_validity table_room len ≡ refused r → solve_validity p len ≡ refused r
+  unfolding solve_validity
+  solve_short len e = then_refused _ _ _ e
 
-  pub solve-long : (len : ℕ) → tableRoom ≤ len → solveValidity p len ≡ nonemptyValidity p
-  unfolding solveValidity
-  solve-long len h = then-of _ _ (buffer-valid tableRoom len h)
+  pub solve_long : (len : ℕ) → table_room ≤ len → solve_validity p len ≡ nonempty_validity p
+  unfolding solve_validity
+  solve_long len h = then_of _ _ (buffer_valid table_room len h)
 
-  pub solved-refused : (T : List ℕ) (r : Refusal) → solveValidity p (length T) ≡ refused r → T ≡ solvedTable p T
-  unfolding solvedTable
-  solved-refused T r e = sym (buffer-kept _ (solverTable p) T e)
+  pub solved_refused : (T : List ℕ) (r : Refusal) → solve_validity p (length T) ≡ refused r → T ≡ solved_table p T
+  unfolding solved_table
+  solved_refused T r e = sym (buffer_kept _ (solver_table p) T e)
 
-  pub solved-valid : (T : List ℕ) → solveValidity p (length T) ≡ valid → solverTable p ++ drop (length (solverTable p)) T ≡ solvedTable p T
-  unfolding solvedTable
-  solved-valid T e = sym (buffer-made _ (solverTable p) T e)
+  pub solved_valid : (T : List ℕ) → solve_validity p (length T) ≡ valid → solver_table p ++ drop (length (solver_table p)) T ≡ solved_table p T
+  unfolding solved_table
+  solved_valid T e = sym (buffer_made _ (solver_table p) T e)
 
   -- ---- a turn of a family
-  pub turned-refused : (F T : List ℕ) (r : Refusal) → solveValidity p (length T) ≡ refused r → (F ≡ turnedFamily p F (length T)) × (T ≡ turnedTable p F T)
-  unfolding turnedFamily turnedTable
-  turned-refused F T r e = (sym (state-kept _ (turnRows p F) F e), sym (buffer-kept _ _ T e))
+  pub turned_refused : (F T : List ℕ) (r : Refusal) → solve_validity p (length T) ≡ refused r → (F ≡ turned_family p F (length T)) × (T ≡ turned_table p F T)
+  unfolding turned_family turned_table
+  turned_refused F T r e = (sym (state_kept _ (turn_rows p F) F e), sym (buffer_kept _ _ T e))
 
-  pub turned-valid : (F T : List ℕ) → solveValidity p (length T) ≡ valid
-      → (turnRows p F ≡ turnedFamily p F (length T)) × (rankTable p (familyIn p F) ++ drop (length (rankTable p (familyIn p F))) T ≡ turnedTable p F T)
-  unfolding turnedFamily turnedTable
-  turned-valid F T e = (sym (state-made _ (turnRows p F) F e), sym (buffer-made _ _ T e))
+  pub turned_valid : (F T : List ℕ) → solve_validity p (length T) ≡ valid
+      → (turn_rows p F ≡ turned_family p F (length T)) × (rank_table p (family_in p F) ++ drop (length (rank_table p (family_in p F))) T ≡ turned_table p F T)
+  unfolding turned_family turned_table
+  turned_valid F T e = (sym (state_made _ (turn_rows p F) F e), sym (buffer_made _ _ T e))

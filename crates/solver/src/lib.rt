@@ -5,21 +5,21 @@
 #![tactic(auto)]
 
 ghost use Rattle.std.specs.Prelude.{◌≡◌, true, ◌++◌, ◌+◌, ◌-◌, ◌*◌, ◌<◌, ◌≤◌, length, take, drop, replicate};
-ghost use Rattle.mask.specs.Bits.{fullMask};
+ghost use Rattle.mask.specs.Bits.{full_mask};
 ghost use Rattle.mask.specs.Tables.{table};
-ghost use Rattle.machine.specs.Machines.{nC, nA, setsC, setsA, pairs, fairSet};
-ghost use Rattle.machine.specs.Refusals.{testedOf};
-ghost use Rattle.machine.specs.Table.{blank, tableRoom};
-ghost use Rattle.machine.specs.Ranks.{rankTable, solverTable};
-ghost use Rattle.machine.specs.Observed.{matchedMasks};
-ghost use Rattle.machine.specs.WellFormed.{wellFormed};
+ghost use Rattle.machine.specs.Machines.{n_c, n_a, sets_c, sets_a, pairs, fair_set};
+ghost use Rattle.machine.specs.Refusals.{tested_of};
+ghost use Rattle.machine.specs.Table.{blank, table_room};
+ghost use Rattle.machine.specs.Ranks.{rank_table, solver_table};
+ghost use Rattle.machine.specs.Observed.{matched_masks};
+ghost use Rattle.machine.specs.WellFormed.{well_formed};
 ghost use Rattle.machine.specs.Game.{level, levels, goals};
-ghost use Rattle.rows.specs.Rows.{rowsOf, pairsIn, stepRows, goalRows};
-ghost use Rattle.rows.specs.Entries.{uptoRows, writeRows};
-ghost use Rattle.solver.specs.Families.{sectionOf, familyIn, turnRows, putSection};
+ghost use Rattle.rows.specs.Rows.{rows_of, pairs_in, step_rows, goal_rows};
+ghost use Rattle.rows.specs.Entries.{upto_rows, write_rows};
+ghost use Rattle.solver.specs.Families.{section_of, family_in, turn_rows, put_section};
 ghost use Rattle.solver.specs.Ranking.{Prepared, Holds, Bounded, RankedTo, AreRanks};
 ghost use Rattle.solver.specs.Sweeps.{Begun, Renewable, Renewed, Sweeping};
-ghost use Rattle.solver.specs.Solver.{solveValidity, solvedTable, turnedFamily, turnedTable};
+ghost use Rattle.solver.specs.Solver.{solve_validity, solved_table, turned_family, turned_table};
 
 use machine::{Pair, Validity};
 
@@ -35,7 +35,7 @@ pub struct TurnedFamily {
 // The entries that a section begins with: 0 for matched pairs, which no rank is below, and blank for all others.
 fn first_entries(nc: usize, na: usize, matched: &[u64; 64], part: &mut [u16])
     requires { ((nc ≤ 64) × (na ≤ 64)) × (length part.old ≡ nc * na) }
-    ensures { part.new ≡ writeRows na matched.now (replicate 64 0) 0 (table (nc * na) (λ e. blank)) }
+    ensures { part.new ≡ write_rows na matched.now (replicate 64 0) 0 (table (nc * na) (λ e. blank)) }
 {
     let none = [0u64; 64];
     rows::clear(part);
@@ -72,8 +72,8 @@ fn level(
     l: usize,
     part: &mut [u16],
 ) -> [u64; 64]
-    requires { (Prepared p matched.now dependents.now predecessors.now × Holds p goals.now) × ((l < pairs p) × ((below.now ≡ rowsOf (level p (pairsIn p goals.now) l)) × RankedTo p (pairsIn p goals.now) part.old (l * setsC p) part.old)) }
-    ensures { (result ≡ rowsOf (level p (pairsIn p goals.now) (l + 1))) × RankedTo p (pairsIn p goals.now) part.old ((l + 1) * setsC p) part.new }
+    requires { (Prepared p matched.now dependents.now predecessors.now × Holds p goals.now) × ((l < pairs p) × ((below.now ≡ rows_of (level p (pairs_in p goals.now) l)) × RankedTo p (pairs_in p goals.now) part.old (l * sets_c p) part.old)) }
+    ensures { (result ≡ rows_of (level p (pairs_in p goals.now) (l + 1))) × RankedTo p (pairs_in p goals.now) part.old ((l + 1) * sets_c p) part.new }
 {
     let concrete = p.concrete;
     let abstraction = p.abstraction;
@@ -116,8 +116,8 @@ fn levels(
     goals: &[u64; 64],
     part: &mut [u16],
 ) -> [u64; 64]
-    requires { (Prepared p matched.now dependents.now predecessors.now × Holds p goals.now) × Bounded p (pairsIn p goals.now) part.old }
-    ensures { (result ≡ rowsOf (levels p (pairsIn p goals.now))) × RankedTo p (pairsIn p goals.now) part.old (pairs p * setsC p) part.new }
+    requires { (Prepared p matched.now dependents.now predecessors.now × Holds p goals.now) × Bounded p (pairs_in p goals.now) part.old }
+    ensures { (result ≡ rows_of (levels p (pairs_in p goals.now))) × RankedTo p (pairs_in p goals.now) part.old (pairs p * sets_c p) part.new }
 {
     let concrete = p.concrete;
     let abstraction = p.abstraction;
@@ -144,8 +144,8 @@ fn goals(
     next: &[u64; 64],
     j: usize,
 ) -> [u64; 64]
-    requires { (wellFormed p ≡ true) × (j < setsA p) }
-    ensures { result ≡ goalRows matched.now (fairSet p.abstraction j) (stepRows (nC p) p.concrete.successors predecessors.now next.now) }
+    requires { (well_formed p ≡ true) × (j < sets_a p) }
+    ensures { result ≡ goal_rows matched.now (fair_set p.abstraction j) (step_rows (n_c p) p.concrete.successors predecessors.now next.now) }
 {
     let concrete = p.concrete;
     let abstraction = p.abstraction;
@@ -166,8 +166,8 @@ fn section(
     covered: &[u64; 64],
     part: &mut [u16],
 ) -> [u64; 64]
-    requires { (Prepared p matched.now dependents.now predecessors.now × Holds p goals.now) × (Bounded p (pairsIn p goals.now) part.old × (covered.now ≡ uptoRows (nC p) (nA p) part.old (blank - 1))) }
-    ensures { (result ≡ rowsOf (levels p (pairsIn p goals.now))) × AreRanks p (pairsIn p goals.now) part.new }
+    requires { (Prepared p matched.now dependents.now predecessors.now × Holds p goals.now) × (Bounded p (pairs_in p goals.now) part.old × (covered.now ≡ upto_rows (n_c p) (n_a p) part.old (blank - 1))) }
+    ensures { (result ≡ rows_of (levels p (pairs_in p goals.now))) × AreRanks p (pairs_in p goals.now) part.new }
 {
     let concrete = p.concrete;
     let abstraction = p.abstraction;
@@ -181,7 +181,7 @@ fn section(
 // The pairs of section j that are not blank.
 fn covered(nc: usize, na: usize, j: usize, table: &[u16]) -> [u64; 64]
     requires { ((nc ≤ 64) × (na ≤ 64)) × ((j < 7) × (j * (nc * na) + nc * na ≤ length table.now)) }
-    ensures { result ≡ uptoRows nc na (take (nc * na) (drop (j * (nc * na)) table.now)) (blank - 1) }
+    ensures { result ≡ upto_rows nc na (take (nc * na) (drop (j * (nc * na)) table.now)) (blank - 1) }
 {
     let pairs = nc * na;
     let from = j * pairs;
@@ -229,8 +229,8 @@ fn renew(
 
 // The first entries of each section.
 fn first_table(p: Pair, matched: &[u64; 64], table: &mut [u16])
-    requires { ((wellFormed p ≡ true) × (matched.now ≡ matchedMasks p)) × (tableRoom ≤ length table.old) }
-    ensures { Begun (pairs p) (nA p) matched.now table.old (setsA p) table.new }
+    requires { ((well_formed p ≡ true) × (matched.now ≡ matched_masks p)) × (table_room ≤ length table.old) }
+    ensures { Begun (pairs p) (n_a p) matched.now table.old (sets_a p) table.new }
 {
     let concrete = p.concrete;
     let abstraction = p.abstraction;
@@ -254,8 +254,8 @@ fn sweeps(
     predecessors: &[u64; 64],
     table: &mut [u16],
 )
-    requires { Prepared p matched.now dependents.now predecessors.now × Sweeping p table.old (fullMask (setsA p)) table.old }
-    ensures { table.new ≡ solverTable p ++ drop (length (solverTable p)) table.old }
+    requires { Prepared p matched.now dependents.now predecessors.now × Sweeping p table.old (full_mask (sets_a p)) table.old }
+    ensures { table.new ≡ solver_table p ++ drop (length (solver_table p)) table.old }
 {
     let abstraction = p.abstraction;
     let n = abstraction.sets;
@@ -272,8 +272,8 @@ fn sweeps(
 
 // Writes the ranks of well-formed machines.
 fn rank_all(p: Pair, table: &mut [u16])
-    requires { (wellFormed p ≡ true) × (tableRoom ≤ length table.old) }
-    ensures { table.new ≡ solverTable p ++ drop (length (solverTable p)) table.old }
+    requires { (well_formed p ≡ true) × (table_room ≤ length table.old) }
+    ensures { table.new ≡ solver_table p ++ drop (length (solver_table p)) table.old }
 {
     let concrete = p.concrete;
     let abstraction = p.abstraction;
@@ -290,8 +290,8 @@ fn rank_all(p: Pair, table: &mut [u16])
 
 // Writes the ranks of two machines into a lent table of 28,672 entries or more: exactly n x P entries, and none beside a refusal.
 pub fn solve(p: Pair, table: &mut [u16]) -> Validity
-    ensures answer { testedOf result ≡ solveValidity p (length table.old) }
-    ensures content { table.new ≡ solvedTable p table.old }
+    ensures answer { tested_of result ≡ solve_validity p (length table.old) }
+    ensures content { table.new ≡ solved_table p table.old }
 {
     if table.len() < machine::TABLE_ROOM {
         return Validity::Refused(machine::refuse(machine::SHORT_BUFFER, 0, 0, 0));
@@ -311,7 +311,7 @@ pub fn solve(p: Pair, table: &mut [u16]) -> Validity
 // The set of section j of a family: 7 x 64 rows, row j x 64 + c.
 fn section_rows(family: &[u64; 448], j: usize) -> [u64; 64]
     requires { j < 7 }
-    ensures { result ≡ sectionOf family.now j }
+    ensures { result ≡ section_of family.now j }
 {
     let mut out = [0u64; 64];
     for c in 0..64 {
@@ -323,7 +323,7 @@ fn section_rows(family: &[u64; 448], j: usize) -> [u64; 64]
 // Puts a set into section j.
 fn put_section(family: &mut [u64; 448], j: usize, set: &[u64; 64])
     requires { (j < 7) × (length family.old ≡ 448) }
-    ensures { family.new ≡ putSection family.old j set.now }
+    ensures { family.new ≡ put_section family.old j set.now }
 {
     for c in 0..64 {
         family[j * 64 + c] = set[c];
@@ -340,7 +340,7 @@ fn afresh(
     part: &mut [u16],
 ) -> [u64; 64]
     requires { (Prepared p matched.now dependents.now predecessors.now × Holds p goals.now) × (length part.old ≡ pairs p) }
-    ensures { (result ≡ rowsOf (levels p (pairsIn p goals.now))) × AreRanks p (pairsIn p goals.now) part.new }
+    ensures { (result ≡ rows_of (levels p (pairs_in p goals.now))) × AreRanks p (pairs_in p goals.now) part.new }
 {
     let concrete = p.concrete;
     let abstraction = p.abstraction;
@@ -361,8 +361,8 @@ fn turn_section(
     j: usize,
     part: &mut [u16],
 ) -> [u64; 448]
-    requires { Prepared p matched.now dependents.now predecessors.now × ((j < setsA p) × ((length part.old ≡ pairs p) × (length made.now ≡ 448))) }
-    ensures { (result ≡ putSection made.now j (rowsOf (levels p (goals p (familyIn p family.now) j)))) × AreRanks p (goals p (familyIn p family.now) j) part.new }
+    requires { Prepared p matched.now dependents.now predecessors.now × ((j < sets_a p) × ((length part.old ≡ pairs p) × (length made.now ≡ 448))) }
+    ensures { (result ≡ put_section made.now j (rows_of (levels p (goals p (family_in p family.now) j)))) × AreRanks p (goals p (family_in p family.now) j) part.new }
 {
     let abstraction = p.abstraction;
     let n = abstraction.sets;
@@ -385,8 +385,8 @@ fn turn(
     family: [u64; 448],
     table: &mut [u16],
 ) -> [u64; 448]
-    requires { Prepared p matched.now dependents.now predecessors.now × (tableRoom ≤ length table.old) }
-    ensures { (result ≡ turnRows p family) × (table.new ≡ rankTable p (familyIn p family) ++ drop (length (rankTable p (familyIn p family))) table.old) }
+    requires { Prepared p matched.now dependents.now predecessors.now × (table_room ≤ length table.old) }
+    ensures { (result ≡ turn_rows p family) × (table.new ≡ rank_table p (family_in p family) ++ drop (length (rank_table p (family_in p family))) table.old) }
 {
     let concrete = p.concrete;
     let abstraction = p.abstraction;
@@ -413,8 +413,8 @@ fn turn(
 
 // A turn of well-formed machines.
 fn turn_all(p: Pair, family: [u64; 448], table: &mut [u16]) -> [u64; 448]
-    requires { (wellFormed p ≡ true) × (tableRoom ≤ length table.old) }
-    ensures { (result ≡ turnRows p family) × (table.new ≡ rankTable p (familyIn p family) ++ drop (length (rankTable p (familyIn p family))) table.old) }
+    requires { (well_formed p ≡ true) × (table_room ≤ length table.old) }
+    ensures { (result ≡ turn_rows p family) × (table.new ≡ rank_table p (family_in p family) ++ drop (length (rank_table p (family_in p family))) table.old) }
 {
     let concrete = p.concrete;
     let abstraction = p.abstraction;
@@ -431,9 +431,9 @@ fn turn_all(p: Pair, family: [u64; 448], table: &mut [u16]) -> [u64; 448]
 // Of a family of any rows: the family that a turn makes of it, and the ranks over it in a lent table of 28,672 entries or more, exactly n x P of
 // them. Beside a refusal the family comes back as it was, and nothing is written.
 pub fn turn_family(p: Pair, family: [u64; 448], table: &mut [u16]) -> TurnedFamily
-    ensures validity { testedOf result.validity ≡ solveValidity p (length table.old) }
-    ensures family { result.family ≡ turnedFamily p family (length table.old) }
-    ensures content { table.new ≡ turnedTable p family table.old }
+    ensures validity { tested_of result.validity ≡ solve_validity p (length table.old) }
+    ensures family { result.family ≡ turned_family p family (length table.old) }
+    ensures content { table.new ≡ turned_table p family table.old }
 {
     let room = table.len();
     if room < machine::TABLE_ROOM {

@@ -4,10 +4,10 @@ use Rattle.std.proofs.Common.{⊎_elim, ap, arith, eqb-true, eq-eqb, le-leb}
 use Rattle.std.proofs.Math.Decide.{dec_le, dec_lt}
 use Rattle.std.proofs.lemmas.Bool.{eqb-false, lt-leb}
 use Rattle.mask.specs.Logic.{and}
-use Rattle.mask.specs.LogicLaws.{dec, clash, and-l, and-r, and-i}
+use Rattle.mask.specs.LogicLaws.{dec, clash, and_l, and_r, and_i}
 use Rattle.mask.specs.BoundedLaws.{find}
 use Rattle.machine.specs.Machines.{next}
-use Rattle.machine.specs.StepLaws.{next-wrap, next-step}
+use Rattle.machine.specs.StepLaws.{next_wrap, next_step}
 
 -- what holds from each moment to the next holds from any moment to any later one
 pub chain : (R : ℕ → ℕ → Type 0) → ((i : ℕ) → R i i) → ((i j k : ℕ) → R i j → R j k → R i k) → (n : ℕ) → ((i : ℕ) → i < n → R i (suc i))
@@ -21,26 +21,26 @@ chain R r t n h i (suc j) l m = go (dec_le i j) (chain R r t n h i j)
 
 -- a sequence that never rises, or never falls, and ends where it began never moves
 module _ (e : ℕ → ℕ) (n : ℕ) (ends : e 0 ≡ e n) where
-  pub still-down : ((i : ℕ) → i < n → e (suc i) ≤ e i) → (i : ℕ) → i ≤ n → e i ≡ e 0
-  still-down h i l =
+  pub still_down : ((i : ℕ) → i < n → e (suc i) ≤ e i) → (i : ℕ) → i ≤ n → e i ≡ e 0
+  still_down h i l =
       let c = chain (λ x y. e y ≤ e x) (λ x. omega arith) (λ x y z p q. omega arith) n h in
       omega (arith, c 0 i (omega arith) l, c i n l (omega arith))
 
-  pub still-up : ((i : ℕ) → i < n → e i ≤ e (suc i)) → (i : ℕ) → i ≤ n → e i ≡ e 0
-  still-up h i l =
+  pub still_up : ((i : ℕ) → i < n → e i ≤ e (suc i)) → (i : ℕ) → i ≤ n → e i ≡ e 0
+  still_up h i l =
       let c = chain (λ x y. e x ≤ e y) (λ x. omega arith) (λ x y z p q. omega arith) n h in
       omega (arith, c 0 i (omega arith) l, c i n l (omega arith))
 
 -- entries that never rise while they are not 0, that fall at some moments, and that end where they began, are 0 at some moment, if each
 -- entry has a moment at which it falls
-pub zero-met : (e : ℕ → ℕ) (falls : ℕ → ℕ → Bool) (n : ℕ) → ((i : ℕ) → i < n → e i ≢ 0 → e (suc i) ≤ e i)
+pub zero_met : (e : ℕ → ℕ) (falls : ℕ → ℕ → Bool) (n : ℕ) → ((i : ℕ) → i < n → e i ≢ 0 → e (suc i) ≤ e i)
     → ((i : ℕ) → i < n → e i ≢ 0 → falls (e i) i ≡ true → e (suc i) < e i) → e 0 ≡ e n → ((i : ℕ) × (i < n) × (falls (e 0) i ≡ true))
     → (i : ℕ) × (i < n) × (e i ≡ 0)
-zero-met e falls n le lt ends q = ⊎_elim
+zero_met e falls n le lt ends q = ⊎_elim
     (λ z. (z.0, z.1, eqb-true _ _ z.2))
     (λ none.
     let ne : (i : ℕ) → i < n → e i ≢ 0 = λ i l. eqb-false _ _ (none i l) in
-    let s = still-down e n ends (λ i l. le i l (ne i l)) in
+    let s = still_down e n ends (λ i l. le i l (ne i l)) in
     let now : e q.0 ≡ e 0 = s q.0 (omega (arith, q.1)) in
     absurd (omega (arith, s (suc q.0) q.1, lt q.0 q.1 (ne q.0 q.1) (rw now q.2))))
     (find n (λ i. eqb (e i) 0))
@@ -49,36 +49,36 @@ zero-met e falls n le lt ends q = ⊎_elim
 along : ℕ → ℕ → ℕ → ℕ
 along n s x = cond (leb x s) (x + n) x
 
-along-low : (n s x : ℕ) → x ≤ s → along n s x ≡ x + n
+along_low : (n s x : ℕ) → x ≤ s → along n s x ≡ x + n
 unfolding along
-along-low n s x h = rw (le-leb x s h) refl
+along_low n s x h = rw (le-leb x s h) refl
 
-along-high : (n s x : ℕ) → s < x → along n s x ≡ x
+along_high : (n s x : ℕ) → s < x → along n s x ≡ x
 unfolding along
-along-high n s x h = rw (lt-leb x s h) refl
+along_high n s x h = rw (lt-leb x s h) refl
 
-along-next : (n s x : ℕ) → s < n → x < n → x ≢ s → along n s (next n x) ≡ suc (along n s x)
-along-next n s x hs hx d = go (dec_lt (suc x) n) (dec_lt x s)
+along_next : (n s x : ℕ) → s < n → x < n → x ≢ s → along n s (next n x) ≡ suc (along n s x)
+along_next n s x hs hx d = go (dec_lt (suc x) n) (dec_lt x s)
   where
     go : Dec (suc x < n) → Dec (x < s) → along n s (next n x) ≡ suc (along n s x)
-    go (yes p) (yes q) = rw (next-step n x p, along-low n s (suc x) q, along-low n s x (omega arith)) (omega arith)
-    go (yes p) (no q) = rw (next-step n x p, along-high n s (suc x) (omega arith), along-high n s x (omega arith)) (omega arith)
+    go (yes p) (yes q) = rw (next_step n x p, along_low n s (suc x) q, along_low n s x (omega arith)) (omega arith)
+    go (yes p) (no q) = rw (next_step n x p, along_high n s (suc x) (omega arith), along_high n s x (omega arith)) (omega arith)
     go (no p) (yes q) = absurd (omega arith)
-    go (no p) (no q) = rw (next-wrap n x (omega arith), along-low n s 0 (omega arith), along-high n s x (omega arith)) (omega arith)
+    go (no p) (no q) = rw (next_wrap n x (omega arith), along_low n s 0 (omega arith), along_high n s x (omega arith)) (omega arith)
 
 -- a walk that goes on to the next section at each goal, meets a goal, and ends in the section where it began, meets a goal in each section
-pub sections-met : (n : ℕ) (j : ℕ → ℕ) (goal : ℕ → Bool) (N : ℕ) → ((i : ℕ) → j i < n)
+pub sections_met : (n : ℕ) (j : ℕ → ℕ) (goal : ℕ → Bool) (N : ℕ) → ((i : ℕ) → j i < n)
     → ((i : ℕ) → i < N → j (suc i) ≡ cond (goal i) (next n (j i)) (j i)) → j 0 ≡ j N → (i : ℕ) × (i < N) × (goal i ≡ true)
     → (s : ℕ) → s < n → (i : ℕ) × (i < N) × (goal i ≡ true) × (j i ≡ s)
-sections-met n j goal N bound step ends g s hs = ⊎_elim
-    (λ q. (q.0, q.1, and-l _ _ q.2, eqb-true _ _ (and-r _ _ q.2)))
+sections_met n j goal N bound step ends g s hs = ⊎_elim
+    (λ q. (q.0, q.1, and_l _ _ q.2, eqb-true _ _ (and_r _ _ q.2)))
     (λ none.
-    let ne : (i : ℕ) → i < N → goal i ≡ true → j i ≢ s = λ i l t e. clash (none i l) (and-i t (eq-eqb (j i) s e)) in
+    let ne : (i : ℕ) → i < N → goal i ≡ true → j i ≢ s = λ i l t e. clash (none i l) (and_i t (eq-eqb (j i) s e)) in
     let moves : (i : ℕ) → i < N → goal i ≡ true → along n s (j (suc i)) ≡ suc (along n s (j i)) =
-    λ i l t. rw (step i l, t) (along-next n s (j i) hs (bound i) (ne i l t)) in
+    λ i l t. rw (step i l, t) (along_next n s (j i) hs (bound i) (ne i l t)) in
     let stays : (i : ℕ) → i < N → goal i ≡ false → along n s (j (suc i)) ≡ along n s (j i) = λ i l t. rw (step i l, t) refl in
     let st =
-    still-up (λ i. along n s (j i)) N (ap (along n s) ends)
+    still_up (λ i. along n s (j i)) N (ap (along n s) ends)
     (λ i l. ⊎_elim (λ t. omega (arith, moves i l t)) (λ t. omega (arith, stays i l t)) (dec (goal i))) in
     absurd (omega (arith, moves g.0 g.1 g.2, st g.0 (omega (arith, g.1)), st (suc g.0) g.1)))
     (find N (λ i. and (goal i) (eqb (j i) s)))

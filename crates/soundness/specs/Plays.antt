@@ -3,21 +3,21 @@ use Rattle.std.specs.Prelude.{true, List, ◌≡◌, ℕ, suc, ◌+◌, ◌-◌,
 use Rattle.mask.specs.Tables.{table}
 use Rattle.machine.specs.declared.Machine.{Machine}
 use Rattle.machine.specs.declared.Pair.{Pair}
-use Rattle.machine.specs.Machines.{moves, starts, inFairSet}
+use Rattle.machine.specs.Machines.{moves, starts, in_fair_set}
 use Rattle.machine.specs.Lassos.{Lasso, moment}
-use Rattle.machine.specs.Player.{placeAt, loopStart}
+use Rattle.machine.specs.Player.{place_at, loop_start}
 
 -- from moment p on, f has the same value q moments later
 abbrev pub Again : {A : Type 0} → ℕ → ℕ → (ℕ → A) → Type 0
 Again p q f = (t : ℕ) → p ≤ t → f (t + q) ≡ f t
 
 -- the lasso with the first p values of f as its stem and the q after them as its loop
-unfoldable pub lassoOf : ℕ → ℕ → (ℕ → ℕ) → Lasso
-lassoOf p q f = record { stem = table p f; loop = table q (λ i. f (p + i)) }
+unfoldable pub lasso_of : ℕ → ℕ → (ℕ → ℕ) → Lasso
+lasso_of p q f = record { stem = table p f; loop = table q (λ i. f (p + i)) }
 
 -- the lasso l with its stem d states longer, the loop turned on by as much, and the loop written n times
 unfoldable pub unrolled : Lasso → ℕ → ℕ → Lasso
-unrolled l d n = lassoOf (length l.stem + d) (n * length l.loop) (moment l)
+unrolled l d n = lasso_of (length l.stem + d) (n * length l.loop) (moment l)
 
 -- two lassos have the same endless play
 abbrev pub SamePlay : Lasso → Lasso → Type 0
@@ -25,12 +25,12 @@ SamePlay l k = (t : ℕ) → moment l t ≡ moment k t
 
 -- what makes a lasso a fair lasso from a start state, as facts about its endless play
 pub record Play (m : Machine) (l : Lasso) : Type 0 where
-  pub some-loop : 0 < length l.loop
+  pub some_loop : 0 < length l.loop
   pub bound : (t : ℕ) → moment l t < m.states
   pub step : (t : ℕ) → moves m (moment l t) (moment l (suc t)) ≡ true
-  pub fair : (k : ℕ) → k < m.sets → (i : ℕ) × (i < length l.loop) × (inFairSet m k (moment l (length l.stem + i)) ≡ true)
+  pub fair : (k : ℕ) → k < m.sets → (i : ℕ) × (i < length l.loop) × (in_fair_set m k (moment l (length l.stem + i)) ≡ true)
   pub start : starts m (moment l 0) ≡ true
 
 -- the player's run along the lasso l, with its stem before the loop start after x rounds and its loop up to the one after z rounds
-abbrev pub runBetween : Pair → List ℕ → Lasso → ℕ → ℕ → Lasso
-runBetween p T l x z = lassoOf (loopStart p T l x) ((z - x) * length l.loop) (λ t. (placeAt p T l t).state)
+abbrev pub run_between : Pair → List ℕ → Lasso → ℕ → ℕ → Lasso
+run_between p T l x z = lasso_of (loop_start p T l x) ((z - x) * length l.loop) (λ t. (place_at p T l t).state)

@@ -5,108 +5,108 @@ use Rattle.std.proofs.Common.{◌∙◌}
 use Prim.Native.Nat.{ℕ, zero, suc, ◌+◌, ◌*◌, ◌≤◌, ◌<◌}
 use Rattle.std.proofs.Math.ListN.{length}
 use Rattle.mask.specs.Logic.{and}
-use Rattle.mask.specs.BoundedLaws.{first-cong, some-cong}
-use Rattle.mask.specs.TablesLaws.{table-cong}
+use Rattle.mask.specs.BoundedLaws.{first_cong, some_cong}
+use Rattle.mask.specs.TablesLaws.{table_cong}
 use Rattle.machine.specs.declared.Pair.{Pair}
 use Rattle.machine.specs.Refusals.{answer, valid}
-use Rattle.machine.specs.RefusalsLaws.{then-answer, buffer-valid, then-same, after-same}
-use Rattle.machine.specs.Machines.{matched, moves, starts, successors, nC, nA, setsA}
-use Rattle.machine.specs.WellFormedLaws.{WellPair, well-valid}
+use Rattle.machine.specs.RefusalsLaws.{then_answer, buffer_valid, then_same, after_same}
+use Rattle.machine.specs.Machines.{matched, moves, starts, successors, n_c, n_a, sets_a}
+use Rattle.machine.specs.WellFormedLaws.{WellPair, well_valid}
 use Rattle.machine.specs.Lassos.{Lasso, moment}
-use Rattle.machine.specs.Step.{stateOf}
-use Rattle.machine.specs.PartnerLaws.{partner-below}
-use Rattle.machine.specs.SingleStepLaws.{single-below}
-use Rattle.machine.specs.Table.{tableRoom, SameEntries}
-use Rattle.machine.specs.EntriesLaws.{entry-same, covers-same, lines-same}
-use Rattle.machine.specs.Lines.{nonBlank}
-use Rattle.machine.specs.Player.{Place, startPartner, startValidity, sectionAfter, follow, stepTo, placeAt, samePlace, lastRound, earlierRound, stemLength, loopLength, run, played, playValidity, allValidity, playerAnswer, playerBuffer}
-use Rattle.soundness.specs.PlayLaws.{play-at}
-use Rattle.soundness.specs.PlayerLaws.{GoodLasso, good-lasso, good-play, Playable, playable, playable-covered}
+use Rattle.machine.specs.Step.{state_of}
+use Rattle.machine.specs.PartnerLaws.{partner_below}
+use Rattle.machine.specs.SingleStepLaws.{single_below}
+use Rattle.machine.specs.Table.{table_room, SameEntries}
+use Rattle.machine.specs.EntriesLaws.{entry_same, covers_same, lines_same}
+use Rattle.machine.specs.Lines.{non_blank}
+use Rattle.machine.specs.Player.{Place, start_partner, start_validity, section_after, follow, step_to, place_at, same_place, last_round, earlier_round, stem_length, loop_length, run, played, play_validity, all_validity, player_answer, player_buffer}
+use Rattle.soundness.specs.PlayLaws.{play_at}
+use Rattle.soundness.specs.PlayerLaws.{GoodLasso, good_lasso, good_play, Playable, playable, playable_covered}
 
 module _ (p : Pair) (T U : List ℕ) (same : SameEntries p T U) where
   -- ---- the rule's partners, among moves to states of the machine
-  nonBlank-unread : (j d i : ℕ) → j < setsA p → d < nC p → i < nA p → nonBlank p T j d i ≡ nonBlank p U j d i
-  unfolding nonBlank
-  nonBlank-unread j d i hj hd h = ap (and (matched p d i)) (covers-same p T U same j d i hj hd h)
+  non_blank_unread : (j d i : ℕ) → j < sets_a p → d < n_c p → i < n_a p → non_blank p T j d i ≡ non_blank p U j d i
+  unfolding non_blank
+  non_blank_unread j d i hj hd h = ap (and (matched p d i)) (covers_same p T U same j d i hj hd h)
 
   module _ (w : WellPair p) where
-    start-unread : (c : ℕ) → c < nC p → startPartner p T c ≡ startPartner p U c
-    unfolding startPartner starts
-    start-unread c hc =
-        let z = w.abstraction.sets-low in
-        partner-below p.abstraction.start (nA p) _ _ _ _ w.abstraction.start-bits (λ i. nonBlank-unread 0 c i z hc) (λ i. entry-same p T U same 0 c i z hc)
+    start_unread : (c : ℕ) → c < n_c p → start_partner p T c ≡ start_partner p U c
+    unfolding start_partner starts
+    start_unread c hc =
+        let z = w.abstraction.sets_low in
+        partner_below p.abstraction.start (n_a p) _ _ _ _ w.abstraction.start_bits (λ i. non_blank_unread 0 c i z hc) (λ i. entry_same p T U same 0 c i z hc)
 
-    follow-unread : (j : ℕ) (at : Place) (d : ℕ) → j < setsA p → d < nC p → at.state < nA p → follow p T j at d ≡ follow p U j at d
+    follow_unread : (j : ℕ) (at : Place) (d : ℕ) → j < sets_a p → d < n_c p → at.state < n_a p → follow p T j at d ≡ follow p U j at d
     unfolding follow moves
-    follow-unread j at d hj hd ha = single-below at.state (successors p.abstraction at.state) (nA p) _ _ _ _ (λ b. w.abstraction.move-bits at.state b ha)
-        (λ i. nonBlank-unread j d i hj hd) (λ i. entry-same p T U same j d i hj hd)
+    follow_unread j at d hj hd ha = single_below at.state (successors p.abstraction at.state) (n_a p) _ _ _ _ (λ b. w.abstraction.move_bits at.state b ha)
+        (λ i. non_blank_unread j d i hj hd) (λ i. entry_same p T U same j d i hj hd)
 
-    starts-unread : (l : Lasso) → moment l 0 < nC p → startValidity p T l ≡ startValidity p U l
-    unfolding startValidity
-    starts-unread l h = rw (start-unread (moment l 0) h)
+    starts_unread : (l : Lasso) → moment l 0 < n_c p → start_validity p T l ≡ start_validity p U l
+    unfolding start_validity
+    starts_unread l h = rw (start_unread (moment l 0) h)
 
     -- a step from a place whose state and section are the machines'
-    step-unread : (c d : ℕ) (at : Place) → c < nC p → d < nC p → at.state < nA p → at.section < setsA p → (stepTo p T c at d).section < setsA p
-        → stepTo p T c at d ≡ stepTo p U c at d
-    unfolding stepTo sectionAfter
-    step-unread c d at hc hd ha hj hk =
-        rw (← entry-same p T U same at.section c at.state hj hc ha)
+    step_unread : (c d : ℕ) (at : Place) → c < n_c p → d < n_c p → at.state < n_a p → at.section < sets_a p → (step_to p T c at d).section < sets_a p
+        → step_to p T c at d ≡ step_to p U c at d
+    unfolding step_to section_after
+    step_unread c d at hc hd ha hj hk =
+        rw (← entry_same p T U same at.section c at.state hj hc ha)
         (λ i. record {
-          state = stateOf (follow-unread _ at d hk hd ha i);
-          section = sectionAfter p T c at;
+          state = state_of (follow_unread _ at d hk hd ha i);
+          section = section_after p T c at;
         })
 
   -- ---- a lasso that is not refused
-  within : (l : Lasso) → GoodLasso p.concrete l → (t : ℕ) → moment l t < nC p
-  within l g = (play-at p.concrete l (good-play p.concrete l g)).bound
+  within : (l : Lasso) → GoodLasso p.concrete l → (t : ℕ) → moment l t < n_c p
+  within l g = (play_at p.concrete l (good_play p.concrete l g)).bound
 
   module _ (l : Lasso) (k : Playable p T l) where
-    place-unread : (t : ℕ) → placeAt p T l t ≡ placeAt p U l t
-    unfolding placeAt
-    place-unread zero = rw (start-unread k.well (moment l 0) (within l k.good 0))
-    place-unread (suc t) =
-        step-unread k.well (moment l t) (moment l (suc t)) (placeAt p T l t) (within l k.good t) (within l k.good (suc t)) (playable-covered k t).bound (playable-covered k t).section-bound (playable-covered k (suc t)).section-bound
-        ∙ ap (λ at. stepTo p U (moment l t) at (moment l (suc t))) (place-unread t)
+    place_unread : (t : ℕ) → place_at p T l t ≡ place_at p U l t
+    unfolding place_at
+    place_unread zero = rw (start_unread k.well (moment l 0) (within l k.good 0))
+    place_unread (suc t) =
+        step_unread k.well (moment l t) (moment l (suc t)) (place_at p T l t) (within l k.good t) (within l k.good (suc t)) (playable_covered k t).bound (playable_covered k t).section_bound (playable_covered k (suc t)).section_bound
+        ∙ ap (λ at. step_to p U (moment l t) at (moment l (suc t))) (place_unread t)
 
-    same-unread : (x y : ℕ) → samePlace p T l x y ≡ samePlace p U l x y
-    unfolding samePlace
-    same-unread x y = rw (place-unread (length l.stem + x * length l.loop), place-unread (length l.stem + y * length l.loop))
+    same_unread : (x y : ℕ) → same_place p T l x y ≡ same_place p U l x y
+    unfolding same_place
+    same_unread x y = rw (place_unread (length l.stem + x * length l.loop), place_unread (length l.stem + y * length l.loop))
 
-    last-unread : lastRound p T l ≡ lastRound p U l
-    unfolding lastRound
-    last-unread = first-cong _ _ _ (λ y h. some-cong _ _ _ (λ x h. same-unread x y))
+    last_unread : last_round p T l ≡ last_round p U l
+    unfolding last_round
+    last_unread = first_cong _ _ _ (λ y h. some_cong _ _ _ (λ x h. same_unread x y))
 
-    earlier-unread : earlierRound p T l ≡ earlierRound p U l
-    unfolding earlierRound
-    earlier-unread = rw last-unread (first-cong _ _ _ (λ x h. same-unread x (lastRound p U l)))
+    earlier_unread : earlier_round p T l ≡ earlier_round p U l
+    unfolding earlier_round
+    earlier_unread = rw last_unread (first_cong _ _ _ (λ x h. same_unread x (last_round p U l)))
 
-    lengths-unread : played (stemLength p T l) (loopLength p T l) ≡ played (stemLength p U l) (loopLength p U l)
-    unfolding stemLength loopLength
-    lengths-unread = rw (last-unread, earlier-unread)
+    lengths_unread : played (stem_length p T l) (loop_length p T l) ≡ played (stem_length p U l) (loop_length p U l)
+    unfolding stem_length loop_length
+    lengths_unread = rw (last_unread, earlier_unread)
 
-    run-unread : run p T l ≡ run p U l
+    run_unread : run p T l ≡ run p U l
     unfolding run
-    run-unread = rw last-unread (table-cong _ _ _ (λ t h. ap (λ at. at.state) (place-unread t)))
+    run_unread = rw last_unread (table_cong _ _ _ (λ t h. ap (λ at. at.state) (place_unread t)))
 
   -- ---- the player
-  play-same : (l : Lasso) → playValidity p T l ≡ playValidity p U l
-  unfolding playValidity
-  play-same l = then-same _ _ _ _ refl (λ v. then-same _ _ _ _ (lines-same p T U same) (λ _. then-same _ _ _ _ refl
-      (λ g. starts-unread (well-valid p v) l (within l (good-lasso p.concrete l g) 0))))
+  play_same : (l : Lasso) → play_validity p T l ≡ play_validity p U l
+  unfolding play_validity
+  play_same l = then_same _ _ _ _ refl (λ v. then_same _ _ _ _ (lines_same p T U same) (λ _. then_same _ _ _ _ refl
+      (λ g. starts_unread (well_valid p v) l (within l (good_lasso p.concrete l g) 0))))
 
-  module _ (l : Lasso) (buffer : List ℕ) (long : tableRoom ≤ length T) (long' : tableRoom ≤ length U) where
-    all-same : allValidity p T l buffer ≡ allValidity p U l buffer
-    unfolding allValidity
-    all-same = then-same _ _ _ _ (buffer-valid tableRoom (length T) long ∙ sym (buffer-valid tableRoom (length U) long')) (λ _. then-same _ _ _ _ refl (λ _. play-same l))
+  module _ (l : Lasso) (buffer : List ℕ) (long : table_room ≤ length T) (long' : table_room ≤ length U) where
+    all_same : all_validity p T l buffer ≡ all_validity p U l buffer
+    unfolding all_validity
+    all_same = then_same _ _ _ _ (buffer_valid table_room (length T) long ∙ sym (buffer_valid table_room (length U) long')) (λ _. then_same _ _ _ _ refl (λ _. play_same l))
 
-    tested : allValidity p T l buffer ≡ valid → Playable p T l
-    unfolding allValidity
-    tested e = playable p T l (then-answer _ _ (then-answer _ _ e).1).1
+    tested : all_validity p T l buffer ≡ valid → Playable p T l
+    unfolding all_validity
+    tested e = playable p T l (then_answer _ _ (then_answer _ _ e).1).1
 
-    pub answer-same : playerAnswer p T l buffer ≡ playerAnswer p U l buffer
-    unfolding playerAnswer
-    answer-same = then-same _ _ _ _ all-same (λ e. ap answer (lengths-unread l (tested e)))
+    pub answer_same : player_answer p T l buffer ≡ player_answer p U l buffer
+    unfolding player_answer
+    answer_same = then_same _ _ _ _ all_same (λ e. ap answer (lengths_unread l (tested e)))
 
-    pub buffer-same : playerBuffer p T l buffer ≡ playerBuffer p U l buffer
-    unfolding playerBuffer
-    buffer-same = after-same _ _ _ _ _ all-same (λ e. run-unread l (tested e))
+    pub buffer_same : player_buffer p T l buffer ≡ player_buffer p U l buffer
+    unfolding player_buffer
+    buffer_same = after_same _ _ _ _ _ all_same (λ e. run_unread l (tested e))

@@ -10,13 +10,13 @@ pub record Put (out₀ : List ℕ) (at : ℕ) (word out : List ℕ) (to i : ℕ)
   pub same : length out ≡ length out₀
 
 -- where there is no room nothing is put
-sets-out : (vs l : List ℕ) (i : ℕ) → length l ≤ i → sets l i vs ≡ l
-sets-out [] l i h = refl
-sets-out (a ∷ vs) l i h = ap (λ (k : List ℕ). sets k (suc i) vs) (set_out l i a h) ∙ sets-out vs l (suc i) (omega arith)
+sets_out : (vs l : List ℕ) (i : ℕ) → length l ≤ i → sets l i vs ≡ l
+sets_out [] l i h = refl
+sets_out (a ∷ vs) l i h = ap (λ (k : List ℕ). sets k (suc i) vs) (set_out l i a h) ∙ sets_out vs l (suc i) (omega arith)
 
 module _ {out₀ : List ℕ} {at : ℕ} {word out : List ℕ} {to i : ℕ} (p : Put out₀ at word out to i) where
-  pub put-more : i < length word → Put out₀ at word (set out to (get_or word i 0)) (to + 1) (i + 1)
-  put-more l = record {
+  pub put_more : i < length word → Put out₀ at word (set out to (get_or word i 0)) (to + 1) (i + 1)
+  put_more l = record {
     answer =
         ap (λ (t : ℕ). sets (set out to (get_or word i 0)) t (drop (i + 1) word)) (add-one to)
         ∙ ap (λ (k : ℕ). sets (set out to (get_or word i 0)) (suc to) (drop k word)) (add-one i)
@@ -25,12 +25,12 @@ module _ {out₀ : List ℕ} {at : ℕ} {word out : List ℕ} {to i : ℕ} (p : 
     same = length-set out to (get_or word i 0) ∙ p.same;
   }
 
-  pub put-full : length out ≤ to → out ≡ sets out₀ at word
-  put-full h = sym (sets-out (drop i word) out to h) ∙ p.answer
+  pub put_full : length out ≤ to → out ≡ sets out₀ at word
+  put_full h = sym (sets_out (drop i word) out to h) ∙ p.answer
 
-  pub put-done : length word ≤ i → out ≡ sets out₀ at word
-  put-done h = ap (sets out to) (sym (drop_of_length-le word h)) ∙ p.answer
+  pub put_done : length word ≤ i → out ≡ sets out₀ at word
+  put_done h = ap (sets out to) (sym (drop_of_length-le word h)) ∙ p.answer
 
 -- a byte, and a word put behind it
-pub byte-word : (out after word : List ℕ) (at b : ℕ) → after ≡ sets (set out at b) (at + 1) word → after ≡ sets out at (b ∷ word)
-byte-word out after word at b e = e ∙ ap (λ (k : ℕ). sets (set out at b) k word) (add-one at)
+pub byte_word : (out after word : List ℕ) (at b : ℕ) → after ≡ sets (set out at b) (at + 1) word → after ≡ sets out at (b ∷ word)
+byte_word out after word at b e = e ∙ ap (λ (k : ℕ). sets (set out at b) k word) (add-one at)

@@ -4,7 +4,7 @@
 ghost use Rattle.std.specs.Prelude.{◌≡◌, length};
 ghost use Rattle.std.proofs.lemmas.List.Edits.{sets};
 ghost use Rattle.text.specs.Decimal.{decimal};
-ghost use Rattle.text.specs.Answers.{digitsFor};
+ghost use Rattle.text.specs.Answers.{digits_for};
 
 // The decimal digits of a number, which stand at the end of `bytes`, from `start` on; before them are zeros.
 #[derive(Clone, Copy)]
@@ -15,7 +15,7 @@ pub struct Digits {
 
 // The decimal digits of n in ASCII.
 pub fn digits_of(n: usize) -> Digits
-    ensures { result ≡ digitsFor n }
+    ensures { result ≡ digits_for n }
 {
     let mut bytes = [0u8; 20];
     let mut start = 19;

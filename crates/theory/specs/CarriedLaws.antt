@@ -4,56 +4,56 @@ use Rattle.std.proofs.Math.Logic.{⊎_elim}
 use Rattle.std.proofs.Math.Path.{◌≡◌, ap}
 use Rattle.std.proofs.Common.{◌∙◌, arith}
 use borrow.Author.Tests.{ltb-true, le-ltb}
-use Rattle.mask.specs.LogicLaws.{dec, cond-cases, and-l, and-r, and-false-l, and-false-r, not-e, not-f}
-use Rattle.mask.specs.BoundedLaws.{first-none, first-has, someIn-at, someIn-of}
+use Rattle.mask.specs.LogicLaws.{dec, cond_cases, and_l, and_r, and_false_l, and_false_r, not_e, not_f}
+use Rattle.mask.specs.BoundedLaws.{first_none, first_has, some_in_at, some_in_of}
 use Rattle.machine.specs.declared.Pair.{Pair}
 use Rattle.machine.specs.Refusals.{valid, answer}
-use Rattle.machine.specs.Machines.{starts, nC, nA}
-use Rattle.machine.specs.WellFormed.{pairValidity}
-use Rattle.machine.specs.Table.{covers, coveredCount}
-use Rattle.machine.specs.Lines.{passesEach}
-use Rattle.machine.specs.LinesLaws.{lines-valid}
-use Rattle.machine.specs.Verdict.{HasStarts, carried, notCarried, startCovered, lackingStart, startVerdict, linesVerdict}
-use Rattle.machine.specs.VerdictLaws.{before-lacking, carried-at, lines-said}
-use Rattle.machine.specs.RefusalsLaws.{then-of}
+use Rattle.machine.specs.Machines.{starts, n_c, n_a}
+use Rattle.machine.specs.WellFormed.{pair_validity}
+use Rattle.machine.specs.Table.{covers, covered_count}
+use Rattle.machine.specs.Lines.{passes_each}
+use Rattle.machine.specs.LinesLaws.{lines_valid}
+use Rattle.machine.specs.Verdict.{HasStarts, carried, not_carried, start_covered, lacking_start, start_verdict, lines_verdict}
+use Rattle.machine.specs.VerdictLaws.{before_lacking, carried_at, lines_said}
+use Rattle.machine.specs.RefusalsLaws.{then_of}
 use Rattle.theory.specs.Statements.{IsLowest}
 
 module _ (p : Pair) (T : List ℕ) where
-  lowest : lackingStart p T < nC p → IsLowest p T (lackingStart p T)
-  unfolding lackingStart
+  lowest : lacking_start p T < n_c p → IsLowest p T (lacking_start p T)
+  unfolding lacking_start
   lowest h =
-      let t = first-has (nC p) _ h in
-      record { state = h; is-start = and-l _ _ t; lacks = not-e _ (and-r _ _ t); lower = λ d l. before-lacking p T d l }
+      let t = first_has (n_c p) _ h in
+      record { state = h; is_start = and_l _ _ t; lacks = not_e _ (and_r _ _ t); lower = λ d l. before_lacking p T d l }
 
   -- Carried is said where each start state has a partner
-  pub starts-carried : HasStarts p T → startVerdict p T ≡ carried (coveredCount p T)
-  unfolding startVerdict lackingStart
-  starts-carried h =
-      let e : lackingStart p T ≡ nC p = first-none (nC p) _ (λ c hc. ⊎_elim (λ s. and-false-r _ (not-f (h c hc s))) (λ s. and-false-l _ s) (dec (starts p.concrete c))) in
-      rw (e, le-ltb (nC p) (nC p) (omega arith))
+  pub starts_carried : HasStarts p T → start_verdict p T ≡ carried (covered_count p T)
+  unfolding start_verdict lacking_start
+  starts_carried h =
+      let e : lacking_start p T ≡ n_c p = first_none (n_c p) _ (λ c hc. ⊎_elim (λ s. and_false_r _ (not_f (h c hc s))) (λ s. and_false_l _ s) (dec (starts p.concrete c))) in
+      rw (e, le-ltb (n_c p) (n_c p) (omega arith))
 
-  pub lowest-said : (c n : ℕ) → startVerdict p T ≡ notCarried c n → IsLowest p T c
-  unfolding startVerdict
-  lowest-said c n = cond-cases (ltb (lackingStart p T) (nC p)) (λ v. v ≡ notCarried c n → IsLowest p T c) _ _
-      (λ u e. let l : lackingStart p T ≡ c = cc in rw l at (lowest (ltb-true _ _ u)))
+  pub lowest_said : (c n : ℕ) → start_verdict p T ≡ not_carried c n → IsLowest p T c
+  unfolding start_verdict
+  lowest_said c n = cond_cases (ltb (lacking_start p T) (n_c p)) (λ v. v ≡ not_carried c n → IsLowest p T c) _ _
+      (λ u e. let l : lacking_start p T ≡ c = cc in rw l at (lowest (ltb-true _ _ u)))
       (λ u e. let z : ◌≡◌ {A = ℕ} 0 1 = cc in absurd (omega arith))
 
 -- the same of the whole answer
 module _ (p : Pair) (T : List ℕ) where
-  pub said-lowest : (c n : ℕ) → linesVerdict p T ≡ answer (notCarried c n) → IsLowest p T c
-  said-lowest c n e = lowest-said p T c n (lines-said p T (notCarried c n) e).2
+  pub said_lowest : (c n : ℕ) → lines_verdict p T ≡ answer (not_carried c n) → IsLowest p T c
+  said_lowest c n e = lowest_said p T c n (lines_said p T (not_carried c n) e).2
 
-  pub said-starts : (n : ℕ) → linesVerdict p T ≡ answer (carried n) → HasStarts p T
-  said-starts n e = (carried-at p T n e).start
+  pub said_starts : (n : ℕ) → lines_verdict p T ≡ answer (carried n) → HasStarts p T
+  said_starts n e = (carried_at p T n e).start
 
-  pub starts-said : pairValidity p ≡ valid → passesEach p T ≡ true → HasStarts p T → linesVerdict p T ≡ answer (carried (coveredCount p T))
-  unfolding linesVerdict
-  starts-said v t h = then-of _ _ v ∙ then-of _ _ (lines-valid p T t) ∙ ap answer (starts-carried p T h)
+  pub starts_said : pair_validity p ≡ valid → passes_each p T ≡ true → HasStarts p T → lines_verdict p T ≡ answer (carried (covered_count p T))
+  unfolding lines_verdict
+  starts_said v t h = then_of _ _ v ∙ then_of _ _ (lines_valid p T t) ∙ ap answer (starts_carried p T h)
 
 -- a table that covers, in section 1, what another covers, has the start pairs that the other has
-pub starts-kept : (p : Pair) (T U : List ℕ) → ((c a : ℕ) → c < nC p → a < nA p → covers p T 0 c a ≡ true → covers p U 0 c a ≡ true)
+pub starts_kept : (p : Pair) (T U : List ℕ) → ((c a : ℕ) → c < n_c p → a < n_a p → covers p T 0 c a ≡ true → covers p U 0 c a ≡ true)
     → HasStarts p T → HasStarts p U
-unfolding startCovered
-starts-kept p T U k h c hc s =
-    let q = someIn-at (nA p) p.abstraction.start (covers p T 0 c) (h c hc s) in
-    someIn-of (nA p) p.abstraction.start (covers p U 0 c) q.0 q.1 q.2 (k c q.0 hc q.1 q.3)
+unfolding start_covered
+starts_kept p T U k h c hc s =
+    let q = some_in_at (n_a p) p.abstraction.start (covers p T 0 c) (h c hc s) in
+    some_in_of (n_a p) p.abstraction.start (covers p U 0 c) q.0 q.1 q.2 (k c q.0 hc q.1 q.3)

@@ -4,8 +4,8 @@
 ghost use Rattle.std.specs.Prelude.{◌∷◌, ◌≡◌, suc, ◌+◌, ◌<◌, ◌≤◌, min, length};
 ghost use Rattle.std.proofs.lemmas.List.Edits.{sets};
 ghost use Rattle.text.specs.Decimal.{decimal};
-ghost use Rattle.report.specs.Answers.{lineOf};
-ghost use Rattle.turnline.specs.Lines.{rowsCount, turnLine, finishedLine};
+ghost use Rattle.report.specs.Answers.{line_of};
+ghost use Rattle.turnline.specs.Lines.{rows_count, turn_line, finished_line};
 
 use machine::Pair;
 use report::Line;
@@ -20,7 +20,7 @@ fn held(n: usize) -> usize
 // How many bits of a section's rows are matched pairs: of section j, counted from 0.
 fn section_count(matched: [u64; 64], family: [u64; 448], j: usize) -> usize
     requires { j < 7 }
-    ensures { result ≡ rowsCount matched family j }
+    ensures { result ≡ rows_count matched family j }
 {
     let mut n = 0;
     for c in 0..64 {
@@ -42,7 +42,7 @@ fn put_count(out: &mut [u8; 128], at: usize, n: usize) -> usize
 
 // The line of turn t, which left this family: how many pairs are still in, section by section.
 pub fn turn_line(p: Pair, t: usize, family: [u64; 448]) -> Line
-    ensures value { result ≡ lineOf (turnLine p t family) }
+    ensures value { result ≡ line_of (turn_line p t family) }
     ensures room { result.length ≤ 128 }
 {
     let abstraction = p.abstraction;
@@ -63,7 +63,7 @@ pub fn turn_line(p: Pair, t: usize, family: [u64; 448]) -> Line
 
 // The last line, where turn t finished.
 pub fn finished_line(t: usize) -> Line
-    ensures value { result ≡ lineOf (finishedLine t) }
+    ensures value { result ≡ line_of (finished_line t) }
     ensures room { result.length ≤ 128 }
 {
     let mut out = [0u8; 128];

@@ -5,14 +5,14 @@
 ghost use Rattle.std.specs.Prelude.{◌≡◌, cond, ltb, eqb, length};
 ghost use Rattle.mask.specs.Logic.{not, or};
 ghost use Rattle.mask.specs.Bounded.{some};
-ghost use Rattle.machine.specs.Refusals.{testedOf};
-ghost use Rattle.machine.specs.WellFormed.{countsOk, beyond, stateBeyond, setBeyond, beyondCounts, firstEmpty, emptySet, hasEmptySet, contentValidity, contentTests, machineValidity, pairTests};
+ghost use Rattle.machine.specs.Refusals.{tested_of};
+ghost use Rattle.machine.specs.WellFormed.{counts_ok, beyond, state_beyond, set_beyond, is_beyond_counts, first_empty, lowest_empty_set, has_empty_set, content_validity, content_tests, machine_validity, pair_tests};
 
 use machine::{Machine, Pair, Validity};
 
 // Whether a machine has 1 to 64 states and 1 to `limit` sets.
 pub fn counts_ok(limit: usize, states: usize, sets: usize) -> bool
-    ensures { result ≡ countsOk limit states sets }
+    ensures { result ≡ counts_ok limit states sets }
 {
     if states < 1 {
         return false;
@@ -48,7 +48,7 @@ fn state_beyond(states: usize, observation: u8, successors: u64, s: usize) -> bo
 
 // Whether some state's entries lie beyond the count of states.
 fn states_beyond(states: usize, observations: &[u8; 64], successors: &[u64; 64]) -> bool
-    ensures { result ≡ some 64 (stateBeyond states observations.now successors.now) }
+    ensures { result ≡ some 64 (state_beyond states observations.now successors.now) }
 {
     for s in 0..64 {
         if state_beyond(states, observations[s], successors[s], s) {
@@ -70,7 +70,7 @@ fn set_beyond(states: usize, sets: usize, members: u64, k: usize) -> bool
 
 // Whether some set's entry, or a state of a set, lies beyond the counts.
 fn sets_beyond(states: usize, sets: usize, fairness: &[u64; 8]) -> bool
-    ensures { result ≡ some 8 (setBeyond states sets fairness.now) }
+    ensures { result ≡ some 8 (set_beyond states sets fairness.now) }
 {
     for k in 0..8 {
         if set_beyond(states, sets, fairness[k], k) {
@@ -82,7 +82,7 @@ fn sets_beyond(states: usize, sets: usize, fairness: &[u64; 8]) -> bool
 
 // The lowest of the first `count` masks that has no state; the number of masks where there is none.
 fn first_empty(count: usize, masks: &[u64]) -> usize
-    ensures { result ≡ firstEmpty (length masks.now) count masks.now }
+    ensures { result ≡ first_empty (length masks.now) count masks.now }
 {
     for i in 0..masks.len() {
         if i < count {
@@ -96,7 +96,7 @@ fn first_empty(count: usize, masks: &[u64]) -> usize
 
 // Whether a bit or an entry of a machine lies beyond its counts.
 fn beyond_counts(m: Machine) -> bool
-    ensures { result ≡ beyondCounts m }
+    ensures { result ≡ is_beyond_counts m }
 {
     let observations = m.observations;
     let successors = m.successors;
@@ -112,7 +112,7 @@ fn beyond_counts(m: Machine) -> bool
 
 // Refusals 9, 10 and 11 of one machine, which is number `index` of a pair.
 fn content_validity(index: usize, m: Machine) -> Validity
-    ensures { testedOf result ≡ contentValidity index m }
+    ensures { tested_of result ≡ content_validity index m }
 {
     if beyond_counts(m) {
         return Validity::Refused(machine::refuse(machine::BEYOND_COUNTS, index, 0, 0));
@@ -130,7 +130,7 @@ fn content_validity(index: usize, m: Machine) -> Validity
 
 // The lowest set without a state, counted from 0; 8 where there is none.
 fn empty_set(m: Machine) -> usize
-    ensures { result ≡ emptySet m.sets m.fairness }
+    ensures { result ≡ lowest_empty_set m.sets m.fairness }
 {
     let fairness = m.fairness;
     first_empty(m.sets, &fairness)
@@ -138,14 +138,14 @@ fn empty_set(m: Machine) -> usize
 
 // Whether a machine has a set without a state.
 pub fn has_empty_set(m: Machine) -> bool
-    ensures { result ≡ hasEmptySet m }
+    ensures { result ≡ has_empty_set m }
 {
     empty_set(m) < 8
 }
 
 // Refusals 9 to 11 of machine number `index`, and 21 behind them where its sets shall be nonempty.
 fn content_tests(nonempty: bool, index: usize, m: Machine) -> Validity
-    ensures { testedOf result ≡ contentTests nonempty index m }
+    ensures { tested_of result ≡ content_tests nonempty index m }
 {
     let content = content_validity(index, m);
     if let Validity::Refused(r) = content {
@@ -162,7 +162,7 @@ fn content_tests(nonempty: bool, index: usize, m: Machine) -> Validity
 
 // Whether one machine, which has at most `limit` sets, is well formed; it is machine 0.
 pub fn machine_validity(limit: usize, m: Machine) -> Validity
-    ensures { testedOf result ≡ machineValidity limit m }
+    ensures { tested_of result ≡ machine_validity limit m }
 {
     if !counts_ok(limit, m.states, m.sets) {
         return Validity::Refused(machine::refuse(machine::BAD_COUNTS, 0, 0, 0));
@@ -178,7 +178,7 @@ pub const NONEMPTY_SETS: bool = true;
 // Whether a pair is well formed, and every set nonempty if that is asked: the counts of both, then the whole concrete machine, then the whole
 // abstract one.
 pub fn pair_validity(p: Pair, nonempty: bool) -> Validity
-    ensures { testedOf result ≡ pairTests nonempty p }
+    ensures { tested_of result ≡ pair_tests nonempty p }
 {
     let c = p.concrete;
     let a = p.abstraction;

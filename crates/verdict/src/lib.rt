@@ -2,7 +2,7 @@
 #![tactic(auto)]
 
 ghost use Rattle.std.specs.Prelude.{◌≡◌};
-ghost use Rattle.verdict.specs.Outcomes.{outcomeOf, fileOutcome};
+ghost use Rattle.verdict.specs.Outcomes.{outcome_of, file_outcome};
 
 use codec::Reading;
 use linecheck::Checked;
@@ -19,7 +19,7 @@ pub enum FileVerdict {
 
 // What is said of the file with these bytes.
 pub fn file_verdict(bytes: &[u8]) -> FileVerdict
-    ensures { outcomeOf result ≡ fileOutcome bytes.now }
+    ensures { outcome_of result ≡ file_outcome bytes.now }
 {
     let mut table = [0u16; machine::TABLE_ROOM];
     let show = codec::reader::read_file(bytes, &mut table);

@@ -1,47 +1,47 @@
 -- The solver by turns on a file's bytes: what is said, and what is left in the lent family and table. The file's machines are read, and a table
 -- that it has is not looked at.
 use Rattle.std.specs.Prelude.{Bool, true, false, List, ℕ, length, replicate}
-use Rattle.machine.specs.Refusals.{Result, answer, refused, Tested, andThen, stateAfter, bufferValidity}
-use Rattle.machine.specs.WellFormed.{nonemptyValidity}
-use Rattle.machine.specs.Table.{tableRoom}
-use Rattle.codec.specs.Reader.{pairOf, readValidity}
-use Rattle.solver.specs.Families.{turnRows}
-use Rattle.progress.specs.Turns.{firstRows, turnAnswer, turnTable, lookUpAnswer}
+use Rattle.machine.specs.Refusals.{Result, answer, refused, Tested, and_then, state_after, buffer_validity}
+use Rattle.machine.specs.WellFormed.{nonempty_validity}
+use Rattle.machine.specs.Table.{table_room}
+use Rattle.codec.specs.Reader.{pair_of, read_validity}
+use Rattle.solver.specs.Families.{turn_rows}
+use Rattle.progress.specs.Turns.{first_rows, turn_answer, turn_table, look_up_answer}
 
 -- the first family: the reader's refusals, then 21
-unfoldable pub firstFile : List ℕ → Tested
-firstFile f = andThen (readValidity f tableRoom) (nonemptyValidity (pairOf f))
+unfoldable pub first_file : List ℕ → Tested
+first_file f = and_then (read_validity f table_room) (nonempty_validity (pair_of f))
 
 -- what the call gives: zeros beside a refusal
-unfoldable pub firstFileGiven : List ℕ → List ℕ
-firstFileGiven f = stateAfter (firstFile f) (firstRows (pairOf f)) (replicate 448 0)
+unfoldable pub first_file_given : List ℕ → List ℕ
+first_file_given f = state_after (first_file f) (first_rows (pair_of f)) (replicate 448 0)
 
 -- for C: the lent family's final content
-unfoldable pub firstFileRows : List ℕ → List ℕ → List ℕ
-firstFileRows f F = stateAfter (firstFile f) (firstRows (pairOf f)) F
+unfoldable pub first_file_rows : List ℕ → List ℕ → List ℕ
+first_file_rows f F = state_after (first_file f) (first_rows (pair_of f)) F
 
 -- a turn: 1 of the lent table before all else, then the reader's refusals, then what a turn over the machines says
-unfoldable pub turnFile : List ℕ → List ℕ → ℕ → Result Bool
-turnFile f F room = andThen (bufferValidity tableRoom room) (andThen (readValidity f tableRoom) (turnAnswer (pairOf f) F room))
+unfoldable pub turn_file : List ℕ → List ℕ → ℕ → Result Bool
+turn_file f F room = and_then (buffer_validity table_room room) (and_then (read_validity f table_room) (turn_answer (pair_of f) F room))
 
 -- the family's final content, and the lent table's: beside a refusal as they were
-unfoldable pub turnFileRows : List ℕ → List ℕ → ℕ → List ℕ
-turnFileRows f F room = stateAfter (turnFile f F room) (turnRows (pairOf f) F) F
+unfoldable pub turn_file_rows : List ℕ → List ℕ → ℕ → List ℕ
+turn_file_rows f F room = state_after (turn_file f F room) (turn_rows (pair_of f) F) F
 
-unfoldable pub turnFileTable : List ℕ → List ℕ → List ℕ → List ℕ
-turnFileTable f F T = stateAfter (turnFile f F (length T)) (turnTable (pairOf f) F T) T
+unfoldable pub turn_file_table : List ℕ → List ℕ → List ℕ → List ℕ
+turn_file_table f F T = state_after (turn_file f F (length T)) (turn_table (pair_of f) F T) T
 
 -- a look-up: the reader's refusals, then 21, then 20
-unfoldable pub lookUpFile : List ℕ → List ℕ → ℕ → ℕ → ℕ → Result Bool
-lookUpFile f F j c a = andThen (readValidity f tableRoom) (lookUpAnswer (pairOf f) F j c a)
+unfoldable pub look_up_file : List ℕ → List ℕ → ℕ → ℕ → ℕ → Result Bool
+look_up_file f F j c a = and_then (read_validity f table_room) (look_up_answer (pair_of f) F j c a)
 
 -- for C: 1, or 0 beside a refusal
-unfoldable pub readyNumber : Tested → ℕ
-readyNumber (answer t) = 1
-readyNumber (refused r) = 0
+unfoldable pub ready_number : Tested → ℕ
+ready_number (answer t) = 1
+ready_number (refused r) = 0
 
 -- for C: 2 for finished and for still in, 1 for not finished and for struck out, 0 beside a refusal
-unfoldable pub toldNumber : Result Bool → ℕ
-toldNumber (answer true) = 2
-toldNumber (answer false) = 1
-toldNumber (refused r) = 0
+unfoldable pub told_number : Result Bool → ℕ
+told_number (answer true) = 2
+told_number (answer false) = 1
+told_number (refused r) = 0

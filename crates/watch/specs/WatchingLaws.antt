@@ -4,129 +4,129 @@ use Rattle.std.proofs.Math.Path.{refl, sym, ap}
 use Rattle.std.proofs.Common.{◌∙◌}
 use Rattle.machine.specs.declared.Pair.{Pair}
 use Rattle.machine.specs.declared.Refusal.{Refusal}
-use Rattle.machine.specs.Refusals.{Result, answer, refused, valid, Tested, refusal, passOn, andThen, stateAfter, bufferValidity, short-buffer}
-use Rattle.machine.specs.RefusalsLaws.{then-of, then-refused, then-then, given-refused, buffer-valid, buffer-short, state-made, state-kept}
-use Rattle.machine.specs.WellFormed.{nonemptyValidity}
-use Rattle.machine.specs.Table.{tableRoom}
-use Rattle.codec.specs.Reader.{pairOf, readValidity}
-use Rattle.solver.specs.Families.{turnRows}
-use Rattle.solver.specs.Solver.{solveValidity}
+use Rattle.machine.specs.Refusals.{Result, answer, refused, valid, Tested, refusal, pass_on, and_then, state_after, buffer_validity, short_buffer}
+use Rattle.machine.specs.RefusalsLaws.{then_of, then_refused, then_then, given_refused, buffer_valid, buffer_short, state_made, state_kept}
+use Rattle.machine.specs.WellFormed.{nonempty_validity}
+use Rattle.machine.specs.Table.{table_room}
+use Rattle.codec.specs.Reader.{pair_of, read_validity}
+use Rattle.solver.specs.Families.{turn_rows}
+use Rattle.solver.specs.Solver.{solve_validity}
 use Rattle.progress.specs.declared.Turned.{Turned}
 use Rattle.progress.specs.declared.Turned.TheVariants as turned
 use Rattle.progress.specs.declared.LookedUp.{LookedUp}
 use Rattle.progress.specs.declared.LookedUp.TheVariants as looked
-use Rattle.progress.specs.Answers.{turnedOf, lookedUpOf}
-use Rattle.progress.specs.Turns.{firstRows, firstGiven, finishes, turnAnswer, turnFamily, turnTable, lookUpAnswer}
-use Rattle.progress.specs.TurnsLaws.{turn-refused}
-use Rattle.watch.specs.Watching.{firstFile, firstFileGiven, firstFileRows, turnFile, turnFileRows, turnFileTable, lookUpFile}
+use Rattle.progress.specs.Answers.{turned_of, looked_up_of}
+use Rattle.progress.specs.Turns.{first_rows, first_given, finishes, turn_answer, turn_family, turn_table, look_up_answer}
+use Rattle.progress.specs.TurnsLaws.{turn_refused}
+use Rattle.watch.specs.Watching.{first_file, first_file_given, first_file_rows, turn_file, turn_file_rows, turn_file_table, look_up_file}
 
 -- ---- the first family
 module _ (f : List ℕ) where
-  pub first-unread : {r : Refusal} → readValidity f tableRoom ≡ refused r → (firstFile f ≡ refused r) × (firstFileGiven f ≡ replicate 448 0)
-  unfolding firstFile firstFileGiven
-  first-unread e = let a = then-refused _ (nonemptyValidity (pairOf f)) _ e in (a, state-kept _ _ _ a)
+  pub first_unread : {r : Refusal} → read_validity f table_room ≡ refused r → (first_file f ≡ refused r) × (first_file_given f ≡ replicate 448 0)
+  unfolding first_file first_file_given
+  first_unread e = let a = then_refused _ (nonempty_validity (pair_of f)) _ e in (a, state_kept _ _ _ a)
 
-  pub first-read : {p : Pair} → readValidity f tableRoom ≡ valid → p ≡ pairOf f → (nonemptyValidity p ≡ firstFile f) × (firstGiven p ≡ firstFileGiven f)
-  unfolding firstFile firstFileGiven firstGiven
-  first-read e m =
-      let a = then-of _ (nonemptyValidity (pairOf f)) e in
-      (ap nonemptyValidity m ∙ sym a, ap firstGiven m ∙ ap (λ (v : Tested). stateAfter v (firstRows (pairOf f)) (replicate 448 0)) (sym a))
+  pub first_read : {p : Pair} → read_validity f table_room ≡ valid → p ≡ pair_of f → (nonempty_validity p ≡ first_file f) × (first_given p ≡ first_file_given f)
+  unfolding first_file first_file_given first_given
+  first_read e m =
+      let a = then_of _ (nonempty_validity (pair_of f)) e in
+      (ap nonempty_validity m ∙ sym a, ap first_given m ∙ ap (λ (v : Tested). state_after v (first_rows (pair_of f)) (replicate 448 0)) (sym a))
 
   -- for C
-  pub first-rows : {G : List ℕ} (F : List ℕ) → G ≡ firstFileGiven f → firstFile f ≡ valid → G ≡ firstFileRows f F
-  unfolding firstFileRows firstFileGiven
-  first-rows F given e = given ∙ state-made _ _ _ e ∙ sym (state-made _ _ F e)
+  pub first_rows_lem : {G : List ℕ} (F : List ℕ) → G ≡ first_file_given f → first_file f ≡ valid → G ≡ first_file_rows f F
+  unfolding first_file_rows first_file_given
+  first_rows_lem F given e = given ∙ state_made _ _ _ e ∙ sym (state_made _ _ F e)
 
-  pub first-kept : (F : List ℕ) {r : Refusal} → firstFile f ≡ refused r → F ≡ firstFileRows f F
-  unfolding firstFileRows
-  first-kept F e = sym (state-kept _ _ F e)
+  pub first_kept : (F : List ℕ) {r : Refusal} → first_file f ≡ refused r → F ≡ first_file_rows f F
+  unfolding first_file_rows
+  first_kept F e = sym (state_kept _ _ F e)
 
 -- ---- a turn
-then-twice : {A : Type 0} (v : Tested) (w : Result A) → andThen v (andThen v w) ≡ andThen v w
-unfolding andThen passOn
-then-twice (answer t) w = refl
-then-twice (refused r) w = refl
+then_twice : {A : Type 0} (v : Tested) (w : Result A) → and_then v (and_then v w) ≡ and_then v w
+unfolding and_then pass_on
+then_twice (answer t) w = refl
+then_twice (refused r) w = refl
 
 -- over a file that is read it says and leaves what a turn over the machines does
-module _ (f F : List ℕ) (read : readValidity f tableRoom ≡ valid) where
-  pub turn-said : (room : ℕ) → turnFile f F room ≡ turnAnswer (pairOf f) F room
-  unfolding turnFile turnAnswer solveValidity
-  turn-said room =
-      let v = bufferValidity tableRoom room in
-      let same = then-then v (nonemptyValidity (pairOf f)) (answer (finishes (pairOf f) F)) in
-      ap (andThen v) (then-of _ _ read ∙ same) ∙ then-twice v _ ∙ sym same
+module _ (f F : List ℕ) (read : read_validity f table_room ≡ valid) where
+  pub turn_said_lem : (room : ℕ) → turn_file f F room ≡ turn_answer (pair_of f) F room
+  unfolding turn_file turn_answer solve_validity
+  turn_said_lem room =
+      let v = buffer_validity table_room room in
+      let same = then_then v (nonempty_validity (pair_of f)) (answer (finishes (pair_of f) F)) in
+      ap (and_then v) (then_of _ _ read ∙ same) ∙ then_twice v _ ∙ sym same
 
-  pub turn-rows : (room : ℕ) → turnFileRows f F room ≡ turnFamily (pairOf f) F room
-  unfolding turnFileRows turnFamily
-  turn-rows room = ap (λ (v : Result Bool). stateAfter v (turnRows (pairOf f) F) F) (turn-said room)
+  pub turn_rows_lem : (room : ℕ) → turn_file_rows f F room ≡ turn_family (pair_of f) F room
+  unfolding turn_file_rows turn_family
+  turn_rows_lem room = ap (λ (v : Result Bool). state_after v (turn_rows (pair_of f) F) F) (turn_said_lem room)
 
   -- a refusal of the turn leaves the table as it is too
-  kept-too : (T : List ℕ) (said : Result Bool) → turnAnswer (pairOf f) F (length T) ≡ said → stateAfter said (turnTable (pairOf f) F T) T ≡ turnTable (pairOf f) F T
-  unfolding stateAfter turnAnswer
-  kept-too T (answer b) e = refl
-  kept-too T (refused r) e = sym (turn-refused (pairOf f) F T (given-refused _ _ e)).2
+  kept_too : (T : List ℕ) (said : Result Bool) → turn_answer (pair_of f) F (length T) ≡ said → state_after said (turn_table (pair_of f) F T) T ≡ turn_table (pair_of f) F T
+  unfolding state_after turn_answer
+  kept_too T (answer b) e = refl
+  kept_too T (refused r) e = sym (turn_refused (pair_of f) F T (given_refused _ _ e)).2
 
-  pub turn-table : (T : List ℕ) → turnFileTable f F T ≡ turnTable (pairOf f) F T
-  unfolding turnFileTable
-  turn-table T = ap (λ (v : Result Bool). stateAfter v (turnTable (pairOf f) F T) T) (turn-said (length T)) ∙ kept-too T _ refl
+  pub turn_table_lem : (T : List ℕ) → turn_file_table f F T ≡ turn_table (pair_of f) F T
+  unfolding turn_file_table
+  turn_table_lem T = ap (λ (v : Result Bool). state_after v (turn_table (pair_of f) F T) T) (turn_said_lem (length T)) ∙ kept_too T _ refl
 
 module _ (f F T : List ℕ) where
   abbrev Left : Result Bool → List ℕ → List ℕ → Type 0
-  Left said rows table = (turnFile f F (length T) ≡ said) × (turnFileRows f F (length T) ≡ rows) × (turnFileTable f F T ≡ table)
+  Left said rows table = (turn_file f F (length T) ≡ said) × (turn_file_rows f F (length T) ≡ rows) × (turn_file_table f F T ≡ table)
 
-  pub turn-kept : {r : Refusal} → turnFile f F (length T) ≡ refused r → Left (refused r) F T
-  unfolding turnFileRows turnFileTable
-  turn-kept e = (e, state-kept _ _ F e, state-kept _ _ T e)
+  pub turn_kept : {r : Refusal} → turn_file f F (length T) ≡ refused r → Left (refused r) F T
+  unfolding turn_file_rows turn_file_table
+  turn_kept e = (e, state_kept _ _ F e, state_kept _ _ T e)
 
-  pub turn-short : length T < tableRoom → Left (refused (refusal short-buffer 0 0 0)) F T
-  unfolding turnFile
-  turn-short h = turn-kept (then-refused _ _ _ (buffer-short tableRoom (length T) h))
+  pub turn_short : length T < table_room → Left (refused (refusal short_buffer 0 0 0)) F T
+  unfolding turn_file
+  turn_short h = turn_kept (then_refused _ _ _ (buffer_short table_room (length T) h))
 
-  pub turn-unread : tableRoom ≤ length T → {r : Refusal} → readValidity f tableRoom ≡ refused r → Left (refused r) F T
-  unfolding turnFile
-  turn-unread h e = turn-kept (then-of _ _ (buffer-valid tableRoom (length T) h) ∙ then-refused _ _ _ e)
+  pub turn_unread : table_room ≤ length T → {r : Refusal} → read_validity f table_room ≡ refused r → Left (refused r) F T
+  unfolding turn_file
+  turn_unread h e = turn_kept (then_of _ _ (buffer_valid table_room (length T) h) ∙ then_refused _ _ _ e)
 
-  pub turn-read : {p : Pair} → readValidity f tableRoom ≡ valid → p ≡ pairOf f
-      → Left (turnAnswer p F (length T)) (turnFamily p F (length T)) (turnTable p F T)
-  turn-read e m = (
-    turn-said f F e (length T) ∙ ap (λ (q : Pair). turnAnswer q F (length T)) (sym m),
-    turn-rows f F e (length T) ∙ ap (λ (q : Pair). turnFamily q F (length T)) (sym m),
-    turn-table f F e T ∙ ap (λ (q : Pair). turnTable q F T) (sym m),
+  pub turn_read : {p : Pair} → read_validity f table_room ≡ valid → p ≡ pair_of f
+      → Left (turn_answer p F (length T)) (turn_family p F (length T)) (turn_table p F T)
+  turn_read e m = (
+    turn_said_lem f F e (length T) ∙ ap (λ (q : Pair). turn_answer q F (length T)) (sym m),
+    turn_rows_lem f F e (length T) ∙ ap (λ (q : Pair). turn_family q F (length T)) (sym m),
+    turn_table_lem f F e T ∙ ap (λ (q : Pair). turn_table q F T) (sym m),
   )
 
 -- ---- a look-up
 module _ (f F : List ℕ) (j c a : ℕ) where
-  pub look-unread : {r : Refusal} → readValidity f tableRoom ≡ refused r → lookUpFile f F j c a ≡ refused r
-  unfolding lookUpFile
-  look-unread e = then-refused _ _ _ e
+  pub look_unread : {r : Refusal} → read_validity f table_room ≡ refused r → look_up_file f F j c a ≡ refused r
+  unfolding look_up_file
+  look_unread e = then_refused _ _ _ e
 
-  pub look-read : {p : Pair} → readValidity f tableRoom ≡ valid → p ≡ pairOf f → lookUpAnswer p F j c a ≡ lookUpFile f F j c a
-  unfolding lookUpFile
-  look-read e m = ap (λ (q : Pair). lookUpAnswer q F j c a) m ∙ sym (then-of _ _ e)
+  pub look_read : {p : Pair} → read_validity f table_room ≡ valid → p ≡ pair_of f → look_up_answer p F j c a ≡ look_up_file f F j c a
+  unfolding look_up_file
+  look_read e m = ap (λ (q : Pair). look_up_answer q F j c a) m ∙ sym (then_of _ _ e)
 
 -- ---- what the code's cases say
-module _ {s : Turned} {x : Result Bool} (said : turnedOf s ≡ x) where
-  pub turn-finished : s ≡ turned.Finished → x ≡ answer true
-  unfolding turnedOf
-  turn-finished e = sym said ∙ ap turnedOf e
+module _ {s : Turned} {x : Result Bool} (said : turned_of s ≡ x) where
+  pub turn_finished : s ≡ turned.Finished → x ≡ answer true
+  unfolding turned_of
+  turn_finished e = sym said ∙ ap turned_of e
 
-  pub turn-unfinished : s ≡ turned.Unfinished → x ≡ answer false
-  unfolding turnedOf
-  turn-unfinished e = sym said ∙ ap turnedOf e
+  pub turn_unfinished : s ≡ turned.Unfinished → x ≡ answer false
+  unfolding turned_of
+  turn_unfinished e = sym said ∙ ap turned_of e
 
-  pub turn-stopped : {r : Refusal} → s ≡ turned.Refused r → x ≡ refused r
-  unfolding turnedOf
-  turn-stopped e = sym said ∙ ap turnedOf e
+  pub turn_stopped : {r : Refusal} → s ≡ turned.Refused r → x ≡ refused r
+  unfolding turned_of
+  turn_stopped e = sym said ∙ ap turned_of e
 
-module _ {s : LookedUp} {x : Result Bool} (said : lookedUpOf s ≡ x) where
-  pub look-in : s ≡ looked.StillIn → x ≡ answer true
-  unfolding lookedUpOf
-  look-in e = sym said ∙ ap lookedUpOf e
+module _ {s : LookedUp} {x : Result Bool} (said : looked_up_of s ≡ x) where
+  pub look_in : s ≡ looked.StillIn → x ≡ answer true
+  unfolding looked_up_of
+  look_in e = sym said ∙ ap looked_up_of e
 
-  pub look-out : s ≡ looked.StruckOut → x ≡ answer false
-  unfolding lookedUpOf
-  look-out e = sym said ∙ ap lookedUpOf e
+  pub look_out : s ≡ looked.StruckOut → x ≡ answer false
+  unfolding looked_up_of
+  look_out e = sym said ∙ ap looked_up_of e
 
-  pub look-stopped : {r : Refusal} → s ≡ looked.Refused r → x ≡ refused r
-  unfolding lookedUpOf
-  look-stopped e = sym said ∙ ap lookedUpOf e
+  pub look_stopped : {r : Refusal} → s ≡ looked.Refused r → x ≡ refused r
+  unfolding looked_up_of
+  look_stopped e = sym said ∙ ap looked_up_of e

@@ -2,11 +2,11 @@
 #![tactic(auto)]
 
 ghost use Rattle.std.specs.Prelude.{◌≡◌, length};
-ghost use Rattle.machine.specs.Refusals.{valid, testedOf, spotAfter};
-ghost use Rattle.machine.specs.Table.{tableRoom};
-ghost use Rattle.codec.specs.Reader.{pairOf, readValidity};
-ghost use Rattle.progress.specs.Answers.{turnedOf, lookedUpOf};
-ghost use Rattle.watch.specs.Watching.{firstFile, firstFileGiven, firstFileRows, turnFile, turnFileRows, turnFileTable, lookUpFile, readyNumber, toldNumber};
+ghost use Rattle.machine.specs.Refusals.{valid, tested_of, spot_after};
+ghost use Rattle.machine.specs.Table.{table_room};
+ghost use Rattle.codec.specs.Reader.{pair_of, read_validity};
+ghost use Rattle.progress.specs.Answers.{turned_of, looked_up_of};
+ghost use Rattle.watch.specs.Watching.{first_file, first_file_given, first_file_rows, turn_file, turn_file_rows, turn_file_table, look_up_file, ready_number, told_number};
 
 use codec::Reading;
 use machine::{Pair, Validity};
@@ -21,8 +21,8 @@ struct Machines {
 
 // Reads the machines of a file; a table that came with them is not kept.
 fn machines_of(bytes: &[u8]) -> Machines
-    ensures validity { testedOf result.validity ≡ readValidity bytes.now tableRoom }
-    ensures machines { readValidity bytes.now tableRoom ≡ valid → result.pair ≡ pairOf bytes.now }
+    ensures validity { tested_of result.validity ≡ read_validity bytes.now table_room }
+    ensures machines { read_validity bytes.now table_room ≡ valid → result.pair ≡ pair_of bytes.now }
 {
     let mut table = [0u16; machine::TABLE_ROOM];
     let show = codec::reader::read_file(bytes, &mut table);
@@ -44,8 +44,8 @@ fn machines_of(bytes: &[u8]) -> Machines
 
 // The first family of a file's machines, or where the call was stopped: zeros beside a refusal.
 pub fn first_family_bytes(bytes: &[u8]) -> FirstFamily
-    ensures validity { testedOf result.validity ≡ firstFile bytes.now }
-    ensures family { result.family ≡ firstFileGiven bytes.now }
+    ensures validity { tested_of result.validity ≡ first_file bytes.now }
+    ensures family { result.family ≡ first_file_given bytes.now }
 {
     let machines = machines_of(bytes);
     let read = machines.validity;
@@ -61,9 +61,9 @@ pub fn first_family_bytes(bytes: &[u8]) -> FirstFamily
 
 // A turn over a file's machines; the table that the file may have is not looked at.
 pub fn turn_bytes(bytes: &[u8], family: [u64; 448], table: &mut [u16]) -> TurnMade
-    ensures answer { turnedOf result.said ≡ turnFile bytes.now family (length table.old) }
-    ensures family { result.family ≡ turnFileRows bytes.now family (length table.old) }
-    ensures content { table.new ≡ turnFileTable bytes.now family table.old }
+    ensures answer { turned_of result.said ≡ turn_file bytes.now family (length table.old) }
+    ensures family { result.family ≡ turn_file_rows bytes.now family (length table.old) }
+    ensures content { table.new ≡ turn_file_table bytes.now family table.old }
 {
     if table.len() < machine::TABLE_ROOM {
         return TurnMade {
@@ -91,7 +91,7 @@ pub fn look_up_bytes(
     c: usize,
     a: usize,
 ) -> LookedUp
-    ensures { lookedUpOf result ≡ lookUpFile bytes.now family section c a }
+    ensures { looked_up_of result ≡ look_up_file bytes.now family section c a }
 {
     let machines = machines_of(bytes);
     let read = machines.validity;
@@ -106,9 +106,9 @@ pub fn look_up_bytes(
 
 // 1, and the first family; 0 for a refusal, which leaves `family` as it is.
 pub fn first_family_file(bytes: &[u8], family: &mut [u64; 448], spot: &mut [u64; 4]) -> u32
-    ensures number { result ≡ readyNumber (firstFile bytes.now) }
-    ensures rows { family.new ≡ firstFileRows bytes.now family.old }
-    ensures numbers { spot.new ≡ spotAfter (firstFile bytes.now) spot.old }
+    ensures number { result ≡ ready_number (first_file bytes.now) }
+    ensures rows { family.new ≡ first_file_rows bytes.now family.old }
+    ensures numbers { spot.new ≡ spot_after (first_file bytes.now) spot.old }
 {
     let first = first_family_bytes(bytes);
     let valid = first.validity;
@@ -133,10 +133,10 @@ pub fn turn_file(
     table: &mut [u16],
     spot: &mut [u64; 4],
 ) -> u32
-    ensures number { result ≡ toldNumber (turnFile bytes.now family.old (length table.old)) }
-    ensures rows { family.new ≡ turnFileRows bytes.now family.old (length table.old) }
-    ensures entries { table.new ≡ turnFileTable bytes.now family.old table.old }
-    ensures numbers { spot.new ≡ spotAfter (turnFile bytes.now family.old (length table.old)) spot.old }
+    ensures number { result ≡ told_number (turn_file bytes.now family.old (length table.old)) }
+    ensures rows { family.new ≡ turn_file_rows bytes.now family.old (length table.old) }
+    ensures entries { table.new ≡ turn_file_table bytes.now family.old table.old }
+    ensures numbers { spot.new ≡ spot_after (turn_file bytes.now family.old (length table.old)) spot.old }
 {
     let made = turn_bytes(bytes, *family, table);
     let rows = made.family;
@@ -161,8 +161,8 @@ pub fn look_up_file(
     a: usize,
     spot: &mut [u64; 4],
 ) -> u32
-    ensures number { result ≡ toldNumber (lookUpFile bytes.now family.now section c a) }
-    ensures numbers { spot.new ≡ spotAfter (lookUpFile bytes.now family.now section c a) spot.old }
+    ensures number { result ≡ told_number (look_up_file bytes.now family.now section c a) }
+    ensures numbers { spot.new ≡ spot_after (look_up_file bytes.now family.now section c a) spot.old }
 {
     match look_up_bytes(bytes, *family, section, c, a) {
         LookedUp::StillIn => 2,

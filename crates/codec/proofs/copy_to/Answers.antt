@@ -4,7 +4,7 @@ use mathlib.Core.Path.{◌≡◌, refl, ap, ◌∙◌}
 use native.Mathlib.Omega.{arith}
 use lib.ListN.{drop, length-set}
 use lib.Seq.{paste, paste-zero}
-use Rattle.codec.specs.ListLaws.{copy-turn}
+use Rattle.codec.specs.ListLaws.{copy_turn}
 use Rattle.codec.proofs.copy_to.Goals as goal
 
 pub loop-i-init : goal.loop-i-init
@@ -16,7 +16,7 @@ loop-i-preserved c =
     let a = c.args in (
       omega arith,
       length-set l.dst (a.to + l.i) _ ∙ l.invariant.1,
-      copy-turn a.dst.now a.src.now l.dst a.from a.to l.i (omega arith) (omega arith) l.invariant.2,
+      copy_turn a.dst.now a.src.now l.dst a.from a.to l.i (omega arith) (omega arith) l.invariant.2,
     )
 
 pub shape_of-dst : goal.shape_of-dst

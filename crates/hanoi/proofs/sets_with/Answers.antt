@@ -2,13 +2,13 @@
 use mathlib.Core.Path.{sym, ap, ◌∙◌}
 use Prim.Native.Nat.{ℕ}
 use native.Mathlib.Omega.{arith}
-use Rattle.mask.specs.Bits.{withBit}
-use Rattle.hanoi.specs.PartsLaws.{sets-none, sets-hit, sets-miss}
+use Rattle.mask.specs.Bits.{with_bit}
+use Rattle.hanoi.specs.PartsLaws.{sets_none, sets_hit, sets_miss}
 use Rattle.hanoi.proofs.sets_with.Goals as goal
 use Rattle.hanoi.proofs.sets_with.Goals.{else-has, then-has}
 
 pub loop-j-init : goal.loop-j-init
-loop-j-init c = (omega arith, sym (sets-none _ _))
+loop-j-init c = (omega arith, sym (sets_none _ _))
 
 pub loop-j-preserved : goal.loop-j-preserved
 loop-j-preserved c =
@@ -17,7 +17,7 @@ loop-j-preserved c =
     let has = sym c.has.ensures in (
       omega (arith, c.loop-j-test.true),
       elim c.if-has.branch [
-        | then-has w ↦ w.m-is ∙ w.with-m.ensures ∙ ap (λ (m : ℕ). withBit m l.j) l.invariant.1 ∙ sets-hit x.fairness.now x.s l.j (omega (arith, c.requires)) (has ∙ w.if-has.true)
-        | else-has w ↦ w.m-is ∙ l.invariant.1 ∙ sets-miss x.fairness.now x.s l.j (has ∙ w.if-has.false)
+        | then-has w ↦ w.m-is ∙ w.with-m.ensures ∙ ap (λ (m : ℕ). with_bit m l.j) l.invariant.1 ∙ sets_hit x.fairness.now x.s l.j (omega (arith, c.requires)) (has ∙ w.if-has.true)
+        | else-has w ↦ w.m-is ∙ l.invariant.1 ∙ sets_miss x.fairness.now x.s l.j (has ∙ w.if-has.false)
       ],
     )

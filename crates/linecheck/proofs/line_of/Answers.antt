@@ -3,33 +3,33 @@ use mathlib.Core.Bool.{true, false}
 use mathlib.Core.Path.{◌≡◌, sym, ◌∙◌}
 use Prim.Native.Nat.{ℕ, ◌-◌, ◌*◌, ◌<◌}
 use native.Mathlib.Omega.{arith}
-use Rattle.mask.specs.Bits.{hasBit}
-use Rattle.machine.specs.LevelLaws.{set-lt, level-low, level-below}
-use Rattle.machine.specs.Ranks.{levelOf}
-use Rattle.linecheck.specs.BoundsLaws.{line-unmatched, line-above, line-goal, line-inside, line-outside}
+use Rattle.mask.specs.Bits.{has_bit}
+use Rattle.machine.specs.LevelLaws.{set_lt, level_low, level_below}
+use Rattle.machine.specs.Ranks.{level_of}
+use Rattle.linecheck.specs.BoundsLaws.{line_unmatched, line_above, line_goal, line_inside, line_outside}
 use Rattle.linecheck.proofs.line_of.Goals as goal
 
 -- the bound within set k is below the entry
-below : (m e level : ℕ) → (e ≡ 0 → ⊥) → level ≡ levelOf m e → (0 < level) × ((level - 1) * m < e)
-below m e level h l = (omega (arith, l, level-low m e), rw l (level-below m e h))
+below : (m e level : ℕ) → (e ≡ 0 → ⊥) → level ≡ level_of m e → (0 < level) × ((level - 1) * m < e)
+below m e level h l = (omega (arith, l, level_low m e), rw l (level_below m e h))
 
 pub returns-then-not-has : goal.returns-then-not-has
 returns-then-not-has c =
     let x = c.args in
-    let t : hasBit x.matched x.a ≡ false = sym c.has.ensures ∙ c.if-not-has.true in
-    rw line-unmatched
+    let t : has_bit x.matched x.a ≡ false = sym c.has.ensures ∙ c.if-not-has.true in
+    rw line_unmatched
 
 pub returns-then-most-e : goal.returns-then-most-e
 returns-then-most-e c =
     let x = c.args in
-    let t : hasBit x.matched x.a ≡ true = sym c.has.ensures ∙ c.if-not-has.false in
+    let t : has_bit x.matched x.a ≡ true = sym c.has.ensures ∙ c.if-not-has.false in
     let h : x.most < x.e = omega arith in
-    rw line-above
+    rw line_above
 
 pub returns-then-e-eq0 : goal.returns-then-e-eq0
 returns-then-e-eq0 c =
     let x = c.args in
-    line-goal x.m x.most x.j x.next x.c x.a x.e x.matched x.concrete_sets.now x.abstract_set (sym c.has.ensures ∙ c.if-not-has.false) (omega arith) (omega arith)
+    line_goal x.m x.most x.j x.next x.c x.a x.e x.matched x.concrete_sets.now x.abstract_set (sym c.has.ensures ∙ c.if-not-has.false) (omega arith) (omega arith)
     c.has-then-e-eq0.result c.has-then-e-eq0.ensures
 
 pub overflow_sub-below : goal.overflow_sub-below
@@ -42,19 +42,19 @@ pub overflow_cast-lower : goal.overflow_cast-lower
 overflow_cast-lower c = omega (arith, below c.args.m c.args.e _ c.if-e-eq0.false c.level_of-rank.ensures.0)
 
 pub offset_bounds-concrete_sets-k : goal.offset_bounds-concrete_sets-k
-offset_bounds-concrete_sets-k c = omega (arith, c.level_of-rank.ensures.1, set-lt c.args.m c.args.e (omega arith))
+offset_bounds-concrete_sets-k c = omega (arith, c.level_of-rank.ensures.1, set_lt c.args.m c.args.e (omega arith))
 
 pub bounds-concrete_sets-k : goal.bounds-concrete_sets-k
-bounds-concrete_sets-k c = omega (arith, c.level_of-rank.ensures.1, set-lt c.args.m c.args.e (omega arith))
+bounds-concrete_sets-k c = omega (arith, c.level_of-rank.ensures.1, set_lt c.args.m c.args.e (omega arith))
 
 pub returns-then-inside : goal.returns-then-inside
 returns-then-inside c =
     let x = c.args in
-    line-inside x.m x.most x.j x.next x.c x.a x.e x.matched x.concrete_sets.now x.abstract_set (sym c.has.ensures ∙ c.if-not-has.false) (omega arith) c.if-e-eq0.false
+    line_inside x.m x.most x.j x.next x.c x.a x.e x.matched x.concrete_sets.now x.abstract_set (sym c.has.ensures ∙ c.if-not-has.false) (omega arith) c.if-e-eq0.false
     c.level_of-rank.result.level c.level_of-rank.result.set c.level_of-rank.ensures.0 c.level_of-rank.ensures.1 (sym c.has-inside.ensures ∙ c.if-inside.true)
 
 pub returns-else-inside : goal.returns-else-inside
 returns-else-inside c =
     let x = c.args in
-    line-outside x.m x.most x.j x.next x.c x.a x.e x.matched x.concrete_sets.now x.abstract_set (sym c.has.ensures ∙ c.if-not-has.false) (omega arith) c.if-e-eq0.false
+    line_outside x.m x.most x.j x.next x.c x.a x.e x.matched x.concrete_sets.now x.abstract_set (sym c.has.ensures ∙ c.if-not-has.false) (omega arith) c.if-e-eq0.false
     c.level_of-rank.result.level c.level_of-rank.result.set c.level_of-rank.ensures.0 c.level_of-rank.ensures.1 (sym c.has-inside.ensures ∙ c.if-inside.false)

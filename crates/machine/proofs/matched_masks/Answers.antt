@@ -5,8 +5,8 @@ use native.Mathlib.Omega.{arith}
 use lib.ListN.{length-set, length-replicate}
 use borrow.Author.Count.{below_none}
 use borrow.Author.Rules.{rules}
-use Rattle.mask.specs.TablesLaws.{fill-step}
-use Rattle.machine.specs.ObservedLaws.{matchedRow, row-in, row-out, matched-is}
+use Rattle.mask.specs.TablesLaws.{fill_step}
+use Rattle.machine.specs.ObservedLaws.{matched_row, row_in, row_out, matched_is}
 use Rattle.machine.proofs.matched_masks.Goals as goal
 use Rattle.machine.proofs.matched_masks.Goals.{else-s-nc, then-s-nc}
 
@@ -23,12 +23,12 @@ loop-s-preserved c =
     let na = x.abstraction.states in (
       search rules,
       length-set l.out l.s c.if-s-nc.row ∙ l.invariant.1,
-      fill-step 0 l.out (matchedRow x.hidden C A nc na) l.s c.if-s-nc.row (omega arith)
-          (elim c.if-s-nc.branch [ then-s-nc w ↦ w.row-is ∙ w.same_mask-row.ensures ∙ sym (row-in x.hidden C A nc na l.s w.if-s-nc.true) | else-s-nc w ↦ w.row-is ∙ sym (row-out x.hidden C A nc na l.s w.if-s-nc.false) ])
+      fill_step 0 l.out (matched_row x.hidden C A nc na) l.s c.if-s-nc.row (omega arith)
+          (elim c.if-s-nc.branch [ then-s-nc w ↦ w.row-is ∙ w.same_mask-row.ensures ∙ sym (row_in x.hidden C A nc na l.s w.if-s-nc.true) | else-s-nc w ↦ w.row-is ∙ sym (row_out x.hidden C A nc na l.s w.if-s-nc.false) ])
           l.invariant.2,
     )
 
 pub returns : goal.returns
 returns c =
     let l = c.loop-s in
-    matched-is c.args.p l.out l.invariant.1 (λ k h. l.invariant.2 k (omega arith))
+    matched_is c.args.p l.out l.invariant.1 (λ k h. l.invariant.2 k (omega arith))

@@ -1,8 +1,8 @@
 -- Four writes from place 0 on are one run of four numbers.
 use mathlib.Core.Path.{refl}
-use Rattle.machine.specs.Refusals.{fourNumbers}
+use Rattle.machine.specs.Refusals.{four_numbers}
 use Rattle.machine.proofs.put_refusal.Goals as goal
 
 pub returns : goal.returns
-unfolding fourNumbers
+unfolding four_numbers
 returns c = refl

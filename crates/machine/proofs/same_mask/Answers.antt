@@ -3,14 +3,14 @@ use mathlib.Core.Path.{sym, ap, ◌∙◌}
 use Prim.Native.Nat.{ℕ}
 use native.Mathlib.Omega.{arith}
 use borrow.Author.Rules.{rules}
-use Rattle.mask.specs.Bits.{withBit}
-use Rattle.machine.specs.Observed.{sameMask}
-use Rattle.machine.specs.ObservedLaws.{same-none, same-hit, same-miss, same-min}
+use Rattle.mask.specs.Bits.{with_bit}
+use Rattle.machine.specs.Observed.{same_mask}
+use Rattle.machine.specs.ObservedLaws.{same_none, same_hit, same_miss, same_min}
 use Rattle.machine.proofs.same_mask.Goals as goal
 use Rattle.machine.proofs.same_mask.Goals.{else-n-lt64, else-same_observation, then-n-lt64, then-same_observation}
 
 pub loop-a-init : goal.loop-a-init
-loop-a-init c = (search rules, elim c.if-n-lt64.branch [ then-n-lt64 w ↦ omega arith | else-n-lt64 w ↦ omega arith ], sym (same-none c.args.hidden c.args.o c.args.observations.now))
+loop-a-init c = (search rules, elim c.if-n-lt64.branch [ then-n-lt64 w ↦ omega arith | else-n-lt64 w ↦ omega arith ], sym (same_none c.args.hidden c.args.o c.args.observations.now))
 
 pub loop-a-preserved : goal.loop-a-preserved
 loop-a-preserved c =
@@ -20,9 +20,9 @@ loop-a-preserved c =
       search rules,
       l.invariant.1,
       elim c.if-same_observation.branch [
-        | then-same_observation w ↦ w.m-is ∙ w.with-m.ensures ∙ ap (λ (m : ℕ). withBit m l.a) l.invariant.2
-            ∙ same-hit x.hidden x.o x.observations.now l.a (omega arith) (o ∙ w.if-same_observation.true)
-        | else-same_observation w ↦ w.m-is ∙ l.invariant.2 ∙ same-miss x.hidden x.o x.observations.now l.a (omega arith) (o ∙ w.if-same_observation.false)
+        | then-same_observation w ↦ w.m-is ∙ w.with-m.ensures ∙ ap (λ (m : ℕ). with_bit m l.a) l.invariant.2
+            ∙ same_hit x.hidden x.o x.observations.now l.a (omega arith) (o ∙ w.if-same_observation.true)
+        | else-same_observation w ↦ w.m-is ∙ l.invariant.2 ∙ same_miss x.hidden x.o x.observations.now l.a (omega arith) (o ∙ w.if-same_observation.false)
       ],
     )
 
@@ -30,4 +30,4 @@ pub returns : goal.returns
 returns c =
     let l = c.loop-a in
     let x = c.args in
-    l.invariant.2 ∙ ap (λ (a : ℕ). sameMask x.hidden x.o a x.observations.now) (omega arith) ∙ same-min x.hidden x.o x.observations.now x.n
+    l.invariant.2 ∙ ap (λ (a : ℕ). same_mask x.hidden x.o a x.observations.now) (omega arith) ∙ same_min x.hidden x.o x.observations.now x.n

@@ -1,10 +1,10 @@
 use mathlib.Core.Path.{◌≡◌}
 use Prim.Native.Nat.{◌-◌, ◌≤◌, min}
-use Rattle.machine.specs.Observed.{sameMask}
+use Rattle.machine.specs.Observed.{same_mask}
 use Rattle.machine.proofs.same_mask.Given as goal
 
 abbrev pub invariant-loop-a : goal.invariant-loop-a
-invariant-loop-a l = (l.a ≤ l.end) × (l.end ≡ min l.n 64) × (l.m ≡ sameMask l.hidden l.o l.a l.observations)
+invariant-loop-a l = (l.a ≤ l.end) × (l.end ≡ min l.n 64) × (l.m ≡ same_mask l.hidden l.o l.a l.observations)
 
 abbrev pub decreases-loop-a : goal.decreases-loop-a
 decreases-loop-a l = l.end - l.a

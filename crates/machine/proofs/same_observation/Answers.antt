@@ -1,7 +1,7 @@
 use mathlib.Core.Path.{refl}
-use Rattle.machine.specs.Machines.{sameObservation}
+use Rattle.machine.specs.Machines.{same_observation}
 use Rattle.machine.proofs.same_observation.Goals as goal
 
 pub returns : goal.returns
-unfolding sameObservation
+unfolding same_observation
 returns c = refl

@@ -3,46 +3,46 @@ use mathlib.Core.Path.{sym, ap, ◌∙◌}
 use native.Mathlib.Omega.{arith}
 use lib.Seq.{sets}
 use Rattle.machine.specs.declared.Refusal.{Refusal}
-use Rattle.machine.specs.Refusals.{fourNumbers}
-use Rattle.machine.specs.RefusalsLaws.{spot-kept, spot-put}
-use Rattle.playback.specs.Playing.{runNumber}
-use Rattle.playback.specs.PlayingLaws.{told-run, told-bare, told-refused, told-small}
+use Rattle.machine.specs.Refusals.{four_numbers}
+use Rattle.machine.specs.RefusalsLaws.{spot_kept, spot_put}
+use Rattle.playback.specs.Playing.{run_number}
+use Rattle.playback.specs.PlayingLaws.{told_run, told_bare, told_refused, told_small}
 use Rattle.playback.proofs.play_file.Goals as goal
 
 -- the run's lengths are those of a run that fits its buffer
 pub overflow_mul-result : goal.overflow_mul-result
-overflow_mul-result c = omega (arith, told-small _ _ _ c.play_bytes.ensures.answer c.in-Run.is)
+overflow_mul-result c = omega (arith, told_small _ _ _ c.play_bytes.ensures.answer c.in-Run.is)
 
 pub overflow_add-result : goal.overflow_add-result
-overflow_add-result c = omega (arith, told-small _ _ _ c.play_bytes.ensures.answer c.in-Run.is)
+overflow_add-result c = omega (arith, told_small _ _ _ c.play_bytes.ensures.answer c.in-Run.is)
 
 pub returns-in-Run : goal.returns-in-Run
-unfolding runNumber
+unfolding run_number
 returns-in-Run c =
     let said = c.play_bytes.ensures in
-    let told = told-run _ _ _ said.answer c.in-Run.is in
-    record { value = sym (ap runNumber told); content = said.content; numbers = sym (spot-kept _ told) }
+    let told = told_run _ _ _ said.answer c.in-Run.is in
+    record { value = sym (ap run_number told); content = said.content; numbers = sym (spot_kept _ told) }
 
 pub returns-in-NoTable : goal.returns-in-NoTable
-unfolding runNumber
+unfolding run_number
 returns-in-NoTable c =
     let said = c.play_bytes.ensures in
-    let told = told-bare _ _ _ said.answer c.in-NoTable.is in
+    let told = told_bare _ _ _ said.answer c.in-NoTable.is in
     let spot = c.args.spot.now in
-    let put = ap (λ (r : Refusal). sets spot 0 (fourNumbers r)) c.refuse.ensures in
+    let put = ap (λ (r : Refusal). sets spot 0 (four_numbers r)) c.refuse.ensures in
     record {
-      value = sym (ap runNumber told);
+      value = sym (ap run_number told);
       content = said.content;
-      numbers = c.put_refusal.ensures ∙ put ∙ sym (spot-put spot told);
+      numbers = c.put_refusal.ensures ∙ put ∙ sym (spot_put spot told);
     }
 
 pub returns-in-Refused : goal.returns-in-Refused
-unfolding runNumber
+unfolding run_number
 returns-in-Refused c =
     let said = c.play_bytes.ensures in
-    let told = told-refused _ _ _ said.answer c.in-Refused.is in
+    let told = told_refused _ _ _ said.answer c.in-Refused.is in
     record {
-      value = sym (ap runNumber told);
+      value = sym (ap run_number told);
       content = said.content;
-      numbers = c.put_refusal-in-Refused.ensures ∙ sym (spot-put _ told);
+      numbers = c.put_refusal-in-Refused.ensures ∙ sym (spot_put _ told);
     }

@@ -2,17 +2,17 @@
 use mathlib.Core.Path.{sym}
 use native.Mathlib.Omega.{arith}
 use Rattle.machine.specs.Lassos.{given}
-use Rattle.machine.specs.PlayerLaws.{length-empty, length-over, length-whole}
+use Rattle.machine.specs.PlayerLaws.{length_empty, length_over, length_whole}
 use Rattle.player.proofs.bad_length.Goals as goal
 
 pub returns-then-cycle-eq0 : goal.returns-then-cycle-eq0
-returns-then-cycle-eq0 c = sym (length-empty (given c.args.stem.now c.args.cycle.now) c.if-cycle-eq0.true)
+returns-then-cycle-eq0 c = sym (length_empty (given c.args.stem.now c.args.cycle.now) c.if-cycle-eq0.true)
 
 pub returns-then-stem-gt64 : goal.returns-then-stem-gt64
-returns-then-stem-gt64 c = sym (length-over (given c.args.stem.now c.args.cycle.now) (omega arith))
+returns-then-stem-gt64 c = sym (length_over (given c.args.stem.now c.args.cycle.now) (omega arith))
 
 pub returns-then-cycle-gt64 : goal.returns-then-cycle-gt64
-returns-then-cycle-gt64 c = sym (length-over (given c.args.stem.now c.args.cycle.now) (omega arith))
+returns-then-cycle-gt64 c = sym (length_over (given c.args.stem.now c.args.cycle.now) (omega arith))
 
 pub returns : goal.returns
-returns c = sym (length-whole (given c.args.stem.now c.args.cycle.now) c.if-cycle-eq0.false)
+returns c = sym (length_whole (given c.args.stem.now c.args.cycle.now) c.if-cycle-eq0.false)

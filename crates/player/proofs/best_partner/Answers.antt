@@ -2,39 +2,39 @@
 use mathlib.Core.Path.{◌≡◌, refl, ◌∙◌}
 use Prim.Native.Nat.{◌+◌, ◌≤◌}
 use native.Mathlib.Omega.{arith}
-use Rattle.machine.specs.Machines.{nC, nA}
-use Rattle.machine.specs.Table.{tableRoom, entryIndex}
-use Rattle.player.specs.RowLaws.{index-is, row-end, row-partner}
+use Rattle.machine.specs.Machines.{n_c, n_a}
+use Rattle.machine.specs.Table.{table_room, entry_index}
+use Rattle.player.specs.RowLaws.{index_is, row_end, row_partner}
 use Rattle.player.proofs.best_partner.Goals as goal
 use Rattle.player.proofs.best_partner.Goals.{After-entry_index-from}
 
 -- the row of section j beside d
-from : (c : After-entry_index-from) → let x = c.args in c.entry_index-from.result ≡ entryIndex (nC x.p) (nA x.p) x.j x.d 0
+from : (c : After-entry_index-from) → let x = c.args in c.entry_index-from.result ≡ entry_index (n_c x.p) (n_a x.p) x.j x.d 0
 from c =
     let x = c.args in
     let r = c.requires in
-    index-is x.p r.tabled.well _ x.j x.d r.j_bound.0 r.j_bound.1 0 c.entry_index-from.ensures (omega arith)
+    index_is x.p r.tabled.well _ x.j x.d r.j_bound.0 r.j_bound.1 0 c.entry_index-from.ensures (omega arith)
 
 -- lies within the table
-row-low : (c : After-entry_index-from) → c.entry_index-from.result + nA c.args.p ≤ tableRoom
-row-low c =
+row_low : (c : After-entry_index-from) → c.entry_index-from.result + n_a c.args.p ≤ table_room
+row_low c =
     let x = c.args in
     let r = c.requires in
-    row-end x.p r.tabled.well _ x.j x.d r.j_bound.0 r.j_bound.1 (from c)
+    row_end x.p r.tabled.well _ x.j x.d r.j_bound.0 r.j_bound.1 (from c)
 
 pub overflow_add-to : goal.overflow_add-to
-overflow_add-to c = omega (arith, row-low (goal.at.overflow_add-to c).After-entry_index-from)
+overflow_add-to c = omega (arith, row_low (goal.at.overflow_add-to c).After-entry_index-from)
 
 pub offset_bounds-table-from : goal.offset_bounds-table-from
-offset_bounds-table-from c = omega (arith, row-low (goal.at.offset_bounds-table-from c).After-entry_index-from)
+offset_bounds-table-from c = omega (arith, row_low (goal.at.offset_bounds-table-from c).After-entry_index-from)
 
 pub slice_bounds-partner_within-end : goal.slice_bounds-partner_within-end
-slice_bounds-partner_within-end c = omega (arith, row-low (goal.at.slice_bounds-partner_within-end c).After-entry_index-from, c.requires.tabled.long)
+slice_bounds-partner_within-end c = omega (arith, row_low (goal.at.slice_bounds-partner_within-end c).After-entry_index-from, c.requires.tabled.long)
 
 pub returns : goal.returns
 returns c =
     let x = c.args in
     let r = c.requires in
     let e : After-entry_index-from = (goal.at.returns c).After-entry_index-from in
-    c.partner_within.ensures ∙ rw r.tabled.masks (row-partner x.p x.table.now r.tabled.well (λ i. omega (arith, c.type_inv.table i)) x.j x.d
-    c.entry_index-from.result (c.entry_index-from.result + nA x.p) r.j_bound.1 (from e) refl (omega (arith, row-low e, r.tabled.long)) x.present x.moves r.appended)
+    c.partner_within.ensures ∙ rw r.tabled.masks (row_partner x.p x.table.now r.tabled.well (λ i. omega (arith, c.type_inv.table i)) x.j x.d
+    c.entry_index-from.result (c.entry_index-from.result + n_a x.p) r.j_bound.1 (from e) refl (omega (arith, row_low e, r.tabled.long)) x.present x.moves r.appended)

@@ -4,7 +4,7 @@ use native.Mathlib.Omega.{arith}
 use lib.ListN.{length}
 use borrow.Author.Rules.{rules}
 use Rattle.machine.specs.Machines.{successors, moves}
-use Rattle.player.specs.LassoLaws.{moves-past}
+use Rattle.player.specs.LassoLaws.{moves_past}
 use Rattle.player.proofs.moves_to.Goals as goal
 
 pub returns-then-s-lt64 : goal.returns-then-s-lt64
@@ -15,4 +15,4 @@ pub returns-else-s-lt64 : goal.returns-else-s-lt64
 returns-else-s-lt64 c =
     let x = c.args in
     let long : length x.m.successors ≡ 64 = search rules in
-    sym (moves-past x.m x.s x.t (omega arith))
+    sym (moves_past x.m x.s x.t (omega arith))

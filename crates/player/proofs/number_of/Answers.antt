@@ -1,8 +1,8 @@
 -- Each remainder is small, so that neither product nor sum overflows.
 use mathlib.Core.Path.{refl}
-use Rattle.player.specs.Places.{numberOf}
+use Rattle.player.specs.Places.{number_of}
 use Rattle.player.proofs.number_of.Goals as goal
 
 pub returns : goal.returns
-unfolding numberOf
+unfolding number_of
 returns c = refl

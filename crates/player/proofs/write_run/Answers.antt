@@ -5,13 +5,13 @@ use Prim.Native.Nat.{ℕ, ◌-◌, ◌*◌, ◌≤◌, ◌<◌}
 use native.Mathlib.Omega.{arith}
 use lib.ListN.{length, get_or, replicate, length-replicate, get_or-replicate}
 use Rattle.machine.specs.Lassos.{given}
-use Rattle.machine.specs.Player.{runRoom}
+use Rattle.machine.specs.Player.{run_room}
 use Rattle.player.specs.declared.Place.{Place}
 use Rattle.player.specs.Places.{Playing, NotEnded}
-use Rattle.player.specs.PlaceLaws.{state-lt}
-use Rattle.player.specs.MarkLaws.{number-low}
-use Rattle.player.specs.RunLaws.{run-said, rounds-low}
-use Rattle.player.specs.PlayingLaws.{at-start, round-low, now-low, marks-low, met, earlier-low, run-written, marked-on, unmarked-on, room, plays-on}
+use Rattle.player.specs.PlaceLaws.{state_lt}
+use Rattle.player.specs.MarkLaws.{number_low}
+use Rattle.player.specs.RunLaws.{run_said, rounds_low}
+use Rattle.player.specs.PlayingLaws.{at_start, round_low, now_low, marks_low, met, earlier_low, run_written, marked_on, unmarked_on, room, plays_on}
 use Rattle.player.proofs.write_run.Goals as goal
 use Rattle.player.proofs.write_run.Goals.{After-number_of-number, Then-seen-ne0, At-loop-place, After-struct_known-in-loop-place-1, else-place-start, then-place-start+else-seen-ne0}
 
@@ -21,23 +21,23 @@ loop-place-init c =
     let r = c.requires in
     let Begun : Place → Type 0 = λ at. Playing x.p x.table.now (given x.stem.now x.cycle.now) x.run.now x.run.now (replicate 448 0) at 0 in
     subst Begun (sym c.new-place.ensures)
-    (at-start r.playable x.run.now (replicate 448 0) x.first r.first_value (length-replicate {A = ℕ} 448 0) (λ i h. get_or-replicate {A = ℕ} 448 i 0 0 h))
+    (at_start r.playable x.run.now (replicate 448 0) x.first r.first_value (length-replicate {A = ℕ} 448 0) (λ i h. get_or-replicate {A = ℕ} 448 i 0 0 h))
 
 -- what is known at the loop's head
-round-small : (c : At-loop-place) → c.loop-place.place.round ≤ 448
-round-small c = round-low c.requires.playable c.loop-place.invariant
+round_small : (c : At-loop-place) → c.loop-place.place.round ≤ 448
+round_small c = round_low c.requires.playable c.loop-place.invariant
 
 pub step-next-requires : goal.step-next-requires
 step-next-requires c = record {
   tabled = c.requires.tabled;
   playable = c.requires.playable;
   on_play = c.loop-place.invariant.on;
-  round_bound = round-small (goal.at.step-next-requires c).At-loop-place;
+  round_bound = round_small (goal.at.step-next-requires c).At-loop-place;
 }
 
 -- ---- a loop start: the number of its a and j, and the mark there
-number-small : (c : After-number_of-number) → c.number_of-number.result < 448
-number-small c = let at = c.loop-place.place in omega (arith, c.number_of-number.ensures, number-low at.a at.j)
+number_small : (c : After-number_of-number) → c.number_of-number.result < 448
+number_small c = let at = c.loop-place.place in omega (arith, c.number_of-number.ensures, number_low at.a at.j)
 
 -- a mark that is met: the rule's end
 pub returns-then-seen-ne0 : goal.returns-then-seen-ne0
@@ -47,92 +47,92 @@ returns-then-seen-ne0 c =
     let k = c.requires.playable in
     let h = c.loop-place.invariant in
     let e = met k h c.if-place-start.true c.number_of-number.result c.number_of-number.ensures c.if-seen-ne0.true in
-    record { answer = run-said x.p x.table.now l _ _ e.0 e.1; buffer = run-written k h c.if-place-start.true e.0 }
+    record { answer = run_said x.p x.table.now l _ _ e.0 e.1; buffer = run_written k h c.if-place-start.true e.0 }
 
 -- no mark, or no loop start: the marks are as the next turn wants them
 abbrev Joined : Type 0
 Joined = After-struct_known-in-loop-place-1
 
-not-ended : (c : Joined) → let x = c.args in NotEnded x.p x.table.now (given x.stem.now x.cycle.now) c.if-place-start.marks c.loop-place.place
-not-ended c =
+not_ended : (c : Joined) → let x = c.args in NotEnded x.p x.table.now (given x.stem.now x.cycle.now) c.if-place-start.marks c.loop-place.place
+not_ended c =
     let x = c.args in
     let k = c.requires.playable in
     let h = c.loop-place.invariant in
     let Goes : List ℕ → Type 0 = λ m. NotEnded x.p x.table.now (given x.stem.now x.cycle.now) m c.loop-place.place in
     elim c.if-place-start.branch [
       | then-place-start+else-seen-ne0 w ↦
-          subst Goes (sym w.marks-is) (marked-on k h w.if-place-start.true w.number_of-number.result w.number_of-number.ensures w.if-seen-ne0.false)
-      | else-place-start w ↦ subst Goes (sym w.marks-is) (unmarked-on k h w.if-place-start.false)
+          subst Goes (sym w.marks-is) (marked_on k h w.if-place-start.true w.number_of-number.result w.number_of-number.ensures w.if-seen-ne0.false)
+      | else-place-start w ↦ subst Goes (sym w.marks-is) (unmarked_on k h w.if-place-start.false)
     ]
 
 pub loop-place-preserved : goal.loop-place-preserved
 loop-place-preserved c =
-    plays-on c.requires.playable c.loop-place.invariant (not-ended c) c.requires.run_room_in_bounds c.step-next.result c.step-next.ensures
+    plays_on c.requires.playable c.loop-place.invariant (not_ended c) c.requires.run_room_in_bounds c.step-next.result c.step-next.ensures
 
 -- ---- no number overflows, and each index is in range
 pub overflow_add-after : goal.overflow_add-after
-overflow_add-after c = omega (arith, now-low c.requires.playable c.loop-place.invariant)
+overflow_add-after c = omega (arith, now_low c.requires.playable c.loop-place.invariant)
 
 pub offset_bounds-marks-number : goal.offset_bounds-marks-number
-offset_bounds-marks-number c = omega (arith, number-small (goal.at.offset_bounds-marks-number c).After-number_of-number)
+offset_bounds-marks-number c = omega (arith, number_small (goal.at.offset_bounds-marks-number c).After-number_of-number)
 
 pub bounds-marks-number : goal.bounds-marks-number
-bounds-marks-number c = number-small (goal.at.bounds-marks-number c).After-number_of-number
+bounds-marks-number c = number_small (goal.at.bounds-marks-number c).After-number_of-number
 
 pub overflow_cast-seen : goal.overflow_cast-seen
-overflow_cast-seen c = omega (arith, marks-low c.requires.playable c.loop-place.invariant c.number_of-number.result (number-small (goal.at.overflow_cast-seen c).After-number_of-number))
+overflow_cast-seen c = omega (arith, marks_low c.requires.playable c.loop-place.invariant c.number_of-number.result (number_small (goal.at.overflow_cast-seen c).After-number_of-number))
 
 -- the earlier round is before this one, and rounds are few
 abbrev earlier : Then-seen-ne0 → ℕ
 earlier c = get_or c.loop-place.marks c.number_of-number.result 0 - 1
 
-earlier-small : (c : Then-seen-ne0) → earlier c < c.loop-place.place.round
-earlier-small c = earlier-low c.requires.playable c.loop-place.invariant c.if-place-start.true c.number_of-number.result c.number_of-number.ensures c.if-seen-ne0.true
+earlier_small : (c : Then-seen-ne0) → earlier c < c.loop-place.place.round
+earlier_small c = earlier_low c.requires.playable c.loop-place.invariant c.if-place-start.true c.number_of-number.result c.number_of-number.ensures c.if-seen-ne0.true
 
-turns-small : (c : Then-seen-ne0) (x : ℕ) → x ≤ c.loop-place.place.round → x * length c.args.cycle.now ≤ runRoom
-turns-small c x h = let k = c.requires.playable in rounds-low k x (omega (arith, round-low k c.loop-place.invariant))
+turns_small : (c : Then-seen-ne0) (x : ℕ) → x ≤ c.loop-place.place.round → x * length c.args.cycle.now ≤ run_room
+turns_small c x h = let k = c.requires.playable in rounds_low k x (omega (arith, round_low k c.loop-place.invariant))
 
 pub overflow_mul-stem_length : goal.overflow_mul-stem_length
 overflow_mul-stem_length c =
     let d : Then-seen-ne0 = (goal.at.overflow_mul-stem_length c).Then-seen-ne0 in
-    omega (arith, turns-small d (earlier d) (omega (arith, earlier-small d)))
+    omega (arith, turns_small d (earlier d) (omega (arith, earlier_small d)))
 
 pub overflow_add-stem_length : goal.overflow_add-stem_length
 overflow_add-stem_length c =
     let d : Then-seen-ne0 = (goal.at.overflow_add-stem_length c).Then-seen-ne0 in
-    omega (arith, turns-small d (earlier d) (omega (arith, earlier-small d)), c.requires.playable.good.short)
+    omega (arith, turns_small d (earlier d) (omega (arith, earlier_small d)), c.requires.playable.good.short)
 
 pub overflow_sub-loop_length : goal.overflow_sub-loop_length
-overflow_sub-loop_length c = omega (arith, earlier-small (goal.at.overflow_sub-loop_length c).Then-seen-ne0)
+overflow_sub-loop_length c = omega (arith, earlier_small (goal.at.overflow_sub-loop_length c).Then-seen-ne0)
 
 pub overflow_mul-loop_length : goal.overflow_mul-loop_length
 overflow_mul-loop_length c =
     let d : Then-seen-ne0 = (goal.at.overflow_mul-loop_length c).Then-seen-ne0 in
-    omega (arith, turns-small d (d.loop-place.place.round - earlier d) (omega arith))
+    omega (arith, turns_small d (d.loop-place.place.round - earlier d) (omega arith))
 
 pub shape_of-run-then-seen-ne0 : goal.shape_of-run-then-seen-ne0
 shape_of-run-then-seen-ne0 c = c.loop-place.invariant.long
 
 pub overflow_add-marks : goal.overflow_add-marks
-overflow_add-marks c = omega (arith, round-small (goal.at.overflow_add-marks c).At-loop-place)
+overflow_add-marks c = omega (arith, round_small (goal.at.overflow_add-marks c).At-loop-place)
 
 pub overflow_cast-marks : goal.overflow_cast-marks
-overflow_cast-marks c = omega (arith, round-small (goal.at.overflow_cast-marks c).At-loop-place)
+overflow_cast-marks c = omega (arith, round_small (goal.at.overflow_cast-marks c).At-loop-place)
 
 pub offset_bounds-marks-number-then-place-start : goal.offset_bounds-marks-number-then-place-start
-offset_bounds-marks-number-then-place-start c = omega (arith, number-small (goal.at.offset_bounds-marks-number-then-place-start c).After-number_of-number)
+offset_bounds-marks-number-then-place-start c = omega (arith, number_small (goal.at.offset_bounds-marks-number-then-place-start c).After-number_of-number)
 
 pub bounds-marks-number-then-place-start : goal.bounds-marks-number-then-place-start
-bounds-marks-number-then-place-start c = number-small (goal.at.bounds-marks-number-then-place-start c).After-number_of-number
+bounds-marks-number-then-place-start c = number_small (goal.at.bounds-marks-number-then-place-start c).After-number_of-number
 
-has-room : (c : Joined) → c.loop-place.t < runRoom
-has-room c = room c.requires.playable c.loop-place.invariant (not-ended c)
+has_room : (c : Joined) → c.loop-place.t < run_room
+has_room c = room c.requires.playable c.loop-place.invariant (not_ended c)
 
 pub overflow_cast-run : goal.overflow_cast-run
-overflow_cast-run c = omega (arith, state-lt c.requires.playable c.loop-place.invariant.on, c.requires.tabled.well.abstraction.states-high)
+overflow_cast-run c = omega (arith, state_lt c.requires.playable c.loop-place.invariant.on, c.requires.tabled.well.abstraction.states_high)
 
 pub bounds-run-t : goal.bounds-run-t
-bounds-run-t c = omega (arith, has-room c, c.loop-place.invariant.long, c.requires.run_room_in_bounds)
+bounds-run-t c = omega (arith, has_room c, c.loop-place.invariant.long, c.requires.run_room_in_bounds)
 
 pub loop-place-smaller : goal.loop-place-smaller
-loop-place-smaller c = omega (arith, has-room c)
+loop-place-smaller c = omega (arith, has_room c)

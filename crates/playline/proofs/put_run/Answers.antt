@@ -1,7 +1,7 @@
 -- Each part stands where the one before it ends.
 use native.Mathlib.Omega.{arith}
 use lib.ListN.{length-set}
-use Rattle.playline.specs.LineLaws.{run-written}
+use Rattle.playline.specs.LineLaws.{run_written}
 use Rattle.playline.proofs.put_run.Goals as goal
 
 pub shape_of-out : goal.shape_of-out
@@ -14,7 +14,7 @@ returns c =
     let stroke = c.put-2 in
     let back = c.put_states-end in
     let written =
-    run-written c.args.out.now _ _ _ _ _ _ _ _
+    run_written c.args.out.now _ _ _ _ _ _ _ _
     word.ensures front.ensures.bytes front.ensures.place stroke.ensures back.ensures.bytes back.ensures.place in
     record {
       length = written.0;

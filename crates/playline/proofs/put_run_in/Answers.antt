@@ -4,8 +4,8 @@ use Prim.Native.Nat.{ℕ, ◌+◌, ◌-◌}
 use native.Mathlib.Omega.{arith}
 use lib.ListN.{take, drop, length-take}
 use lib.Seq.{length-take-le}
-use Rattle.playline.specs.Line.{runLine}
-use Rattle.playline.specs.LineLaws.{same-line}
+use Rattle.playline.specs.Line.{run_line}
+use Rattle.playline.specs.LineLaws.{same_line}
 use Rattle.playline.proofs.put_run_in.Goals as goal
 
 pub slice_bounds-put_run-end : goal.slice_bounds-put_run-end
@@ -25,6 +25,6 @@ returns c =
     let run = c.args.run.now in
     let put = c.put_run in
     let k : s + q - s ≡ q = omega arith in
-    let line = same-line c.args.out.now (ap (λ (n : ℕ). runLine (take s run) (take n (drop s run))) k) put.ensures.length
+    let line = same_line c.args.out.now (ap (λ (n : ℕ). run_line (take s run) (take n (drop s run))) k) put.ensures.length
     (omega (arith, put.ensures.room, length-take s run, length-take (s + q - s) (drop s run))) put.ensures.bytes in
     record { length = line.0; room = line.1.0; bytes = line.1.1 }

@@ -1,10 +1,10 @@
 -- The counts of well-formed machines are small.
 use native.Mathlib.Omega.{arith}
-use Rattle.machine.specs.WellFormedLaws.{well-pair, pairs-small, entries-small}
+use Rattle.machine.specs.WellFormedLaws.{well_pair, pairs_small, entries_small}
 use Rattle.progress.proofs.entries_of.Goals as goal
 
 pub overflow_mul-result : goal.overflow_mul-result
-overflow_mul-result c = omega (arith, pairs-small c.args.p (well-pair c.args.p c.requires))
+overflow_mul-result c = omega (arith, pairs_small c.args.p (well_pair c.args.p c.requires))
 
 pub overflow_mul-result-2 : goal.overflow_mul-result-2
-overflow_mul-result-2 c = omega (arith, entries-small c.args.p (well-pair c.args.p c.requires))
+overflow_mul-result-2 c = omega (arith, entries_small c.args.p (well_pair c.args.p c.requires))

@@ -2,25 +2,25 @@
 use mathlib.Core.Path.{◌∙◌}
 use Prim.Native.Nat.{◌+◌, ◌*◌, ◌<◌}
 use native.Mathlib.Omega.{arith}
-use Rattle.machine.specs.WellFormedLaws.{well-pair}
-use Rattle.progress.specs.TurnsLaws.{unmatched-out, matched-bit}
+use Rattle.machine.specs.WellFormedLaws.{well_pair}
+use Rattle.progress.specs.TurnsLaws.{unmatched_out, matched_bit}
 use Rattle.progress.proofs.still_in.Goals as goal
 use Rattle.progress.proofs.still_in.Goals.{Else-not-same_observation-unread, Start}
 
 -- the row lies within the family
 fits : (c : Else-not-same_observation-unread) → c.args.j * 64 + c.args.c < 448
-fits c = omega (arith, c.requires.1.0, c.requires.1.1.0, (well-pair c.args.p c.requires.0).concrete.states-high, (well-pair c.args.p c.requires.0).abstraction.sets-high)
+fits c = omega (arith, c.requires.1.0, c.requires.1.1.0, (well_pair c.args.p c.requires.0).concrete.states_high, (well_pair c.args.p c.requires.0).abstraction.sets_high)
 
 pub bounds-shown-c : goal.bounds-shown-c
-bounds-shown-c c = omega (arith, c.requires.1.1.0, (well-pair c.args.p c.requires.0).concrete.states-high)
+bounds-shown-c c = omega (arith, c.requires.1.1.0, (well_pair c.args.p c.requires.0).concrete.states_high)
 
 pub bounds-seen-a : goal.bounds-seen-a
-bounds-seen-a c = omega (arith, c.requires.1.1.1, (well-pair c.args.p c.requires.0).abstraction.states-high)
+bounds-seen-a c = omega (arith, c.requires.1.1.1, (well_pair c.args.p c.requires.0).abstraction.states_high)
 
 pub returns-then-not-same_observation : goal.returns-then-not-same_observation
 returns-then-not-same_observation c =
     let x = c.args in
-    unmatched-out x.p (well-pair c.args.p c.requires.0) x.family x.j x.c x.a c.requires.1.0 c.requires.1.1.0 c.requires.1.1.1 c.same_observation.ensures c.if-not-same_observation.true
+    unmatched_out x.p (well_pair c.args.p c.requires.0) x.family x.j x.c x.a c.requires.1.0 c.requires.1.1.0 c.requires.1.1.1 c.same_observation.ensures c.if-not-same_observation.true
 
 pub overflow_mul-j : goal.overflow_mul-j
 overflow_mul-j c = omega (arith, fits (goal.at.overflow_mul-j c).Else-not-same_observation-unread)
@@ -38,4 +38,4 @@ pub returns : goal.returns
 returns c =
     let x = c.args in
     c.has.ensures
-    ∙ matched-bit x.p (well-pair c.args.p c.requires.0) x.family x.j x.c x.a c.requires.1.0 c.requires.1.1.0 c.requires.1.1.1 c.same_observation.ensures c.if-not-same_observation.false
+    ∙ matched_bit x.p (well_pair c.args.p c.requires.0) x.family x.j x.c x.a c.requires.1.0 c.requires.1.1.0 c.requires.1.1.1 c.same_observation.ensures c.if-not-same_observation.false

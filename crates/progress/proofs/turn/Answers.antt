@@ -7,34 +7,34 @@ use Prim.Native.Nat.{ℕ, ◌≤◌}
 use native.Mathlib.Omega.{arith}
 use lib.ListN.{length, length-replicate}
 use Rattle.machine.specs.Refusals.{refused, answer}
-use Rattle.machine.specs.RefusalsLaws.{buffer-short}
-use Rattle.machine.specs.Table.{tableRoom, entries}
-use Rattle.solver.specs.SolverLaws.{solve-short}
-use Rattle.progress.specs.Answers.{turnedOf}
-use Rattle.progress.specs.Turns.{turnAnswer, turnFamily, turnTable}
-use Rattle.progress.specs.TurnsLaws.{turn-refused, turn-stopped, turn-well, turn-made, copied-small}
+use Rattle.machine.specs.RefusalsLaws.{buffer_short}
+use Rattle.machine.specs.Table.{table_room, entries}
+use Rattle.solver.specs.SolverLaws.{solve_short}
+use Rattle.progress.specs.Answers.{turned_of}
+use Rattle.progress.specs.Turns.{turn_answer, turn_family, turn_table}
+use Rattle.progress.specs.TurnsLaws.{turn_refused, turn_stopped, turn_well, turn_made, copied_small}
 use Rattle.progress.proofs.turn.Goals as goal
 use Rattle.progress.proofs.turn.Goals.{After-copy_entries, else-finished, then-finished}
 
 pub returns-then-table-lt-TABLE_ROOM : goal.returns-then-table-lt-TABLE_ROOM
-unfolding turnedOf
+unfolding turned_of
 returns-then-table-lt-TABLE_ROOM c =
     let x = c.args in
-    let short = buffer-short _ (length x.table.now) c.if-table-lt-TABLE_ROOM.true in
-    let k = turn-refused x.p x.family x.table.now (solve-short x.p (length x.table.now) short) in
+    let short = buffer_short _ (length x.table.now) c.if-table-lt-TABLE_ROOM.true in
+    let k = turn_refused x.p x.family x.table.now (solve_short x.p (length x.table.now) short) in
     record { answer = ap refused c.refuse.ensures ∙ sym k.0; family = sym k.1; content = sym k.2 }
 
 pub returns-in-Refused : goal.returns-in-Refused
-unfolding turnedOf
+unfolding turned_of
 returns-in-Refused c =
     let x = c.args in
-    let k = turn-stopped x.p x.family x.table.now c.if-table-lt-TABLE_ROOM.false c.turn_family-made.ensures.validity c.turn_family-made.ensures.family c.in-Refused.is in
+    let k = turn_stopped x.p x.family x.table.now c.if-table-lt-TABLE_ROOM.false c.turn_family-made.ensures.validity c.turn_family-made.ensures.family c.in-Refused.is in
     record { answer = k.0; family = k.1.0; content = k.1.1 }
 
 -- all that a turn says and leaves; it copies all entries or none
 made : (c : After-copy_entries) →
     let x = c.args in
-    (answer c.same_family-finished.result ≡ turnAnswer x.p x.family (length x.table.now)) × ((c.turn_family-made.result.family ≡ turnFamily x.p x.family (length x.table.now)) × (c.copy_entries.new.to ≡ turnTable x.p x.family x.table.now))
+    (answer c.same_family-finished.result ≡ turn_answer x.p x.family (length x.table.now)) × ((c.turn_family-made.result.family ≡ turn_family x.p x.family (length x.table.now)) × (c.copy_entries.new.to ≡ turn_table x.p x.family x.table.now))
 made c =
     let x = c.args in
     let due : ((c.same_family-finished.result ≡ true) × (c.if-finished.written ≡ entries x.p)) ⊎ ((c.same_family-finished.result ≡ false) × (c.if-finished.written ≡ 0)) =
@@ -42,31 +42,31 @@ made c =
       | then-finished w ↦ inl (w.if-finished.true, w.written-is ∙ w.entries_of-written.ensures)
       | else-finished w ↦ inr (w.if-finished.false, w.written-is)
     ] in
-    turn-made x.p x.family x.table.now c.if-table-lt-TABLE_ROOM.false c.turn_family-made.ensures.validity c.turn_family-made.ensures.family c.in_default.is c.turn_family-made.ensures.content
+    turn_made x.p x.family x.table.now c.if-table-lt-TABLE_ROOM.false c.turn_family-made.ensures.validity c.turn_family-made.ensures.family c.in_default.is c.turn_family-made.ensures.content
     c.same_family-finished.ensures due c.copy_entries.ensures
 
 pub entries_of-written-requires : goal.entries_of-written-requires
 entries_of-written-requires c =
     let x = c.args in
-    turn-well x.p x.family x.table.now c.if-table-lt-TABLE_ROOM.false c.turn_family-made.ensures.validity c.turn_family-made.ensures.family c.in_default.is
+    turn_well x.p x.family x.table.now c.if-table-lt-TABLE_ROOM.false c.turn_family-made.ensures.validity c.turn_family-made.ensures.family c.in_default.is
 
 pub copy_entries-requires : goal.copy_entries-requires
 copy_entries-requires c =
     let x = c.args in
-    let small : c.if-finished.written ≤ tableRoom = elim c.if-finished.branch [
-      | then-finished w ↦ copied-small x.p x.family x.table.now c.if-table-lt-TABLE_ROOM.false c.turn_family-made.ensures.validity c.turn_family-made.ensures.family c.in_default.is (inl (w.if-finished.true, w.written-is ∙ w.entries_of-written.ensures))
+    let small : c.if-finished.written ≤ table_room = elim c.if-finished.branch [
+      | then-finished w ↦ copied_small x.p x.family x.table.now c.if-table-lt-TABLE_ROOM.false c.turn_family-made.ensures.validity c.turn_family-made.ensures.family c.in_default.is (inl (w.if-finished.true, w.written-is ∙ w.entries_of-written.ensures))
       | else-finished w ↦ omega (arith, w.written-is)
     ] in
-    (omega (arith, small, c.turn_family-made.auto.table ∙ length-replicate {A = ℕ} tableRoom 0), omega (arith, small, c.if-table-lt-TABLE_ROOM.false))
+    (omega (arith, small, c.turn_family-made.auto.table ∙ length-replicate {A = ℕ} table_room 0), omega (arith, small, c.if-table-lt-TABLE_ROOM.false))
 
 pub returns-then-finished-2 : goal.returns-then-finished-2
-unfolding turnedOf
+unfolding turned_of
 returns-then-finished-2 c =
     let m = made (goal.at.returns-then-finished-2 c).After-copy_entries in
     record { answer = ap answer (sym c.if-finished-2.true) ∙ m.0; family = m.1.0; content = m.1.1 }
 
 pub returns-else-finished-2 : goal.returns-else-finished-2
-unfolding turnedOf
+unfolding turned_of
 returns-else-finished-2 c =
     let m = made (goal.at.returns-else-finished-2 c).After-copy_entries in
     record { answer = ap answer (sym c.if-finished-2.false) ∙ m.0; family = m.1.0; content = m.1.1 }

@@ -1,8 +1,8 @@
 -- The word and four numbers, each put behind the line so far, are the parts of the definition.
 use mathlib.Core.Path.{ap, ◌∙◌}
 use native.Mathlib.Omega.{arith}
-use Rattle.report.specs.Answers.{lineOf}
-use Rattle.report.specs.TextLaws.{refusal-text}
+use Rattle.report.specs.Answers.{line_of}
+use Rattle.report.specs.TextLaws.{refusal_text}
 use Rattle.report.proofs.refusal_line.Goals as goal
 
 pub returns : goal.returns
@@ -12,6 +12,6 @@ returns c =
     let first = c.numbered-first.ensures.appended _ number in
     let second = c.numbered-second.ensures.appended _ first in
     record {
-      value = c.numbered.ensures.appended _ second ∙ ap lineOf (refusal-text c.args.r);
+      value = c.numbered.ensures.appended _ second ∙ ap line_of (refusal_text c.args.r);
       room = omega arith;
     }

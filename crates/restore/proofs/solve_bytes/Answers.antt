@@ -1,41 +1,41 @@
 -- Each return is what the definitions say of the reading, and of the solver's answer, that led there.
 use Rattle.std.proofs.Common.{sym, ap, ◌∙◌}
 use Rattle.machine.specs.Refusals.{refused}
-use Rattle.machine.specs.RefusalsLaws.{tested-valid, tested-refused}
-use Rattle.codec.specs.Answers.{sizedOf}
-use Rattle.codec.specs.AnswersLaws.{refusal-of}
-use Rattle.restore.specs.RestoringLaws.{restore-short, restore-refused, restore-unsolved, restore-taken}
+use Rattle.machine.specs.RefusalsLaws.{tested_valid, tested_refused}
+use Rattle.codec.specs.Answers.{sized_of}
+use Rattle.codec.specs.AnswersLaws.{refusal_of_lem}
+use Rattle.restore.specs.RestoringLaws.{restore_short, restore_refused, restore_unsolved, restore_taken}
 use Rattle.restore.proofs.solve_bytes.Goals as goal
 
 pub returns-then-out-lt-FILE_ROOM : goal.returns-then-out-lt-FILE_ROOM
-unfolding sizedOf
+unfolding sized_of
 returns-then-out-lt-FILE_ROOM c =
     let x = c.args in
-    let both = restore-short x.bytes.now x.out.now c.if-out-lt-FILE_ROOM.true in
+    let both = restore_short x.bytes.now x.out.now c.if-out-lt-FILE_ROOM.true in
     record { answer = ap refused c.refuse.ensures ∙ sym both.0; content = sym both.1 }
 
 pub returns-in_default : goal.returns-in_default
-unfolding sizedOf
+unfolding sized_of
 returns-in_default c =
     let read = c.read_file-show.ensures in
     let told = c.in_default.is in
     let x = c.args in
-    let both = restore-refused x.bytes.now x.out.now c.if-out-lt-FILE_ROOM.false _ _ read.answer read.content _ told in
-    record { answer = ap refused (c.refusal_of.ensures ∙ refusal-of told) ∙ sym both.0; content = sym both.1 }
+    let both = restore_refused x.bytes.now x.out.now c.if-out-lt-FILE_ROOM.false _ _ read.answer read.content _ told in
+    record { answer = ap refused (c.refusal_of.ensures ∙ refusal_of_lem told) ∙ sym both.0; content = sym both.1 }
 
 pub returns-in-Refused : goal.returns-in-Refused
-unfolding sizedOf
+unfolding sized_of
 returns-in-Refused c =
     let read = c.read_file-show.ensures in
     let x = c.args in
-    let both = restore-unsolved x.bytes.now x.out.now c.if-out-lt-FILE_ROOM.false _ _ read.answer read.content _ c.in-Taken.is _
-    (tested-refused c.solve-solved.ensures.answer c.in-Refused.is) in
+    let both = restore_unsolved x.bytes.now x.out.now c.if-out-lt-FILE_ROOM.false _ _ read.answer read.content _ c.in-Taken.is _
+    (tested_refused c.solve-solved.ensures.answer c.in-Refused.is) in
     record { answer = sym both.0; content = sym both.1 }
 
 pub returns : goal.returns
 returns c =
     let read = c.read_file-show.ensures in
     let x = c.args in
-    let both = restore-taken x.bytes.now x.out.now c.if-out-lt-FILE_ROOM.false _ _ read.answer read.content _ c.in-Taken.is _
-    (tested-valid c.solve-solved.ensures.answer c.in_default-solved.is) c.solve-solved.ensures.content in
+    let both = restore_taken x.bytes.now x.out.now c.if-out-lt-FILE_ROOM.false _ _ read.answer read.content _ c.in-Taken.is _
+    (tested_valid c.solve-solved.ensures.answer c.in_default-solved.is) c.solve-solved.ensures.content in
     record { answer = c.write_file.ensures.answer ∙ sym both.0; content = c.write_file.ensures.bytes ∙ sym both.1 }

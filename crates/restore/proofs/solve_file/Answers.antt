@@ -1,20 +1,20 @@
 -- The file's length, or the refusal's four numbers: what the two cases of the definitions say.
 use Rattle.std.proofs.Common.{sym, ap, ◌∙◌}
-use Rattle.machine.specs.RefusalsLaws.{spot-kept, spot-put}
-use Rattle.codec.specs.Answers.{lengthOf}
-use Rattle.codec.specs.AnswersLaws.{sized-bytes, sized-refused}
+use Rattle.machine.specs.RefusalsLaws.{spot_kept, spot_put}
+use Rattle.codec.specs.Answers.{length_of}
+use Rattle.codec.specs.AnswersLaws.{sized_bytes, sized_refused}
 use Rattle.restore.proofs.solve_file.Goals as goal
 
 pub returns-in-Bytes : goal.returns-in-Bytes
-unfolding lengthOf
+unfolding length_of
 returns-in-Bytes c =
     let made = c.solve_bytes.ensures in
-    let told = sized-bytes made.answer c.in-Bytes.is in
-    record { value = sym (ap lengthOf told); content = made.content; numbers = sym (spot-kept c.args.spot.now told) }
+    let told = sized_bytes made.answer c.in-Bytes.is in
+    record { value = sym (ap length_of told); content = made.content; numbers = sym (spot_kept c.args.spot.now told) }
 
 pub returns-in-Refused : goal.returns-in-Refused
-unfolding lengthOf
+unfolding length_of
 returns-in-Refused c =
     let made = c.solve_bytes.ensures in
-    let told = sized-refused made.answer c.in-Refused.is in
-    record { value = sym (ap lengthOf told); content = made.content; numbers = c.put_refusal.ensures ∙ sym (spot-put c.args.spot.now told) }
+    let told = sized_refused made.answer c.in-Refused.is in
+    record { value = sym (ap length_of told); content = made.content; numbers = c.put_refusal.ensures ∙ sym (spot_put c.args.spot.now told) }

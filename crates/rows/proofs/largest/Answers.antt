@@ -6,22 +6,22 @@ use Prim.Native.Nat.{◌<◌}
 use native.Mathlib.Omega.{arith}
 use lib.ListN.{get_or}
 use lib.Bits.{bit_and, bit_or, and_le_l}
-use Rattle.mask.specs.Bits.{hasBit}
-use Rattle.mask.specs.BitsLaws.{rest-lt}
+use Rattle.mask.specs.Bits.{has_bit}
+use Rattle.mask.specs.BitsLaws.{rest_lt}
 use Rattle.mask.specs.Bounded.{sum}
-use Rattle.rows.specs.Rows.{meetOf}
-use Rattle.rows.specs.RowsLaws.{walk-index}
-use Rattle.rows.specs.LargestLaws.{shrinking-start, shrinking-kept, shrinking-lowered, shrinking-done, lowered-falls, weight-falls}
+use Rattle.rows.specs.Rows.{meet_of}
+use Rattle.rows.specs.RowsLaws.{walk_index}
+use Rattle.rows.specs.LargestLaws.{shrinking_start, shrinking_kept, shrinking_lowered, shrinking_done, lowered_falls, weight_falls}
 use Rattle.rows.proofs.largest.Goals as goal
 use Rattle.rows.proofs.largest.Goals.{After-lowest-c, After-rest-due}
 
 pub loop-due-init : goal.loop-due-init
 loop-due-init c =
     let x = c.args in
-    (omega arith, λ k. shrinking-start x.nc x.moves.now x.predecessors.now x.base.now x.members k.few k.long k.first-are c.full-due.ensures)
+    (omega arith, λ k. shrinking_start x.nc x.moves.now x.predecessors.now x.base.now x.members k.few k.long k.first_are c.full-due.ensures)
 
 index : (c : After-lowest-c) → c.lowest-c.result < 64
-index c = walk-index c.lowest-c.result c.lowest-c.ensures c.loop-due-test.true c.loop-due.invariant.0
+index c = walk_index c.lowest-c.result c.lowest-c.ensures c.loop-due-test.true c.loop-due.invariant.0
 
 pub offset_bounds-x-c : goal.offset_bounds-x-c
 offset_bounds-x-c c = omega (arith, index (goal.at.offset_bounds-x-c c).After-lowest-c)
@@ -42,18 +42,18 @@ pub bounds-base-c : goal.bounds-base-c
 bounds-base-c c = index (goal.at.bounds-base-c c).After-lowest-c
 
 -- what the row becomes, over the state taken
-row-is : (c : After-rest-due) →
+row_is : (c : After-rest-due) →
     let x = c.args in
     let l = c.loop-due in
     let i = c.lowest-c.result in
     bit_and (get_or l.x i 0) c.rule_row.result
-    ≡ bit_and (get_or l.x i 0) (bit_or (get_or x.base.now i 0) (cond (hasBit x.members i) 0 (meetOf (get_or x.moves.now i 0) l.reached)))
-row-is c =
+    ≡ bit_and (get_or l.x i 0) (bit_or (get_or x.base.now i 0) (cond (has_bit x.members i) 0 (meet_of (get_or x.moves.now i 0) l.reached)))
+row_is c =
     let x = c.args in
     let l = c.loop-due in
     let i = c.lowest-c.result in
     ap (bit_and (get_or l.x i 0)) (c.rule_row.ensures
-    ∙ ap (λ (b : Bool). bit_or (get_or x.base.now i 0) (cond b 0 (meetOf (get_or x.moves.now i 0) l.reached))) c.has.ensures)
+    ∙ ap (λ (b : Bool). bit_or (get_or x.base.now i 0) (cond b 0 (meet_of (get_or x.moves.now i 0) l.reached))) c.has.ensures)
 
 pub offset_bounds-x-c-then-row-old : goal.offset_bounds-x-c-then-row-old
 offset_bounds-x-c-then-row-old c = omega (arith, index (goal.at.offset_bounds-x-c-then-row-old c).After-lowest-c)
@@ -79,28 +79,28 @@ loop-due-preserved-then-row-old c =
     let x = c.args in (
       c.joined-due.ensures.1,
       λ k. rw (c.joined-due.ensures.0, c.rest-due.ensures, c.partners.ensures)
-          (shrinking-lowered x.nc x.moves.now x.predecessors.now x.base.now x.members k.few c.lowest-c.ensures c.loop-due-test.true (c.loop-due.invariant.1 k) (row-is (goal.at.loop-due-preserved-then-row-old c).After-rest-due) k.dependents-are),
+          (shrinking_lowered x.nc x.moves.now x.predecessors.now x.base.now x.members k.few c.lowest-c.ensures c.loop-due-test.true (c.loop-due.invariant.1 k) (row_is (goal.at.loop-due-preserved-then-row-old c).After-rest-due) k.dependents_are),
     )
 
 pub loop-due-smaller-then-row-old : goal.loop-due-smaller-then-row-old
 loop-due-smaller-then-row-old c =
     let l = c.loop-due in
-    weight-falls (sum 64 (λ i. get_or l.x i 0)) _ l.due _
-    (lowered-falls l.x c.lowest-c.result _ (index (goal.at.loop-due-smaller-then-row-old c).After-lowest-c) (and_le_l _ _) c.if-row-old.true) c.joined-due.ensures.1
+    weight_falls (sum 64 (λ i. get_or l.x i 0)) _ l.due _
+    (lowered_falls l.x c.lowest-c.result _ (index (goal.at.loop-due-smaller-then-row-old c).After-lowest-c) (and_le_l _ _) c.if-row-old.true) c.joined-due.ensures.1
 
 pub loop-due-smaller : goal.loop-due-smaller
 loop-due-smaller c =
-    omega (arith, c.rest-due.ensures, rest-lt c.loop-due.due (omega (arith, c.loop-due-test.true)))
+    omega (arith, c.rest-due.ensures, rest_lt c.loop-due.due (omega (arith, c.loop-due-test.true)))
 
 pub loop-due-preserved : goal.loop-due-preserved
 loop-due-preserved c =
     let x = c.args in (
-      omega (arith, c.rest-due.ensures, c.loop-due.invariant.0, rest-lt c.loop-due.due (omega (arith, c.loop-due-test.true))),
+      omega (arith, c.rest-due.ensures, c.loop-due.invariant.0, rest_lt c.loop-due.due (omega (arith, c.loop-due-test.true))),
       λ k. rw c.rest-due.ensures
-          (shrinking-kept x.nc x.moves.now x.predecessors.now x.base.now x.members k.few c.lowest-c.ensures c.loop-due-test.true (c.loop-due.invariant.1 k) (row-is (goal.at.loop-due-preserved c).After-rest-due) c.if-row-old.false),
+          (shrinking_kept x.nc x.moves.now x.predecessors.now x.base.now x.members k.few c.lowest-c.ensures c.loop-due-test.true (c.loop-due.invariant.1 k) (row_is (goal.at.loop-due-preserved c).After-rest-due) c.if-row-old.false),
     )
 
 pub returns : goal.returns
 returns c =
     let x = c.args in
-    λ k. shrinking-done x.nc x.moves.now x.predecessors.now x.base.now x.members k.few c.loop-due-test.false (c.loop-due.invariant.1 k)
+    λ k. shrinking_done x.nc x.moves.now x.predecessors.now x.base.now x.members k.few c.loop-due-test.false (c.loop-due.invariant.1 k)

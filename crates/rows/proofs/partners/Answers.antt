@@ -1,16 +1,16 @@
 -- The states joined are those of the row's states passed; each turn takes the lowest state that is left.
 use Prim.Native.Nat.{◌<◌}
 use native.Mathlib.Omega.{arith}
-use Rattle.mask.specs.BitsLaws.{rest-lt}
-use Rattle.rows.specs.RowsLaws.{joining-start, joining-turn, joining-done, walk-index}
+use Rattle.mask.specs.BitsLaws.{rest_lt}
+use Rattle.rows.specs.RowsLaws.{joining_start, joining_turn, joining_done, walk_index}
 use Rattle.rows.proofs.partners.Goals as goal
 use Rattle.rows.proofs.partners.Goals.{After-lowest-b}
 
 pub loop-left-init : goal.loop-left-init
-loop-left-init c = joining-start (omega arith)
+loop-left-init c = joining_start (omega arith)
 
 index : (c : After-lowest-b) → c.lowest-b.result < 64
-index c = walk-index c.lowest-b.result c.lowest-b.ensures c.loop-left-test.true c.loop-left.invariant.small
+index c = walk_index c.lowest-b.result c.lowest-b.ensures c.loop-left-test.true c.loop-left.invariant.small
 
 pub offset_bounds-predecessors-b : goal.offset_bounds-predecessors-b
 offset_bounds-predecessors-b c = omega (arith, index (goal.at.offset_bounds-predecessors-b c).After-lowest-b)
@@ -19,14 +19,14 @@ pub bounds-predecessors-b : goal.bounds-predecessors-b
 bounds-predecessors-b c = omega (arith, index (goal.at.bounds-predecessors-b c).After-lowest-b)
 
 pub loop-left-smaller : goal.loop-left-smaller
-loop-left-smaller c = omega (arith, c.rest-left.ensures, rest-lt c.loop-left.left (omega arith))
+loop-left-smaller c = omega (arith, c.rest-left.ensures, rest_lt c.loop-left.left (omega arith))
 
 pub loop-left-preserved : goal.loop-left-preserved
 loop-left-preserved c =
     let j = c.joined-m in
     let l = c.loop-left in
     let lo = c.lowest-b in
-    rw (c.rest-left.ensures, j.ensures.0) (joining-turn lo.result lo.ensures c.loop-left-test.true (rw j.ensures.0 at j.ensures.1) l.invariant)
+    rw (c.rest-left.ensures, j.ensures.0) (joining_turn lo.result lo.ensures c.loop-left-test.true (rw j.ensures.0 at j.ensures.1) l.invariant)
 
 pub returns : goal.returns
-returns c = joining-done c.loop-left-test.false c.loop-left.invariant
+returns c = joining_done c.loop-left-test.false c.loop-left.invariant

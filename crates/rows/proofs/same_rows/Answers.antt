@@ -2,7 +2,7 @@
 use mathlib.Core.Path.{sym}
 use native.Mathlib.Omega.{arith}
 use borrow.Author.Count.{below_none, below_more}
-use Rattle.rows.specs.RowsLaws.{same-yes, same-no}
+use Rattle.rows.specs.RowsLaws.{same_yes, same_no}
 use Rattle.rows.proofs.same_rows.Goals as goal
 
 pub loop-c-init : goal.loop-c-init
@@ -12,7 +12,7 @@ pub returns-then-x-c : goal.returns-then-x-c
 returns-then-x-c c =
     let x = c.args in
     let l = c.loop-c in
-    sym (same-no x.nc x.x.now x.y.now l.c (omega (arith, l.invariant.1)) c.if-x-c.true)
+    sym (same_no x.nc x.x.now x.y.now l.c (omega (arith, l.invariant.1)) c.if-x-c.true)
 
 pub loop-c-preserved : goal.loop-c-preserved
 loop-c-preserved c = let l = c.loop-c in (omega arith, l.invariant.1, below_more _ _ l.invariant.2 c.if-x-c.false)
@@ -21,4 +21,4 @@ pub returns : goal.returns
 returns c =
     let x = c.args in
     let l = c.loop-c in
-    sym (same-yes x.nc x.x.now x.y.now (λ k h. l.invariant.2 k (omega (arith, l.invariant.1))))
+    sym (same_yes x.nc x.x.now x.y.now (λ k h. l.invariant.2 k (omega (arith, l.invariant.1))))

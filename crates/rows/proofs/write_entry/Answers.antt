@@ -3,13 +3,13 @@ use mathlib.Core.Path.{◌≡◌, refl, ap, ◌∙◌}
 use Prim.Native.Nat.{ℕ, ◌+◌, ◌*◌, ◌-◌, ◌≤◌, ◌<◌}
 use native.Mathlib.Omega.{arith}
 use lib.ListN.{length, take, drop}
-use Rattle.rows.specs.Entries.{writeRow}
-use Rattle.rows.specs.WriteLaws.{written-start, written-turn, written-whole, row-fits, section-some}
+use Rattle.rows.specs.Entries.{write_row}
+use Rattle.rows.specs.WriteLaws.{written_start, written_turn, written_whole, row_fits, section_some}
 use Rattle.rows.proofs.write_entry.Goals as goal
 use Rattle.rows.proofs.write_entry.Goals.{In-loop-c}
 
 pub loop-c-init : goal.loop-c-init
-loop-c-init c = (omega arith, c.row_count-end.ensures, written-start _ _ _ _ _)
+loop-c-init c = (omega arith, c.row_count-end.ensures, written_start _ _ _ _ _)
 
 -- there is a row, so that the entries are a section, and the row lies within it
 known : (c : In-loop-c) →
@@ -17,8 +17,8 @@ known : (c : In-loop-c) →
     (c.loop-c.c * s.na + s.na ≤ length s.part.now) × ((length s.part.now ≤ 4096) × (c.loop-c.c < 64))
 known c =
     let s = c.args in
-    let q = section-some s.nc s.na (length s.part.now) c.loop-c.invariant.1 c.loop-c-test.true in
-    let f = row-fits {c = c.loop-c.c} q.1 q.2 (omega (arith, q.0, c.loop-c-test.true)) in
+    let q = section_some s.nc s.na (length s.part.now) c.loop-c.invariant.1 c.loop-c-test.true in
+    let f = row_fits {c = c.loop-c.c} q.1 q.2 (omega (arith, q.0, c.loop-c-test.true)) in
     (omega (arith, f.0, q.3), (omega (arith, f.1, q.3), omega (arith, q.0, q.1, c.loop-c-test.true)))
 
 pub overflow_mul-from : goal.overflow_mul-from
@@ -59,8 +59,8 @@ loop-c-preserved c =
     let e : k ≡ x.na = omega arith in (
       omega (arith, c.loop-c-test.true),
       c.loop-c.invariant.1,
-      written-turn x.na x.x.now x.y.now x.v x.part.now refl e (known (goal.at.loop-c-preserved c).In-loop-c).0
-          (c.write_row.ensures ∙ ap (λ (m : ℕ). writeRow m x.v (take k (drop a c.loop-c.part))) c.without.ensures) c.loop-c.invariant.2,
+      written_turn x.na x.x.now x.y.now x.v x.part.now refl e (known (goal.at.loop-c-preserved c).In-loop-c).0
+          (c.write_row.ensures ∙ ap (λ (m : ℕ). write_row m x.v (take k (drop a c.loop-c.part))) c.without.ensures) c.loop-c.invariant.2,
     )
 
 pub shape_of-part : goal.shape_of-part
@@ -69,4 +69,4 @@ shape_of-part c = c.loop-c.invariant.2.long
 pub returns : goal.returns
 returns c =
     let x = c.args in
-    written-whole x.nc x.na x.x.now x.y.now x.v x.part.now c.loop-c.invariant.1 (omega (arith, c.loop-c.invariant.0, c.loop-c-test.false)) c.loop-c.invariant.2
+    written_whole x.nc x.na x.x.now x.y.now x.v x.part.now c.loop-c.invariant.1 (omega (arith, c.loop-c.invariant.0, c.loop-c-test.false)) c.loop-c.invariant.2

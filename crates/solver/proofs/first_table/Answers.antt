@@ -4,24 +4,24 @@ use Prim.Native.Nat.{◌+◌, ◌-◌, ◌*◌, ◌≤◌}
 use native.Mathlib.Omega.{arith}
 use lib.ListN.{length}
 use Rattle.machine.specs.Machines.{pairs}
-use Rattle.machine.specs.Table.{tableRoom}
-use Rattle.machine.specs.WellFormedLaws.{well-pair, pairs-small, section-fits}
-use Rattle.rows.specs.WriteLaws.{cut-long}
-use Rattle.solver.specs.SweepLaws.{begun-start, begun-turn}
+use Rattle.machine.specs.Table.{table_room}
+use Rattle.machine.specs.WellFormedLaws.{well_pair, pairs_small, section_fits}
+use Rattle.rows.specs.WriteLaws.{cut_long}
+use Rattle.solver.specs.SweepLaws.{begun_start, begun_turn}
 use Rattle.solver.proofs.first_table.Goals as goal
 use Rattle.solver.proofs.first_table.Goals.{In-loop-j, Start}
 
 -- the section lies within the table
 fits : (c : In-loop-j) →
     let P = pairs c.args.p in
-    c.loop-j.j * P + P ≤ tableRoom
-fits c = section-fits c.args.p (well-pair c.args.p c.requires.0.0) c.loop-j.j c.loop-j-test.true
+    c.loop-j.j * P + P ≤ table_room
+fits c = section_fits c.args.p (well_pair c.args.p c.requires.0.0) c.loop-j.j c.loop-j-test.true
 
 pub overflow_mul-pairs : goal.overflow_mul-pairs
-overflow_mul-pairs c = omega (arith, pairs-small c.args.p (well-pair c.args.p c.requires.0.0))
+overflow_mul-pairs c = omega (arith, pairs_small c.args.p (well_pair c.args.p c.requires.0.0))
 
 pub loop-j-init : goal.loop-j-init
-loop-j-init c = (omega arith, begun-start)
+loop-j-init c = (omega arith, begun_start)
 
 pub overflow_mul-from : goal.overflow_mul-from
 overflow_mul-from c = omega (arith, fits (goal.at.overflow_mul-from c).In-loop-j)
@@ -37,15 +37,15 @@ slice_bounds-first_entries-end c = omega (arith, fits (goal.at.slice_bounds-firs
 
 pub first_entries-requires : goal.first_entries-requires
 first_entries-requires c =
-    let w = well-pair c.args.p c.requires.0.0 in
+    let w = well_pair c.args.p c.requires.0.0 in
     let P = pairs c.args.p in
     let a = c.loop-j.j * P in
     let k = a + P - a in
     let room : a + k ≤ length c.loop-j.table = omega (arith, fits (goal.at.first_entries-requires c).In-loop-j, c.loop-j.invariant.1.long, c.requires.1) in
-    ((w.concrete.states-high, w.abstraction.states-high), cut-long k a c.loop-j.table room ∙ omega arith)
+    ((w.concrete.states_high, w.abstraction.states_high), cut_long k a c.loop-j.table room ∙ omega arith)
 
 pub overflow_step-j : goal.overflow_step-j
-overflow_step-j c = omega (arith, c.loop-j-test.true, (well-pair c.args.p c.requires.0.0).abstraction.sets-high)
+overflow_step-j c = omega (arith, c.loop-j-test.true, (well_pair c.args.p c.requires.0.0).abstraction.sets_high)
 
 pub loop-j-smaller : goal.loop-j-smaller
 loop-j-smaller c = omega (arith, c.loop-j-test.true)
@@ -56,7 +56,7 @@ loop-j-preserved c =
     let a = c.loop-j.j * P in
     let e : a + P - a ≡ P = omega arith in (
       omega (arith, c.loop-j-test.true),
-      begun-turn (omega (arith, fits (goal.at.loop-j-preserved c).In-loop-j, c.requires.1)) refl e c.first_entries.ensures c.loop-j.invariant.1,
+      begun_turn (omega (arith, fits (goal.at.loop-j-preserved c).In-loop-j, c.requires.1)) refl e c.first_entries.ensures c.loop-j.invariant.1,
     )
 
 pub shape_of-table : goal.shape_of-table

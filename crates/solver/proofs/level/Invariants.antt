@@ -1,13 +1,13 @@
 use Prim.Native.Nat.{◌-◌, ◌≤◌}
-use Rattle.machine.specs.Machines.{pairUnder}
-use Rattle.rows.specs.Rows.{pairsIn}
+use Rattle.machine.specs.Machines.{pair_under}
+use Rattle.rows.specs.Rows.{pairs_in}
 use Rattle.solver.specs.Ranking.{LevelMade}
 use Rattle.solver.proofs.level.Given as goal
 
 abbrev pub invariant-loop-k : goal.invariant-loop-k
 invariant-loop-k l =
-    let p = pairUnder l.hidden l.concrete l.abstraction in
-    (l.k ≤ l.m) × LevelMade p (pairsIn p l.goals) l.initial.part l.l l.k l.seen l.part
+    let p = pair_under l.hidden l.concrete l.abstraction in
+    (l.k ≤ l.m) × LevelMade p (pairs_in p l.goals) l.initial.part l.l l.k l.seen l.part
 
 abbrev pub decreases-loop-k : goal.decreases-loop-k
 decreases-loop-k l = l.m - l.k

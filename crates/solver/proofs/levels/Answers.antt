@@ -2,23 +2,23 @@
 use mathlib.Core.Path.{◌≡◌, refl, sym, ap, ◌∙◌}
 use Prim.Native.Nat.{ℕ, ◌*◌}
 use native.Mathlib.Omega.{arith}
-use Rattle.machine.specs.Machines.{setsC, pairs}
-use Rattle.machine.specs.WellFormedLaws.{well-pair, pairs-small}
-use Rattle.solver.specs.RankRowsLaws.{ranked-none}
-use Rattle.solver.specs.LevelLaws.{ranked-trans, ranked-self, ranked-at, levels-start, levels-stop, levels-out}
+use Rattle.machine.specs.Machines.{sets_c, pairs}
+use Rattle.machine.specs.WellFormedLaws.{well_pair, pairs_small}
+use Rattle.solver.specs.RankRowsLaws.{ranked_none}
+use Rattle.solver.specs.LevelLaws.{ranked_trans, ranked_self, ranked_at, levels_start, levels_stop, levels_out}
 use Rattle.solver.proofs.levels.Goals as goal
 use Rattle.solver.proofs.levels.Goals.{Start}
 
 pub overflow_mul-l-end : goal.overflow_mul-l-end
-overflow_mul-l-end c = omega (arith, pairs-small c.args.p (well-pair c.args.p c.requires.0.0.well))
+overflow_mul-l-end c = omega (arith, pairs_small c.args.p (well_pair c.args.p c.requires.0.0.well))
 
 pub loop-l-init : goal.loop-l-init
 loop-l-init c =
-    ((refl, omega arith), record { rows_are = levels-start c.requires.0.0 c.requires.0.1; ranked = ranked-at (omega arith) (ranked-none c.args.p (well-pair c.args.p c.requires.0.0.well) _ c.requires.0.1.only-matched c.requires.1) })
+    ((refl, omega arith), record { rows_are = levels_start c.requires.0.0 c.requires.0.1; ranked = ranked_at (omega arith) (ranked_none c.args.p (well_pair c.args.p c.requires.0.0.well) _ c.requires.0.1.only_matched c.requires.1) })
 
 pub level-next-requires : goal.level-next-requires
 level-next-requires c =
-    (c.requires.0, (omega (arith, c.loop-l.invariant.0.0, c.loop-l-test.true), (c.loop-l.invariant.1.rows_are, ranked-self c.loop-l.invariant.1.ranked)))
+    (c.requires.0, (omega (arith, c.loop-l.invariant.0.0, c.loop-l-test.true), (c.loop-l.invariant.1.rows_are, ranked_self c.loop-l.invariant.1.ranked)))
 
 pub shape_of-part-then-same_rows : goal.shape_of-part-then-same_rows
 shape_of-part-then-same_rows c =
@@ -27,12 +27,12 @@ shape_of-part-then-same_rows c =
 pub returns-then-same_rows : goal.returns-then-same_rows
 returns-then-same_rows c =
     let n = c.level-next.ensures in
-    levels-stop c.requires.0.0 c.requires.0.1 (omega (arith, c.loop-l.invariant.0.0, c.loop-l-test.true)) c.loop-l.invariant.1.rows_are n.0 (sym c.same_rows.ensures ∙ c.if-same_rows.true)
-    (ranked-trans c.loop-l.invariant.1.ranked n.1)
+    levels_stop c.requires.0.0 c.requires.0.1 (omega (arith, c.loop-l.invariant.0.0, c.loop-l-test.true)) c.loop-l.invariant.1.rows_are n.0 (sym c.same_rows.ensures ∙ c.if-same_rows.true)
+    (ranked_trans c.loop-l.invariant.1.ranked n.1)
 
 pub overflow_step-l : goal.overflow_step-l
 overflow_step-l c =
-    omega (arith, c.loop-l.invariant.0.0, c.loop-l-test.true, pairs-small c.args.p (well-pair c.args.p c.requires.0.0.well))
+    omega (arith, c.loop-l.invariant.0.0, c.loop-l-test.true, pairs_small c.args.p (well_pair c.args.p c.requires.0.0.well))
 
 pub loop-l-smaller : goal.loop-l-smaller
 loop-l-smaller c = omega (arith, c.loop-l-test.true)
@@ -40,7 +40,7 @@ loop-l-smaller c = omega (arith, c.loop-l-test.true)
 pub loop-l-preserved : goal.loop-l-preserved
 loop-l-preserved c =
     let n = c.level-next.ensures in
-    ((c.loop-l.invariant.0.0, omega (arith, c.loop-l-test.true)), record { rows_are = n.0; ranked = ranked-trans c.loop-l.invariant.1.ranked n.1 })
+    ((c.loop-l.invariant.0.0, omega (arith, c.loop-l-test.true)), record { rows_are = n.0; ranked = ranked_trans c.loop-l.invariant.1.ranked n.1 })
 
 pub shape_of-part : goal.shape_of-part
 shape_of-part c = c.loop-l.invariant.1.ranked.bounded.long ∙ sym c.requires.1.long
@@ -48,4 +48,4 @@ shape_of-part c = c.loop-l.invariant.1.ranked.bounded.long ∙ sym c.requires.1.
 pub returns : goal.returns
 returns c =
     let e : c.loop-l.l ≡ pairs c.args.p = omega (arith, c.loop-l.invariant.0.0, c.loop-l.invariant.0.1, c.loop-l-test.false) in
-    (levels-out c.requires.0.0 c.requires.0.1 e c.loop-l.invariant.1.rows_are, ranked-at (ap (λ (n : ℕ). n * setsC c.args.p) e) c.loop-l.invariant.1.ranked)
+    (levels_out c.requires.0.0 c.requires.0.1 e c.loop-l.invariant.1.rows_are, ranked_at (ap (λ (n : ℕ). n * sets_c c.args.p) e) c.loop-l.invariant.1.ranked)

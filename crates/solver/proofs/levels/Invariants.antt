@@ -1,12 +1,12 @@
 use mathlib.Core.Path.{◌≡◌}
 use Prim.Native.Nat.{◌-◌, ◌≤◌}
 use Rattle.machine.specs.Machines.{pairs}
-use Rattle.rows.specs.Rows.{pairsIn}
+use Rattle.rows.specs.Rows.{pairs_in}
 use Rattle.solver.specs.Ranking.{LevelReached}
 use Rattle.solver.proofs.levels.Given as goal
 
 abbrev pub invariant-loop-l : goal.invariant-loop-l
-invariant-loop-l l = ((l.l-end ≡ pairs l.p) × (l.l ≤ l.l-end)) × LevelReached l.p (pairsIn l.p l.goals) l.initial.part l.l l.y l.part
+invariant-loop-l l = ((l.l-end ≡ pairs l.p) × (l.l ≤ l.l-end)) × LevelReached l.p (pairs_in l.p l.goals) l.initial.part l.l l.y l.part
 
 abbrev pub decreases-loop-l : goal.decreases-loop-l
 decreases-loop-l l = l.l-end - l.l

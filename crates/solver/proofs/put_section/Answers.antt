@@ -1,13 +1,13 @@
 -- At the loop's head the section's earlier rows are the set's, and all other rows are the family's.
 use native.Mathlib.Omega.{arith}
-use Rattle.solver.specs.FamilyRowsLaws.{put-none, put-more, put-done}
+use Rattle.solver.specs.FamilyRowsLaws.{put_none, put_more, put_done}
 use Rattle.solver.proofs.put_section.Goals as goal
 
 pub loop-c-init : goal.loop-c-init
-loop-c-init c = (omega arith, put-none c.requires.1)
+loop-c-init c = (omega arith, put_none c.requires.1)
 
 pub loop-c-preserved : goal.loop-c-preserved
-loop-c-preserved c = (omega arith, put-more (omega arith) (omega arith) c.loop-c.invariant.1)
+loop-c-preserved c = (omega arith, put_more (omega arith) (omega arith) c.loop-c.invariant.1)
 
 pub returns : goal.returns
-returns c = put-done (omega arith) c.loop-c.invariant.1
+returns c = put_done (omega arith) c.loop-c.invariant.1

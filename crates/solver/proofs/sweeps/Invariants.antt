@@ -1,5 +1,5 @@
 use Prim.Native.Nat.{◌+◌, ◌*◌, ◌^◌}
-use Rattle.machine.specs.Table.{coveredCount}
+use Rattle.machine.specs.Table.{covered_count}
 use Rattle.solver.specs.Sweeps.{Sweeping}
 use Rattle.solver.proofs.sweeps.Given as goal
 
@@ -7,4 +7,4 @@ abbrev pub invariant-loop-due : goal.invariant-loop-due
 invariant-loop-due l = Sweeping l.p l.initial.table l.due l.table
 
 abbrev pub decreases-loop-due : goal.decreases-loop-due
-decreases-loop-due l = coveredCount l.p l.table * 2 ^ 64 + l.due
+decreases-loop-due l = covered_count l.p l.table * 2 ^ 64 + l.due

@@ -3,26 +3,26 @@ use mathlib.Core.Path.{◌≡◌, refl, ap, ◌∙◌}
 use Prim.Native.Nat.{◌+◌, ◌-◌, ◌*◌, ◌≤◌}
 use native.Mathlib.Omega.{arith}
 use lib.ListN.{length}
-use Rattle.machine.specs.Machines.{setsA, pairs}
-use Rattle.machine.specs.Table.{tableRoom}
-use Rattle.machine.specs.WellFormedLaws.{well-pair, pairs-small, section-fits}
-use Rattle.rows.specs.WriteLaws.{cut-long}
-use Rattle.solver.specs.FamilyRowsLaws.{flat-length, flat-none, turn-more, turn-all}
-use Rattle.solver.specs.SweepLaws.{ranked-start, ranked-more, ranked-done}
+use Rattle.machine.specs.Machines.{sets_a, pairs}
+use Rattle.machine.specs.Table.{table_room}
+use Rattle.machine.specs.WellFormedLaws.{well_pair, pairs_small, section_fits}
+use Rattle.rows.specs.WriteLaws.{cut_long}
+use Rattle.solver.specs.FamilyRowsLaws.{flat_length, flat_none, turn_more, turn_all}
+use Rattle.solver.specs.SweepLaws.{ranked_start, ranked_more, ranked_done}
 use Rattle.solver.proofs.turn.Goals as goal
 use Rattle.solver.proofs.turn.Goals.{In-loop-j, Start}
 
 -- the section lies within the table
 fits : (c : In-loop-j) →
     let P = pairs c.args.p in
-    c.loop-j.j * P + P ≤ tableRoom
-fits c = section-fits c.args.p (well-pair c.args.p c.requires.0.well) c.loop-j.j c.loop-j-test.true
+    c.loop-j.j * P + P ≤ table_room
+fits c = section_fits c.args.p (well_pair c.args.p c.requires.0.well) c.loop-j.j c.loop-j-test.true
 
 pub overflow_mul-pairs : goal.overflow_mul-pairs
-overflow_mul-pairs c = omega (arith, pairs-small c.args.p (well-pair c.args.p c.requires.0.well))
+overflow_mul-pairs c = omega (arith, pairs_small c.args.p (well_pair c.args.p c.requires.0.well))
 
 pub loop-j-init : goal.loop-j-init
-loop-j-init c = ((omega arith, ranked-start c.args.p (well-pair c.args.p c.requires.0.well)), flat-none _)
+loop-j-init c = ((omega arith, ranked_start c.args.p (well_pair c.args.p c.requires.0.well)), flat_none _)
 
 pub overflow_mul-from : goal.overflow_mul-from
 overflow_mul-from c = omega (arith, fits (goal.at.overflow_mul-from c).In-loop-j)
@@ -42,10 +42,10 @@ turn_section-next-requires c =
     let a = c.loop-j.j * P in
     let k = a + P - a in
     let room : a + k ≤ length c.loop-j.table = omega (arith, fits (goal.at.turn_section-next-requires c).In-loop-j, c.loop-j.invariant.0.1.long, c.requires.1) in
-    (c.requires.0, (c.loop-j-test.true, (cut-long k a c.loop-j.table room ∙ omega arith, ap length c.loop-j.invariant.1 ∙ flat-length _)))
+    (c.requires.0, (c.loop-j-test.true, (cut_long k a c.loop-j.table room ∙ omega arith, ap length c.loop-j.invariant.1 ∙ flat_length _)))
 
 pub overflow_step-j : goal.overflow_step-j
-overflow_step-j c = omega (arith, c.loop-j-test.true, (well-pair c.args.p c.requires.0.well).abstraction.sets-high)
+overflow_step-j c = omega (arith, c.loop-j-test.true, (well_pair c.args.p c.requires.0.well).abstraction.sets_high)
 
 pub loop-j-smaller : goal.loop-j-smaller
 loop-j-smaller c = omega (arith, c.loop-j-test.true)
@@ -53,13 +53,13 @@ loop-j-smaller c = omega (arith, c.loop-j-test.true)
 pub loop-j-preserved : goal.loop-j-preserved
 loop-j-preserved c =
     let x = c.args in
-    let w = well-pair c.args.p c.requires.0.well in
+    let w = well_pair c.args.p c.requires.0.well in
     let P = pairs x.p in
     let a = c.loop-j.j * P in
     let e : a + P - a ≡ P = omega arith in
     let made = c.turn_section-next.ensures in (
-      (omega (arith, c.loop-j-test.true), ranked-more x.p w c.requires.1 c.loop-j-test.true refl e made.1 c.loop-j.invariant.0.1),
-      made.0 ∙ turn-more x.p w x.family c.loop-j.j c.loop-j-test.true c.loop-j.invariant.1,
+      (omega (arith, c.loop-j-test.true), ranked_more x.p w c.requires.1 c.loop-j-test.true refl e made.1 c.loop-j.invariant.0.1),
+      made.0 ∙ turn_more x.p w x.family c.loop-j.j c.loop-j-test.true c.loop-j.invariant.1,
     )
 
 pub shape_of-table : goal.shape_of-table
@@ -67,5 +67,5 @@ shape_of-table c = c.loop-j.invariant.0.1.long
 
 pub returns : goal.returns
 returns c =
-    let e : c.loop-j.j ≡ setsA c.args.p = omega (arith, c.loop-j.invariant.0.0, c.loop-j-test.false) in
-    (c.loop-j.invariant.1 ∙ turn-all c.args.p (well-pair c.args.p c.requires.0.well) c.args.family e, ranked-done c.args.p (well-pair c.args.p c.requires.0.well) e c.requires.1 c.loop-j.invariant.0.1)
+    let e : c.loop-j.j ≡ sets_a c.args.p = omega (arith, c.loop-j.invariant.0.0, c.loop-j-test.false) in
+    (c.loop-j.invariant.1 ∙ turn_all c.args.p (well_pair c.args.p c.requires.0.well) c.args.family e, ranked_done c.args.p (well_pair c.args.p c.requires.0.well) e c.requires.1 c.loop-j.invariant.0.1)

@@ -3,35 +3,35 @@ use mathlib.Core.List.{List}
 use mathlib.Core.Path.{◌≡◌, ap, ◌∙◌}
 use Prim.Native.Nat.{ℕ}
 use native.Mathlib.Omega.{arith}
-use Rattle.machine.specs.Machines.{setsA}
-use Rattle.machine.specs.StepLaws.{next-lt}
-use Rattle.machine.specs.WellFormedLaws.{well-pair}
+use Rattle.machine.specs.Machines.{sets_a}
+use Rattle.machine.specs.StepLaws.{next_lt}
+use Rattle.machine.specs.WellFormedLaws.{well_pair}
 use Rattle.machine.specs.Game.{goals, levels}
-use Rattle.rows.specs.Rows.{rowsOf}
-use Rattle.solver.specs.Families.{familyIn, putSection}
-use Rattle.solver.specs.FamilyRowsLaws.{goals-done, goals-hold, goals-back}
+use Rattle.rows.specs.Rows.{rows_of}
+use Rattle.solver.specs.Families.{family_in, put_section}
+use Rattle.solver.specs.FamilyRowsLaws.{goals_done, goals_hold, goals_back}
 use Rattle.solver.proofs.turn_section.Goals as goal
 use Rattle.solver.proofs.turn_section.Goals.{After-goals-g, Start}
 
-goals-are : (c : After-goals-g) → let x = c.args in c.goals-g.result ≡ rowsOf (goals x.p (familyIn x.p x.family.now) x.j)
-goals-are c =
-    goals-done c.args.p (well-pair c.args.p c.requires.0.well) c.args.family.now c.args.j c.requires.1.0 c.requires.0.matched-are c.requires.0.predecessors-are
+goals_are : (c : After-goals-g) → let x = c.args in c.goals-g.result ≡ rows_of (goals x.p (family_in x.p x.family.now) x.j)
+goals_are c =
+    goals_done c.args.p (well_pair c.args.p c.requires.0.well) c.args.family.now c.args.j c.requires.1.0 c.requires.0.matched_are c.requires.0.predecessors_are
     c.next_section.ensures c.section_rows-rows.ensures c.join_rows-next.ensures c.goals-g.ensures
 
 pub section_rows-rows-requires : goal.section_rows-rows-requires
 section_rows-rows-requires c =
-    omega (arith, c.next_section.ensures, next-lt (setsA c.args.p) c.args.j c.requires.1.0, (well-pair c.args.p c.requires.0.well).abstraction.sets-high)
+    omega (arith, c.next_section.ensures, next_lt (sets_a c.args.p) c.args.j c.requires.1.0, (well_pair c.args.p c.requires.0.well).abstraction.sets_high)
 
 pub afresh-set-requires : goal.afresh-set-requires
 afresh-set-requires c =
-    ((c.requires.0, goals-hold c.args.p (well-pair c.args.p c.requires.0.well) c.args.family.now c.args.j (goals-are (goal.at.afresh-set-requires c).After-goals-g)), c.requires.1.1.0)
+    ((c.requires.0, goals_hold c.args.p (well_pair c.args.p c.requires.0.well) c.args.family.now c.args.j (goals_are (goal.at.afresh-set-requires c).After-goals-g)), c.requires.1.1.0)
 
 pub put_section-requires : goal.put_section-requires
-put_section-requires c = (omega (arith, c.requires.1.0, (well-pair c.args.p c.requires.0.well).abstraction.sets-high), c.requires.1.1.1)
+put_section-requires c = (omega (arith, c.requires.1.0, (well_pair c.args.p c.requires.0.well).abstraction.sets_high), c.requires.1.1.1)
 
 pub returns : goal.returns
 returns c =
     let x = c.args in
     let made = c.afresh-set in
-    let back = goals-back x.p (well-pair c.args.p c.requires.0.well) x.family.now x.j (goals-are (goal.at.returns c).After-goals-g) in
-    (c.put_section.ensures ∙ ap (putSection x.made.now x.j) (made.ensures.0 ∙ ap (λ (G : List ℕ). rowsOf (levels x.p G)) back), rw back at made.ensures.1)
+    let back = goals_back x.p (well_pair c.args.p c.requires.0.well) x.family.now x.j (goals_are (goal.at.returns c).After-goals-g) in
+    (c.put_section.ensures ∙ ap (put_section x.made.now x.j) (made.ensures.0 ∙ ap (λ (G : List ℕ). rows_of (levels x.p G)) back), rw back at made.ensures.1)

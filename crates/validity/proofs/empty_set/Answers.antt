@@ -3,11 +3,11 @@ use mathlib.Core.Path.{◌≡◌, ap, ◌∙◌}
 use Prim.Native.Nat.{ℕ}
 use lib.ListN.{length}
 use borrow.Author.Rules.{rules}
-use Rattle.machine.specs.WellFormed.{firstEmpty}
+use Rattle.machine.specs.WellFormed.{first_empty}
 use Rattle.validity.proofs.empty_set.Goals as goal
 
 pub returns : goal.returns
 returns c =
     let m = c.args.m in
     let eight : length m.fairness ≡ 8 = search rules in
-    c.first_empty.ensures ∙ ap (λ (n : ℕ). firstEmpty n m.sets m.fairness) eight
+    c.first_empty.ensures ∙ ap (λ (n : ℕ). first_empty n m.sets m.fairness) eight

@@ -3,7 +3,7 @@ use mathlib.Core.Path.{sym}
 use native.Mathlib.Omega.{arith}
 use lib.ListN.{length}
 use borrow.Author.Count.{below_none, below_more}
-use Rattle.machine.specs.FirstEmptyLaws.{empty-at, empty-none}
+use Rattle.machine.specs.FirstEmptyLaws.{empty_at, empty_none}
 use Rattle.validity.proofs.first_empty.Goals as goal
 use Rattle.validity.proofs.first_empty.Goals.{else-i-count, then-i-count+else-masks-i-eq0}
 
@@ -14,7 +14,7 @@ pub returns-then-masks-i-eq0 : goal.returns-then-masks-i-eq0
 returns-then-masks-i-eq0 c =
     let l = c.loop-i in
     let x = c.args in
-    sym (empty-at (length x.masks.now) x.count x.masks.now l.i (omega arith) (omega arith) c.if-masks-i-eq0.true l.invariant)
+    sym (empty_at (length x.masks.now) x.count x.masks.now l.i (omega arith) (omega arith) c.if-masks-i-eq0.true l.invariant)
 
 pub loop-i-preserved : goal.loop-i-preserved
 loop-i-preserved c =
@@ -26,4 +26,4 @@ loop-i-preserved c =
 pub returns : goal.returns
 returns c =
     let x = c.args in
-    sym (empty-none (length x.masks.now) x.count x.masks.now (λ k h. c.loop-i.invariant k (omega arith)))
+    sym (empty_none (length x.masks.now) x.count x.masks.now (λ k h. c.loop-i.invariant k (omega arith)))

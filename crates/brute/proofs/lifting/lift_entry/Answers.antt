@@ -1,50 +1,50 @@
 -- An entry's number tells its section, c and a, which are within the counts.
 use mathlib.Core.Path.{◌∙◌, sym}
 use native.Mathlib.Omega.{arith}
-use Rattle.machine.specs.WellFormedLaws.{WellPair, pairs-small, ranks-small, some-pairs, well-pair}
-use Rattle.brute.specs.LiftingLaws.{Located, lifted-failing, lifted-passing, located}
+use Rattle.machine.specs.WellFormedLaws.{WellPair, pairs_small, ranks_small, some_pairs, well_pair}
+use Rattle.brute.specs.LiftingLaws.{Located, lifted_failing, lifted_passing, located}
 use Rattle.brute.proofs.lifting.lift_entry.Goals as goal
 use Rattle.brute.proofs.lifting.lift_entry.Goals.{Start}
 
 well : (c : Start) → WellPair c.args.p.now
-well c = well-pair c.args.p.now c.requires.0
+well c = well_pair c.args.p.now c.requires.0
 
 place : (c : Start) → Located c.args.p.now c.args.e
 place c = located c.args.p.now (well c) c.args.e c.requires.1.0
 
 pub overflow_mul-pairs : goal.overflow_mul-pairs
-overflow_mul-pairs c = omega (arith, pairs-small _ (well (goal.at.overflow_mul-pairs c).Start))
+overflow_mul-pairs c = omega (arith, pairs_small _ (well (goal.at.overflow_mul-pairs c).Start))
 
 pub nonzero_rem-c : goal.nonzero_rem-c
-nonzero_rem-c c = some-pairs _ (well (goal.at.nonzero_rem-c c).Start)
+nonzero_rem-c c = some_pairs _ (well (goal.at.nonzero_rem-c c).Start)
 
 pub nonzero_div-c : goal.nonzero_div-c
-nonzero_div-c c = (well (goal.at.nonzero_div-c c).Start).abstraction.states-low
+nonzero_div-c c = (well (goal.at.nonzero_div-c c).Start).abstraction.states_low
 
 pub nonzero_rem-a : goal.nonzero_rem-a
-nonzero_rem-a c = (well (goal.at.nonzero_rem-a c).Start).abstraction.states-low
+nonzero_rem-a c = (well (goal.at.nonzero_rem-a c).Start).abstraction.states_low
 
 pub nonzero_div-e : goal.nonzero_div-e
-nonzero_div-e c = some-pairs _ (well (goal.at.nonzero_div-e c).Start)
+nonzero_div-e c = some_pairs _ (well (goal.at.nonzero_div-e c).Start)
 
 pub entry_passes-requires : goal.entry_passes-requires
 entry_passes-requires c =
     let w = well (goal.at.entry_passes-requires c).Start in
     let q = place (goal.at.entry_passes-requires c).Start in
-    (c.requires.0, (q.in-section, (omega (arith, q.in-row, w.concrete.states-high), omega (arith, q.in-column, w.abstraction.states-high))))
+    (c.requires.0, (q.in_section, (omega (arith, q.in_row_lem, w.concrete.states_high), omega (arith, q.in_column, w.abstraction.states_high))))
 
 pub overflow_mul-concrete : goal.overflow_mul-concrete
-overflow_mul-concrete c = omega (arith, ranks-small _ (well (goal.at.overflow_mul-concrete c).Start))
+overflow_mul-concrete c = omega (arith, ranks_small _ (well (goal.at.overflow_mul-concrete c).Start))
 
 pub raise-requires : goal.raise-requires
-raise-requires c = ranks-small _ (well (goal.at.raise-requires c).Start)
+raise-requires c = ranks_small _ (well (goal.at.raise-requires c).Start)
 
 pub returns-then-not-entry_passes : goal.returns-then-not-entry_passes
 returns-then-not-entry_passes c =
     let x = c.args in
-    lifted-failing x.p.now x.e x.table.now (sym c.entry_passes.ensures ∙ c.if-not-entry_passes.true) c.raise.ensures
+    lifted_failing x.p.now x.e x.table.now (sym c.entry_passes.ensures ∙ c.if-not-entry_passes.true) c.raise.ensures
 
 pub returns-else-not-entry_passes : goal.returns-else-not-entry_passes
 returns-else-not-entry_passes c =
     let x = c.args in
-    lifted-passing x.p.now x.e x.table.now (sym c.entry_passes.ensures ∙ c.if-not-entry_passes.false)
+    lifted_passing x.p.now x.e x.table.now (sym c.entry_passes.ensures ∙ c.if-not-entry_passes.false)

@@ -3,22 +3,22 @@ use mathlib.Core.Path.{◌∙◌, ◌≡◌, refl}
 use native.Mathlib.Omega.{arith}
 use borrow.Author.Rules.{rules}
 use Rattle.machine.specs.Table.{entries}
-use Rattle.machine.specs.WellFormedLaws.{WellPair, entries-small, pairs-small, well-pair}
-use Rattle.brute.specs.LiftingLaws.{swept-next, swept-none}
+use Rattle.machine.specs.WellFormedLaws.{WellPair, entries_small, pairs_small, well_pair}
+use Rattle.brute.specs.LiftingLaws.{swept_next, swept_none}
 use Rattle.brute.proofs.lifting.sweep.Goals as goal
 use Rattle.brute.proofs.lifting.sweep.Goals.{Start}
 
 well : (c : Start) → WellPair c.args.p.now
-well c = well-pair c.args.p.now c.requires.0
+well c = well_pair c.args.p.now c.requires.0
 
 pub overflow_mul-e-end : goal.overflow_mul-e-end
-overflow_mul-e-end c = omega (arith, pairs-small _ (well (goal.at.overflow_mul-e-end c).Start))
+overflow_mul-e-end c = omega (arith, pairs_small _ (well (goal.at.overflow_mul-e-end c).Start))
 
 pub overflow_mul-e-end-2 : goal.overflow_mul-e-end-2
-overflow_mul-e-end-2 c = omega (arith, entries-small _ (well (goal.at.overflow_mul-e-end-2 c).Start))
+overflow_mul-e-end-2 c = omega (arith, entries_small _ (well (goal.at.overflow_mul-e-end-2 c).Start))
 
 pub loop-e-init : goal.loop-e-init
-loop-e-init c = let x = c.args in (search rules, refl, swept-none x.p.now x.table.now)
+loop-e-init c = let x = c.args in (search rules, refl, swept_none x.p.now x.table.now)
 
 pub lift_entry-requires : goal.lift_entry-requires
 lift_entry-requires c =
@@ -28,7 +28,7 @@ pub loop-e-preserved : goal.loop-e-preserved
 loop-e-preserved c =
     let call = c.lift_entry in
     let x = c.args in
-    (search rules, call.auto.table ∙ c.loop-e.invariant.1, swept-next x.p.now x.table.now c.loop-e.e c.loop-e.invariant.2 call.ensures)
+    (search rules, call.auto.table ∙ c.loop-e.invariant.1, swept_next x.p.now x.table.now c.loop-e.e c.loop-e.invariant.2 call.ensures)
 
 pub shape_of-table : goal.shape_of-table
 shape_of-table c = c.loop-e.invariant.1

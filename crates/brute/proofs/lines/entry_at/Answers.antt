@@ -1,14 +1,14 @@
 -- The place of the entry is a small number, and past the table's end both sides are 0.
 use Prim.Native.Nat.{◌*◌, ◌+◌, ◌≤◌}
 use native.Mathlib.Omega.{arith}
-use Rattle.machine.specs.Table.{entry, entryIndex}
-use Rattle.machine.specs.WellFormedLaws.{well-pair}
-use Rattle.brute.specs.TargetLaws.{place-small}
+use Rattle.machine.specs.Table.{entry, entry_index}
+use Rattle.machine.specs.WellFormedLaws.{well_pair}
+use Rattle.brute.specs.TargetLaws.{place_small}
 use Rattle.brute.proofs.lines.entry_at.Goals as goal
 use Rattle.brute.proofs.lines.entry_at.Goals.{Start}
 
 room : (c : Start) → (c.args.j * c.args.p.now.concrete.states ≤ 384) × ((c.args.j * c.args.p.now.concrete.states + c.args.c) * c.args.p.now.abstraction.states ≤ 40896)
-room c = let x = c.args in place-small x.p.now (well-pair x.p.now c.requires.0) x.j x.c (omega arith) (omega arith)
+room c = let x = c.args in place_small x.p.now (well_pair x.p.now c.requires.0) x.j x.c (omega arith) (omega arith)
 
 pub overflow_mul-j : goal.overflow_mul-j
 overflow_mul-j c = omega (arith, room (goal.at.overflow_mul-j c).Start)
@@ -23,5 +23,5 @@ pub overflow_add-j-2 : goal.overflow_add-j-2
 overflow_add-j-2 c = omega (arith, room (goal.at.overflow_add-j-2 c).Start)
 
 pub returns : goal.returns
-unfolding entry entryIndex
+unfolding entry entry_index
 returns c = c.value_at.ensures

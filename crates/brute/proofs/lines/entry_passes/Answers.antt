@@ -1,38 +1,38 @@
 -- The cases are those of the definition: blank, not matched, above the greatest rank, 0, and a rank.
 use mathlib.Core.Path.{◌∙◌, sym}
 use native.Mathlib.Omega.{arith}
-use Rattle.machine.specs.LinesLaws.{blank-passes}
-use Rattle.machine.specs.WellFormedLaws.{WellPair, pairs-small, ranks-small, well-pair}
-use Rattle.brute.specs.TargetLaws.{pass-above, pass-goal, pass-rank, pass-unmatched}
+use Rattle.machine.specs.LinesLaws.{blank_passes}
+use Rattle.machine.specs.WellFormedLaws.{WellPair, pairs_small, ranks_small, well_pair}
+use Rattle.brute.specs.TargetLaws.{pass_above, pass_goal, pass_rank, pass_unmatched}
 use Rattle.brute.proofs.lines.entry_passes.Goals as goal
 use Rattle.brute.proofs.lines.entry_passes.Goals.{Start}
 
 well : (c : Start) → WellPair c.args.p.now
-well c = well-pair c.args.p.now c.requires.0
+well c = well_pair c.args.p.now c.requires.0
 
 pub entry_at-e-requires : goal.entry_at-e-requires
-entry_at-e-requires c = let w = well (goal.at.entry_at-e-requires c).Start in (c.requires.0, omega (arith, w.abstraction.sets-high))
+entry_at-e-requires c = let w = well (goal.at.entry_at-e-requires c).Start in (c.requires.0, omega (arith, w.abstraction.sets_high))
 
 pub returns-then-e : goal.returns-then-e
 returns-then-e c =
     let x = c.args in
-    sym (blank-passes x.p.now x.table.now x.j x.c x.a (sym c.entry_at-e.ensures ∙ c.if-e.true))
+    sym (blank_passes x.p.now x.table.now x.j x.c x.a (sym c.entry_at-e.ensures ∙ c.if-e.true))
 
 pub returns-then-not-is_matched : goal.returns-then-not-is_matched
 returns-then-not-is_matched c =
     let x = c.args in
-    sym (pass-unmatched x.p.now x.table.now x.j x.c x.a (λ e. c.if-e.false (c.entry_at-e.ensures ∙ e)) (sym c.is_matched.ensures ∙ c.if-not-is_matched.true))
+    sym (pass_unmatched x.p.now x.table.now x.j x.c x.a (λ e. c.if-e.false (c.entry_at-e.ensures ∙ e)) (sym c.is_matched.ensures ∙ c.if-not-is_matched.true))
 
 pub overflow_mul-concrete : goal.overflow_mul-concrete
-overflow_mul-concrete c = omega (arith, pairs-small _ (well (goal.at.overflow_mul-concrete c).Start))
+overflow_mul-concrete c = omega (arith, pairs_small _ (well (goal.at.overflow_mul-concrete c).Start))
 
 pub overflow_mul-concrete-2 : goal.overflow_mul-concrete-2
-overflow_mul-concrete-2 c = omega (arith, ranks-small _ (well (goal.at.overflow_mul-concrete-2 c).Start))
+overflow_mul-concrete-2 c = omega (arith, ranks_small _ (well (goal.at.overflow_mul-concrete-2 c).Start))
 
 pub returns-then-e-concrete : goal.returns-then-e-concrete
 returns-then-e-concrete c =
     let x = c.args in
-    sym (pass-above x.p.now x.table.now x.j x.c x.a (λ e. c.if-e.false (c.entry_at-e.ensures ∙ e)) (sym c.is_matched.ensures ∙ c.if-not-is_matched.false) (rw (← c.entry_at-e.ensures) c.if-e-concrete.true))
+    sym (pass_above x.p.now x.table.now x.j x.c x.a (λ e. c.if-e.false (c.entry_at-e.ensures ∙ e)) (sym c.is_matched.ensures ∙ c.if-not-is_matched.false) (rw (← c.entry_at-e.ensures) c.if-e-concrete.true))
 
 pub goal_holds-requires : goal.goal_holds-requires
 goal_holds-requires c = (c.requires.0, c.requires.1.0)
@@ -41,13 +41,13 @@ pub returns-then-e-eq0 : goal.returns-then-e-eq0
 returns-then-e-eq0 c =
     let x = c.args in
     c.goal_holds.ensures
-    ∙ sym (pass-goal x.p.now x.table.now x.j x.c x.a (λ e. c.if-e.false (c.entry_at-e.ensures ∙ e)) (sym c.is_matched.ensures ∙ c.if-not-is_matched.false) (sym c.entry_at-e.ensures ∙ c.if-e-eq0.true))
+    ∙ sym (pass_goal x.p.now x.table.now x.j x.c x.a (λ e. c.if-e.false (c.entry_at-e.ensures ∙ e)) (sym c.is_matched.ensures ∙ c.if-not-is_matched.false) (sym c.entry_at-e.ensures ∙ c.if-e-eq0.true))
 
 pub rank_holds-requires : goal.rank_holds-requires
-rank_holds-requires c = let w = well (goal.at.rank_holds-requires c).Start in (c.requires.0, omega (arith, w.abstraction.sets-high, c.requires.1.0))
+rank_holds-requires c = let w = well (goal.at.rank_holds-requires c).Start in (c.requires.0, omega (arith, w.abstraction.sets_high, c.requires.1.0))
 
 pub returns : goal.returns
 returns c =
     let x = c.args in
     c.rank_holds.ensures ∙ rw c.entry_at-e.ensures
-    (sym (pass-rank x.p.now x.table.now x.j x.c x.a (λ e. c.if-e.false (c.entry_at-e.ensures ∙ e)) (sym c.is_matched.ensures ∙ c.if-not-is_matched.false) (rw (← c.entry_at-e.ensures) c.if-e-concrete.false) (λ e. c.if-e-eq0.false (c.entry_at-e.ensures ∙ e))))
+    (sym (pass_rank x.p.now x.table.now x.j x.c x.a (λ e. c.if-e.false (c.entry_at-e.ensures ∙ e)) (sym c.is_matched.ensures ∙ c.if-not-is_matched.false) (rw (← c.entry_at-e.ensures) c.if-e-concrete.false) (λ e. c.if-e-eq0.false (c.entry_at-e.ensures ∙ e))))

@@ -1,8 +1,8 @@
 -- The definitions of l and k, read of one less than the entry.
 use mathlib.Core.Path.{refl}
-use Rattle.machine.specs.Ranks.{levelOf, setOf}
+use Rattle.machine.specs.Ranks.{level_of, set_of}
 use Rattle.brute.proofs.lines.level_of.Goals as goal
 
 pub returns : goal.returns
-unfolding levelOf setOf
+unfolding level_of set_of
 returns c = refl

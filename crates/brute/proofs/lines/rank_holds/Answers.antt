@@ -1,22 +1,22 @@
 -- The entry's k is asked at c, and tells into which entries the pair has to step.
 use mathlib.Core.Path.{◌∙◌, ◌≡◌, sym}
 use native.Mathlib.Omega.{arith}
-use Rattle.machine.specs.Machines.{inFairSet, setsC}
-use Rattle.machine.specs.Ranks.{setOf}
-use Rattle.machine.specs.WellFormedLaws.{WellPair, well-pair}
-use Rattle.brute.specs.TargetLaws.{rank-inside, rank-outside}
+use Rattle.machine.specs.Machines.{in_fair_set, sets_c}
+use Rattle.machine.specs.Ranks.{set_of}
+use Rattle.machine.specs.WellFormedLaws.{WellPair, well_pair}
+use Rattle.brute.specs.TargetLaws.{rank_inside, rank_outside}
 use Rattle.brute.proofs.lines.rank_holds.Goals as goal
 use Rattle.brute.proofs.lines.rank_holds.Goals.{After-in_set, Start}
 
 well : (c : Start) → WellPair c.args.p.now
-well c = well-pair c.args.p.now c.requires.0
+well c = well_pair c.args.p.now c.requires.0
 
 -- set k, asked at c
-asked : (c : After-in_set) → let x = c.args in c.in_set.result ≡ inFairSet x.p.now.concrete (setOf (setsC x.p.now) x.e) x.c
+asked : (c : After-in_set) → let x = c.args in c.in_set.result ≡ in_fair_set x.p.now.concrete (set_of (sets_c x.p.now) x.e) x.c
 asked c = c.in_set.ensures ∙ rw c.level_of-rank.ensures
 
 pub level_of-rank-requires : goal.level_of-rank-requires
-level_of-rank-requires c = let w = well (goal.at.level_of-rank-requires c).Start in (w.concrete.sets-low, c.requires.1.1)
+level_of-rank-requires c = let w = well (goal.at.level_of-rank-requires c).Start in (w.concrete.sets_low, c.requires.1.1)
 
 pub steps_into-requires : goal.steps_into-requires
 steps_into-requires c = (c.requires.0, omega arith)
@@ -28,9 +28,9 @@ pub returns-then-in_set : goal.returns-then-in_set
 returns-then-in_set c =
     let x = c.args in
     c.steps_into.ensures ∙ rw c.level_of-rank.ensures
-    (sym (rank-inside x.p.now x.table.now x.j x.c x.a x.e (sym (asked (goal.at.returns-then-in_set c).After-in_set) ∙ c.if-in_set.true)))
+    (sym (rank_inside x.p.now x.table.now x.j x.c x.a x.e (sym (asked (goal.at.returns-then-in_set c).After-in_set) ∙ c.if-in_set.true)))
 
 pub returns-else-in_set : goal.returns-else-in_set
 returns-else-in_set c =
     let x = c.args in
-    c.steps_into-else-in_set.ensures ∙ sym (rank-outside x.p.now x.table.now x.j x.c x.a x.e (sym (asked (goal.at.returns-else-in_set c).After-in_set) ∙ c.if-in_set.false))
+    c.steps_into-else-in_set.ensures ∙ sym (rank_outside x.p.now x.table.now x.j x.c x.a x.e (sym (asked (goal.at.returns-else-in_set c).After-in_set) ∙ c.if-in_set.false))

@@ -1,8 +1,8 @@
 -- The lowest start state that lacks a partner tells which answer it is; both have the count, and whether a concrete set is empty.
 use mathlib.Core.Path.{ap, sym}
 use Rattle.machine.specs.Refusals.{answer}
-use Rattle.machine.specs.VerdictLaws.{start-carried, start-lacking}
-use Rattle.brute.specs.Lines.{verdictOf, emptySetOf}
+use Rattle.machine.specs.VerdictLaws.{start_carried, start_lacking}
+use Rattle.brute.specs.Lines.{verdict_of, empty_set_of}
 use Rattle.brute.proofs.lines.start_verdict.Goals as goal
 
 pub lacking_start-c-requires : goal.lacking_start-c-requires
@@ -15,19 +15,19 @@ pub covered-requires-else-c-concrete : goal.covered-requires-else-c-concrete
 covered-requires-else-c-concrete c = c.requires
 
 pub returns-then-c-concrete : goal.returns-then-c-concrete
-unfolding verdictOf emptySetOf
+unfolding verdict_of empty_set_of
 returns-then-c-concrete c =
     let x = c.args in
     record {
-      verdict = sym (ap answer (start-lacking x.p.now x.table.now _ _ c.covered.ensures c.lacking_start-c.ensures c.if-c-concrete.true));
+      verdict = sym (ap answer (start_lacking x.p.now x.table.now _ _ c.covered.ensures c.lacking_start-c.ensures c.if-c-concrete.true));
       empty = c.has_empty_set-empty.ensures;
     }
 
 pub returns-else-c-concrete : goal.returns-else-c-concrete
-unfolding verdictOf emptySetOf
+unfolding verdict_of empty_set_of
 returns-else-c-concrete c =
     let x = c.args in
     record {
-      verdict = sym (ap answer (start-carried x.p.now x.table.now _ _ c.covered-else-c-concrete.ensures c.lacking_start-c.ensures c.if-c-concrete.false));
+      verdict = sym (ap answer (start_carried x.p.now x.table.now _ _ c.covered-else-c-concrete.ensures c.lacking_start-c.ensures c.if-c-concrete.false));
       empty = c.has_empty_set-empty.ensures;
     }

@@ -3,28 +3,28 @@ use mathlib.Core.Path.{◌∙◌, sym}
 use native.Mathlib.Omega.{arith}
 use lib.Dec.{leb}
 use borrow.Author.Tests.{le-leb, lt-leb}
-use Rattle.mask.specs.LogicLaws.{and-false-l, and-false-r, and-i, and-true-l}
-use Rattle.machine.specs.WellFormed.{countsOk}
+use Rattle.mask.specs.LogicLaws.{and_false_l, and_false_r, and_i, and_true_l}
+use Rattle.machine.specs.WellFormed.{counts_ok}
 use Rattle.brute.proofs.machines.has_counts.Goals as goal
 
 pub returns-then-m-eq0 : goal.returns-then-m-eq0
-unfolding countsOk
+unfolding counts_ok
 returns-then-m-eq0 c =
     let m = c.args.m.now in
-    sym (and-false-l _ (and-false-l _ (lt-leb 1 m.states (omega arith))))
+    sym (and_false_l _ (and_false_l _ (lt-leb 1 m.states (omega arith))))
 
 pub returns-then-m-gt64 : goal.returns-then-m-gt64
-unfolding countsOk
-returns-then-m-gt64 c = sym (and-false-l _ (and-false-r (leb 1 c.args.m.now.states) (lt-leb _ 64 c.if-m-gt64.true)))
+unfolding counts_ok
+returns-then-m-gt64 c = sym (and_false_l _ (and_false_r (leb 1 c.args.m.now.states) (lt-leb _ 64 c.if-m-gt64.true)))
 
 pub returns-then-m-eq0-2 : goal.returns-then-m-eq0-2
-unfolding countsOk
+unfolding counts_ok
 returns-then-m-eq0-2 c =
     let m = c.args.m.now in
-    sym (and-false-r _ (and-false-l _ (lt-leb 1 m.sets (omega arith))))
+    sym (and_false_r _ (and_false_l _ (lt-leb 1 m.sets (omega arith))))
 
 pub returns : goal.returns
-unfolding countsOk
+unfolding counts_ok
 returns c =
     let m = c.args.m.now in
-    sym (and-true-l _ (and-i (le-leb 1 m.states (omega arith)) (le-leb m.states 64 (omega arith))) ∙ and-true-l _ (le-leb 1 m.sets (omega arith)))
+    sym (and_true_l _ (and_i (le-leb 1 m.states (omega arith)) (le-leb m.states 64 (omega arith))) ∙ and_true_l _ (le-leb 1 m.sets (omega arith)))

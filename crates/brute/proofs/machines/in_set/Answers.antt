@@ -1,7 +1,7 @@
 use mathlib.Core.Path.{◌∙◌}
-use Rattle.machine.specs.Machines.{inFairSet}
+use Rattle.machine.specs.Machines.{in_fair_set}
 use Rattle.brute.proofs.machines.in_set.Goals as goal
 
 pub returns : goal.returns
-unfolding inFairSet
+unfolding in_fair_set
 returns c = c.has.ensures ∙ rw c.set_of.ensures

@@ -3,21 +3,21 @@ use mathlib.Core.Path.{◌∙◌, ap}
 use Prim.Native.Nat.{◌+◌, ◌-◌}
 use native.Mathlib.Omega.{arith}
 use borrow.Author.Rules.{rules}
-use Rattle.brute.specs.Numbers.{digitOf}
-use Rattle.brute.specs.NumbersLaws.{digit-last, digit-rest}
+use Rattle.brute.specs.Numbers.{digit_of}
+use Rattle.brute.specs.NumbersLaws.{digit_last, digit_rest}
 use Rattle.brute.proofs.numbers.digit.Goals as goal
 
 pub loop-init : goal.loop-init
-loop-init c = (search rules, search rules, ap (digitOf c.args.top c.args.x) (omega arith))
+loop-init c = (search rules, search rules, ap (digit_of c.args.top c.args.x) (omega arith))
 
 pub loop-preserved : goal.loop-preserved
 loop-preserved c =
     let l = c.loop in
     let x = c.args in
-    (search rules, l.invariant.1, rw l.invariant.1 (digit-rest x.top l.rest (x.i - l.counter) (x.i - (l.counter + 1)) (omega arith) ∙ l.invariant.2))
+    (search rules, l.invariant.1, rw l.invariant.1 (digit_rest x.top l.rest (x.i - l.counter) (x.i - (l.counter + 1)) (omega arith) ∙ l.invariant.2))
 
 pub returns : goal.returns
 returns c =
     let l = c.loop in
     let x = c.args in
-    rw l.invariant.1 (digit-last x.top l.rest (x.i - l.counter) (omega arith) ∙ l.invariant.2)
+    rw l.invariant.1 (digit_last x.top l.rest (x.i - l.counter) (omega arith) ∙ l.invariant.2)

@@ -5,23 +5,23 @@ use Prim.Native.Nat.{◌+◌}
 use native.Mathlib.Omega.{arith}
 use lib.Dec.{ltb}
 use borrow.Author.Tests.{le-ltb, lt-ltb}
-use Rattle.mask.specs.FrontLaws.{front-all, front-none, front-turn}
-use Rattle.brute.specs.Numbers.{digitOf}
+use Rattle.mask.specs.FrontLaws.{front_all, front_none, front_turn}
+use Rattle.brute.specs.Numbers.{digit_of}
 use Rattle.brute.proofs.numbers.put_masks.Goals as goal
 use Rattle.brute.proofs.numbers.put_masks.Goals.{Joined-s-n, else-s-n, then-s-n}
 
 -- what a turn stores
-mask : (c : Joined-s-n) → let x = c.args in c.if-s-n.v ≡ cond (ltb c.loop-s.s x.n) (digitOf x.top x.x (x.at + c.loop-s.s)) 0
+mask : (c : Joined-s-n) → let x = c.args in c.if-s-n.v ≡ cond (ltb c.loop-s.s x.n) (digit_of x.top x.x (x.at + c.loop-s.s)) 0
 mask c = elim c.if-s-n.branch [
   | then-s-n w ↦ w.v-is ∙ w.digit-v.ensures ∙ rw (lt-ltb _ _ w.if-s-n.true)
   | else-s-n w ↦ w.v-is ∙ rw (le-ltb _ _ w.if-s-n.false)
 ]
 
 pub loop-s-init : goal.loop-s-init
-loop-s-init c = front-none _ _
+loop-s-init c = front_none _ _
 
 pub loop-s-preserved : goal.loop-s-preserved
-loop-s-preserved c = front-turn _ _ c.loop-s.invariant (omega arith) (mask c)
+loop-s-preserved c = front_turn _ _ c.loop-s.invariant (omega arith) (mask c)
 
 pub returns : goal.returns
-returns c = front-all _ _ c.loop-s.invariant (omega arith)
+returns c = front_all _ _ c.loop-s.invariant (omega arith)

@@ -1,24 +1,24 @@
 -- The invariant: the first i elements are the digits of x.
 use Prim.Native.Nat.{◌≤◌}
 use native.Mathlib.Omega.{arith}
-use Rattle.mask.specs.FrontLaws.{front-all, front-none, front-turn}
-use Rattle.brute.specs.Numbers.{statesOf}
-use Rattle.brute.specs.NumbersLaws.{digit-le}
+use Rattle.mask.specs.FrontLaws.{front_all, front_none, front_turn}
+use Rattle.brute.specs.Numbers.{states_of}
+use Rattle.brute.specs.NumbersLaws.{digit_le}
 use Rattle.brute.proofs.numbers.put_states.Goals as goal
 use Rattle.brute.proofs.numbers.put_states.Goals.{After-digit-d}
 
 small : (c : After-digit-d) → c.digit-d.result ≤ c.args.top
-small c = let x = c.args in rw c.digit-d.ensures (digit-le x.top x.x c.loop-i.i)
+small c = let x = c.args in rw c.digit-d.ensures (digit_le x.top x.x c.loop-i.i)
 
 pub loop-i-init : goal.loop-i-init
-loop-i-init c = front-none _ _
+loop-i-init c = front_none _ _
 
 pub overflow_cast-out : goal.overflow_cast-out
 overflow_cast-out c = omega (arith, small (goal.at.overflow_cast-out c).After-digit-d)
 
 pub loop-i-preserved : goal.loop-i-preserved
-loop-i-preserved c = front-turn _ _ c.loop-i.invariant (omega arith) c.digit-d.ensures
+loop-i-preserved c = front_turn _ _ c.loop-i.invariant (omega arith) c.digit-d.ensures
 
 pub returns : goal.returns
-unfolding statesOf
-returns c = front-all _ _ c.loop-i.invariant (omega arith)
+unfolding states_of
+returns c = front_all _ _ c.loop-i.invariant (omega arith)

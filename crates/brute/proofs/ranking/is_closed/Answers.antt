@@ -1,13 +1,13 @@
 -- The set is laid out as a table, and none of its pairs fails the rule.
 use native.Mathlib.Omega.{arith}
-use Rattle.machine.specs.WellFormedLaws.{pairs-small, well-pair}
-use Rattle.brute.specs.RankingLaws.{closed-is}
+use Rattle.machine.specs.WellFormedLaws.{pairs_small, well_pair}
+use Rattle.brute.specs.RankingLaws.{closed_is}
 use Rattle.brute.proofs.ranking.is_closed.Goals as goal
 
 pub overflow_mul-pairs : goal.overflow_mul-pairs
-overflow_mul-pairs c = omega (arith, pairs-small c.args.p.now (well-pair _ c.requires.0))
+overflow_mul-pairs c = omega (arith, pairs_small c.args.p.now (well_pair _ c.requires.0))
 
 pub returns : goal.returns
 returns c =
     let x = c.args in
-    closed-is x.p.now x.lifted.now x.j x.ranks.now x.i x.x c.put_entries.ensures c.first_unkept.ensures
+    closed_is x.p.now x.lifted.now x.j x.ranks.now x.i x.x c.put_entries.ensures c.first_unkept.ensures

@@ -2,17 +2,17 @@
 use mathlib.Core.Path.{◌∙◌, ap, sym}
 use Prim.Native.Nat.{ℕ}
 use native.Mathlib.Omega.{arith}
-use Rattle.machine.specs.WellFormedLaws.{WellPair, pairs-small, well-pair}
+use Rattle.machine.specs.WellFormedLaws.{WellPair, pairs_small, well_pair}
 use Rattle.brute.specs.Ranking.{largest}
-use Rattle.brute.specs.RankingLaws.{largest-found, largest-less, largest-none}
+use Rattle.brute.specs.RankingLaws.{largest_found, largest_less, largest_none}
 use Rattle.brute.proofs.ranking.largest_set.Goals as goal
 use Rattle.brute.proofs.ranking.largest_set.Goals.{Start}
 
 well : (c : Start) → WellPair c.args.p.now
-well c = well-pair c.args.p.now c.requires.0
+well c = well_pair c.args.p.now c.requires.0
 
 pub overflow_mul-concrete : goal.overflow_mul-concrete
-overflow_mul-concrete c = omega (arith, pairs-small _ (well (goal.at.overflow_mul-concrete c).Start))
+overflow_mul-concrete c = omega (arith, pairs_small _ (well (goal.at.overflow_mul-concrete c).Start))
 
 pub loop-x-init : goal.loop-x-init
 loop-x-init c = let a = c.args in ap (λ (x : ℕ). largest a.p.now a.lifted.now a.j a.ranks.now a.i x) c.full-x.ensures
@@ -23,14 +23,14 @@ is_closed-requires c = c.requires
 pub returns-then-is_closed : goal.returns-then-is_closed
 returns-then-is_closed c =
     let a = c.args in
-    sym (largest-found a.p.now a.lifted.now a.j a.ranks.now a.i c.loop-x.x c.loop-x-test.true (sym c.is_closed.ensures ∙ c.if-is_closed.true)) ∙ c.loop-x.invariant
+    sym (largest_found a.p.now a.lifted.now a.j a.ranks.now a.i c.loop-x.x c.loop-x-test.true (sym c.is_closed.ensures ∙ c.if-is_closed.true)) ∙ c.loop-x.invariant
 
 pub loop-x-preserved : goal.loop-x-preserved
 loop-x-preserved c =
     let a = c.args in
-    largest-less a.p.now a.lifted.now a.j a.ranks.now a.i c.loop-x.x c.loop-x-test.true (sym c.is_closed.ensures ∙ c.if-is_closed.false) ∙ c.loop-x.invariant
+    largest_less a.p.now a.lifted.now a.j a.ranks.now a.i c.loop-x.x c.loop-x-test.true (sym c.is_closed.ensures ∙ c.if-is_closed.false) ∙ c.loop-x.invariant
 
 pub returns : goal.returns
 returns c =
     let a = c.args in
-    sym (largest-none a.p.now a.lifted.now a.j a.ranks.now a.i c.loop-x.x c.loop-x-test.false) ∙ c.loop-x.invariant
+    sym (largest_none a.p.now a.lifted.now a.j a.ranks.now a.i c.loop-x.x c.loop-x-test.false) ∙ c.loop-x.invariant

@@ -4,42 +4,42 @@ use Prim.Native.Nat.{◌*◌, ℕ}
 use native.Mathlib.Omega.{arith}
 use lib.ListN.{length-replicate}
 use borrow.Author.Rules.{rules}
-use Rattle.machine.specs.Machines.{pairs, setsC}
-use Rattle.machine.specs.WellFormedLaws.{WellPair, pairs-small, ranks-small, well-pair}
-use Rattle.brute.specs.Ranking.{pairRoom}
-use Rattle.brute.specs.RankingLaws.{ranked-start, ranked-step}
+use Rattle.machine.specs.Machines.{pairs, sets_c}
+use Rattle.machine.specs.WellFormedLaws.{WellPair, pairs_small, ranks_small, well_pair}
+use Rattle.brute.specs.Ranking.{pair_room}
+use Rattle.brute.specs.RankingLaws.{ranked_start, ranked_step}
 use Rattle.brute.proofs.ranking.rank_pairs.Goals as goal
 use Rattle.brute.proofs.ranking.rank_pairs.Goals.{Start}
 
 well : (c : Start) → WellPair c.args.p.now
-well c = well-pair c.args.p.now c.requires.0
+well c = well_pair c.args.p.now c.requires.0
 
 pub overflow_mul-pairs : goal.overflow_mul-pairs
-overflow_mul-pairs c = omega (arith, pairs-small _ (well (goal.at.overflow_mul-pairs c).Start))
+overflow_mul-pairs c = omega (arith, pairs_small _ (well (goal.at.overflow_mul-pairs c).Start))
 
 pub overflow_mul-i-end : goal.overflow_mul-i-end
-overflow_mul-i-end c = omega (arith, ranks-small _ (well (goal.at.overflow_mul-i-end c).Start))
+overflow_mul-i-end c = omega (arith, ranks_small _ (well (goal.at.overflow_mul-i-end c).Start))
 
 pub loop-i-init : goal.loop-i-init
-loop-i-init c = let x = c.args in (search rules, refl, ranked-start x.p.now x.lifted.now x.j x.ranks.now)
+loop-i-init c = let x = c.args in (search rules, refl, ranked_start x.p.now x.lifted.now x.j x.ranks.now)
 
 pub put_largest-requires : goal.put_largest-requires
 put_largest-requires c =
     let s = (goal.at.put_largest-requires c).Start in
-    (s.requires.0, (s.requires.1.0, (c.loop-i-test.true, rw (length-replicate {A = ℕ} pairRoom 0) (pairs-small _ (well s)))))
+    (s.requires.0, (s.requires.1.0, (c.loop-i-test.true, rw (length-replicate {A = ℕ} pair_room 0) (pairs_small _ (well s)))))
 
 pub overflow_add-i : goal.overflow_add-i
-overflow_add-i c = omega (arith, ranks-small _ (well (goal.at.overflow_add-i c).Start))
+overflow_add-i c = omega (arith, ranks_small _ (well (goal.at.overflow_add-i c).Start))
 
 pub overflow_cast-i : goal.overflow_cast-i
-overflow_cast-i c = omega (arith, ranks-small _ (well (goal.at.overflow_cast-i c).Start))
+overflow_cast-i c = omega (arith, ranks_small _ (well (goal.at.overflow_cast-i c).Start))
 
 pub mark-requires : goal.mark-requires
 mark-requires c =
     rw c.loop-i.invariant.1 c.requires.1.1
 
 pub overflow_step-i : goal.overflow_step-i
-overflow_step-i c = omega (arith, ranks-small _ (well (goal.at.overflow_step-i c).Start))
+overflow_step-i c = omega (arith, ranks_small _ (well (goal.at.overflow_step-i c).Start))
 
 pub loop-i-preserved : goal.loop-i-preserved
 loop-i-preserved c =
@@ -47,7 +47,7 @@ loop-i-preserved c =
     let l = c.loop-i in (
       search rules,
       c.mark.auto.ranks ∙ l.invariant.1,
-      ranked-step x.p.now x.lifted.now x.j x.ranks.now l.i l.invariant.2 c.put_largest.ensures c.mark.ensures,
+      ranked_step x.p.now x.lifted.now x.j x.ranks.now l.i l.invariant.2 c.put_largest.ensures c.mark.ensures,
     )
 
 pub shape_of-ranks : goal.shape_of-ranks
@@ -56,4 +56,4 @@ shape_of-ranks c = c.loop-i.invariant.1
 pub returns : goal.returns
 returns c =
     let p = c.args.p.now in
-    let e : c.loop-i.i ≡ setsC p * pairs p = omega arith in rw (← e) c.loop-i.invariant.2
+    let e : c.loop-i.i ≡ sets_c p * pairs p = omega arith in rw (← e) c.loop-i.invariant.2

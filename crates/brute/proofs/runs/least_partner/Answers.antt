@@ -5,12 +5,12 @@ use Prim.Native.Nat.{◌*◌, ◌-◌, ◌<◌, ◌≤◌, ℕ}
 use native.Mathlib.Omega.{arith}
 use lib.ListN.{get_or}
 use borrow.Author.Rules.{rules}
-use Rattle.mask.specs.LogicLaws.{and-false-l, and-i, and-r, clash, refute}
-use Rattle.machine.specs.LinesLaws.{covers-of, nonBlank-at, nonBlank-of}
-use Rattle.machine.specs.Step.{partner, staying, singleStep}
-use Rattle.machine.specs.SingleStepLaws.{staying-low, staying-high}
+use Rattle.mask.specs.LogicLaws.{and_false_l, and_i, and_r, clash, refute}
+use Rattle.machine.specs.LinesLaws.{covers_of, non_blank_at, non_blank_of}
+use Rattle.machine.specs.Step.{partner, staying, single_step}
+use Rattle.machine.specs.SingleStepLaws.{staying_low, staying_high}
 use Rattle.machine.specs.Table.{blank, covers, entry}
-use Rattle.brute.specs.ScanLaws.{entry-below, scan-keep, scan-miss, scan-start, scan-take, keyed}
+use Rattle.brute.specs.ScanLaws.{entry_below, scan_keep, scan_miss, scan_start, scan_take, keyed}
 use Rattle.brute.proofs.runs.least_partner.Goals as goal
 use Rattle.brute.proofs.runs.least_partner.Invariants.{wanted}
 use Rattle.brute.proofs.runs.least_partner.Goals.{At-loop-a, else-has, then-has+else-is_matched, then-has+then-is_matched+else-key-limit, then-has+then-is_matched+then-key-limit}
@@ -19,7 +19,7 @@ small : (c : At-loop-a) → (i : ℕ) → get_or c.args.table.now i 0 ≤ blank
 small c i = omega (arith, c.type_inv.table i)
 
 pub loop-a-init : goal.loop-a-init
-loop-a-init c = (search rules, scan-start _ _ _)
+loop-a-init c = (search rules, scan_start _ _ _)
 
 pub entry_at-requires : goal.entry_at-requires
 entry_at-requires c = (c.requires.0, omega arith)
@@ -41,23 +41,23 @@ loop-a-preserved c =
             let k : w.staying_key-key.result ≡ key l.a = keyed x.present e l.a _ _ w.entry_at.ensures w.staying_key-key.ensures in
             let h : key l.a < l.limit = rw (← k) w.if-key-limit.true in
             let n : covers x.p.now T x.j x.d l.a ≡ true =
-            covers-of x.p.now T x.j x.d l.a (λ z. omega (arith, l.invariant.1.limit-le, staying-low x.present e l.a)) in
-            rw (w.best-is, w.limit-is, k) (scan-take q key bound l.a l.best l.limit l.invariant.1 (and-i (bit ∙ w.if-has.true) (nonBlank-of x.p.now T x.j x.d l.a m n)) h)
-        | then-has+then-is_matched+else-key-limit w ↦ rw (w.best-is, w.limit-is) (scan-keep q key bound l.a l.best l.limit l.invariant.1
+            covers_of x.p.now T x.j x.d l.a (λ z. omega (arith, l.invariant.1.limit_le, staying_low x.present e l.a)) in
+            rw (w.best-is, w.limit-is, k) (scan_take q key bound l.a l.best l.limit l.invariant.1 (and_i (bit ∙ w.if-has.true) (non_blank_of x.p.now T x.j x.d l.a m n)) h)
+        | then-has+then-is_matched+else-key-limit w ↦ rw (w.best-is, w.limit-is) (scan_keep q key bound l.a l.best l.limit l.invariant.1
             (λ t. omega (
               arith,
-              staying-high x.present e l.a,
-              entry-below x.p.now T (small (goal.at.loop-a-preserved c).At-loop-a) x.j x.d l.a (nonBlank-at x.p.now T x.j x.d l.a (and-r _ _ t)).1,
+              staying_high x.present e l.a,
+              entry_below x.p.now T (small (goal.at.loop-a-preserved c).At-loop-a) x.j x.d l.a (non_blank_at x.p.now T x.j x.d l.a (and_r _ _ t)).1,
             ))
             (rw (← keyed x.present e l.a _ _ w.entry_at.ensures w.staying_key-key.ensures) w.if-key-limit.false))
-        | then-has+else-is_matched w ↦ rw (w.best-is, w.limit-is) (scan-miss q key bound l.a l.best l.limit l.invariant.1 (refute _ (λ t. clash (sym w.is_matched.ensures ∙ w.if-is_matched.false) (nonBlank-at x.p.now T x.j x.d l.a (and-r _ _ t)).0)))
-        | else-has w ↦ rw (w.best-is, w.limit-is) (scan-miss q key bound l.a l.best l.limit l.invariant.1 (and-false-l _ (bit ∙ w.if-has.false)))
+        | then-has+else-is_matched w ↦ rw (w.best-is, w.limit-is) (scan_miss q key bound l.a l.best l.limit l.invariant.1 (refute _ (λ t. clash (sym w.is_matched.ensures ∙ w.if-is_matched.false) (non_blank_at x.p.now T x.j x.d l.a (and_r _ _ t)).0)))
+        | else-has w ↦ rw (w.best-is, w.limit-is) (scan_miss q key bound l.a l.best l.limit l.invariant.1 (and_false_l _ (bit ∙ w.if-has.false)))
       ],
     )
 
 pub returns : goal.returns
-unfolding singleStep partner
+unfolding single_step partner
 returns c =
     let l = c.loop-a in
     let e : l.a ≡ 64 = omega arith in
-    sym (rw e at l.invariant.1.best-is)
+    sym (rw e at l.invariant.1.best_is)

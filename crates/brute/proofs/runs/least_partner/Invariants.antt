@@ -1,9 +1,9 @@
 use mathlib.Core.Bool.{Bool}
 use mathlib.Core.List.{List}
 use Prim.Native.Nat.{ℕ}
-use Rattle.mask.specs.Bits.{hasBit}
+use Rattle.mask.specs.Bits.{has_bit}
 use Rattle.mask.specs.Logic.{and}
-use Rattle.machine.specs.Lines.{nonBlank}
+use Rattle.machine.specs.Lines.{non_blank}
 use Rattle.machine.specs.declared.Pair.{Pair}
 use Prim.Native.Nat.{◌*◌, ◌-◌, ◌≤◌}
 use Rattle.machine.specs.Step.{staying}
@@ -12,7 +12,7 @@ use Rattle.brute.specs.ScanLaws.{Scanned}
 use Rattle.brute.proofs.runs.least_partner.Given as goal
 
 abbrev pub wanted : Pair → List ℕ → ℕ → ℕ → ℕ → ℕ → Bool
-wanted p T moves j d a = and (hasBit moves a) (nonBlank p T j d a)
+wanted p T moves j d a = and (has_bit moves a) (non_blank p T j d a)
 
 abbrev pub invariant-loop-a : goal.invariant-loop-a
 invariant-loop-a l = (l.a ≤ 64) × Scanned (wanted l.p l.table l.moves l.j l.d) (staying l.present (entry l.p l.table l.j l.d)) (2 * blank - 1) l.a l.best l.limit

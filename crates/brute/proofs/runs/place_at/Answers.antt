@@ -4,22 +4,22 @@ use native.Mathlib.Numerals.{add-one}
 use native.Mathlib.Omega.{arith}
 use borrow.Author.Rules.{rules}
 use Rattle.machine.specs.Lassos.{given}
-use Rattle.machine.specs.Player.{startPartner}
-use Rattle.machine.specs.PlayerLaws.{start-single}
-use Rattle.machine.specs.WellFormedLaws.{WellPair, well-pair}
-use Rattle.brute.specs.Runs.{asPlace}
-use Rattle.brute.specs.ScanLaws.{Placed, place-next, place-start, placed}
+use Rattle.machine.specs.Player.{start_partner}
+use Rattle.machine.specs.PlayerLaws.{start_single}
+use Rattle.machine.specs.WellFormedLaws.{WellPair, well_pair}
+use Rattle.brute.specs.Runs.{as_place}
+use Rattle.brute.specs.ScanLaws.{Placed, place_next, place_start, placed}
 use Rattle.brute.proofs.runs.place_at.Goals as goal
 use Rattle.brute.proofs.runs.place_at.Goals.{At-loop-i, Start}
 
 well : (c : Start) → WellPair c.args.p.now
-well c = well-pair c.args.p.now c.requires
+well c = well_pair c.args.p.now c.requires
 
-here : (c : At-loop-i) → Placed c.args.p.now c.args.table.now (asPlace c.loop-i.at)
+here : (c : At-loop-i) → Placed c.args.p.now c.args.table.now (as_place c.loop-i.at)
 here c =
     let x = c.args in
-    let w = well-pair x.p.now c.requires in
-    rw c.loop-i.invariant.1 (placed x.p.now x.table.now (given x.stem.now x.cycle.now) w.abstraction.sets-low c.loop-i.i)
+    let w = well_pair x.p.now c.requires in
+    rw c.loop-i.invariant.1 (placed x.p.now x.table.now (given x.stem.now x.cycle.now) w.abstraction.sets_low c.loop-i.i)
 
 pub least_partner-found-requires : goal.least_partner-found-requires
 least_partner-found-requires c = (c.requires, omega (arith, c.moment_at.type_inv))
@@ -28,10 +28,10 @@ pub loop-i-init : goal.loop-i-init
 loop-i-init c =
     let x = c.args in
     let l = given x.stem.now x.cycle.now in
-    (search rules, rw c.state_of.ensures (place-start x.p.now x.table.now l _ (c.least_partner-found.ensures ∙ start-single x.p.now x.table.now _ _ (omega arith) ∙ ap (startPartner x.p.now x.table.now) c.moment_at.ensures)))
+    (search rules, rw c.state_of.ensures (place_start x.p.now x.table.now l _ (c.least_partner-found.ensures ∙ start_single x.p.now x.table.now _ _ (omega arith) ∙ ap (start_partner x.p.now x.table.now) c.moment_at.ensures)))
 
 pub step_to-at-requires : goal.step_to-at-requires
-step_to-at-requires c = let h = here (goal.at.step_to-at-requires c).At-loop-i in (c.requires, omega (arith, c.moment_at-c.type_inv, c.moment_at-d.type_inv, h.state-in, h.section-in))
+step_to-at-requires c = let h = here (goal.at.step_to-at-requires c).At-loop-i in (c.requires, omega (arith, c.moment_at-c.type_inv, c.moment_at-d.type_inv, h.state_in, h.section_in))
 
 pub loop-i-preserved : goal.loop-i-preserved
 loop-i-preserved c =
@@ -39,7 +39,7 @@ loop-i-preserved c =
     let T = x.table.now in
     let l = given x.stem.now x.cycle.now in (
       search rules,
-      rw add-one (c.step_to-at.ensures ∙ rw (c.moment_at-c.ensures, c.moment_at-d.ensures, add-one) (place-next x.p.now T l c.loop-i.i (asPlace c.loop-i.at) c.loop-i.invariant.1)),
+      rw add-one (c.step_to-at.ensures ∙ rw (c.moment_at-c.ensures, c.moment_at-d.ensures, add-one) (place_next x.p.now T l c.loop-i.i (as_place c.loop-i.at) c.loop-i.invariant.1)),
     )
 
 pub returns : goal.returns

@@ -4,14 +4,14 @@ use Prim.Native.Nat.{◌*◌, ◌≤◌}
 use native.Mathlib.Omega.{arith}
 use lib.ListN.{length}
 use Rattle.machine.specs.Lassos.{given}
-use Rattle.machine.specs.WellFormedLaws.{mul-bound}
-use Rattle.brute.specs.ScanLaws.{place-other, place-same}
+use Rattle.machine.specs.WellFormedLaws.{mul_bound}
+use Rattle.brute.specs.ScanLaws.{place_other, place_same}
 use Rattle.brute.proofs.runs.same_place.Goals as goal
 use Rattle.brute.proofs.runs.same_place.Goals.{Start}
 
 -- both loop starts are small numbers
 room : (c : Start) → (c.args.x * length c.args.cycle.now ≤ 28736) × (c.args.y * length c.args.cycle.now ≤ 28736)
-room c = let a = c.args in (mul-bound a.x (length a.cycle.now) 449 64 (omega arith) (omega arith), mul-bound a.y (length a.cycle.now) 449 64 (omega arith) (omega arith))
+room c = let a = c.args in (mul_bound a.x (length a.cycle.now) 449 64 (omega arith) (omega arith), mul_bound a.y (length a.cycle.now) 449 64 (omega arith) (omega arith))
 
 pub overflow_mul-x : goal.overflow_mul-x
 overflow_mul-x c = omega (arith, room (goal.at.overflow_mul-x c).Start)
@@ -34,9 +34,9 @@ place_at-v-requires c = c.requires.0
 pub returns-then-u-v : goal.returns-then-u-v
 returns-then-u-v c =
     let a = c.args in
-    sym (place-other a.p.now a.table.now (given a.stem.now a.cycle.now) a.x a.y _ _ c.place_at-u.ensures c.place_at-v.ensures c.if-u-v.true)
+    sym (place_other a.p.now a.table.now (given a.stem.now a.cycle.now) a.x a.y _ _ c.place_at-u.ensures c.place_at-v.ensures c.if-u-v.true)
 
 pub returns : goal.returns
 returns c =
     let a = c.args in
-    sym (place-same a.p.now a.table.now (given a.stem.now a.cycle.now) a.x a.y _ _ c.place_at-u.ensures c.place_at-v.ensures c.if-u-v.false)
+    sym (place_same a.p.now a.table.now (given a.stem.now a.cycle.now) a.x a.y _ _ c.place_at-u.ensures c.place_at-v.ensures c.if-u-v.false)

@@ -1,14 +1,14 @@
 -- The section changes first, and the partner is looked for in the new one.
 use native.Mathlib.Omega.{arith}
-use Rattle.machine.specs.WellFormedLaws.{WellPair, well-pair}
-use Rattle.brute.specs.Runs.{asPlace}
-use Rattle.machine.specs.PlayerLaws.{section-lt}
-use Rattle.brute.specs.ScanLaws.{step-is}
+use Rattle.machine.specs.WellFormedLaws.{WellPair, well_pair}
+use Rattle.brute.specs.Runs.{as_place}
+use Rattle.machine.specs.PlayerLaws.{section_lt}
+use Rattle.brute.specs.ScanLaws.{step_is}
 use Rattle.brute.proofs.runs.step_to.Goals as goal
 use Rattle.brute.proofs.runs.step_to.Goals.{Start}
 
 well : (c : Start) → WellPair c.args.p.now
-well c = well-pair c.args.p.now c.requires.0
+well c = well_pair c.args.p.now c.requires.0
 
 pub section_after-j-requires : goal.section_after-j-requires
 section_after-j-requires c = (c.requires.0, omega arith)
@@ -17,9 +17,9 @@ pub least_partner-found-requires : goal.least_partner-found-requires
 least_partner-found-requires c =
     let x = c.args in
     let w = well (goal.at.least_partner-found-requires c).Start in
-    (c.requires.0, omega (arith, c.section_after-j.ensures, section-lt x.p.now x.table.now x.c (asPlace x.at) c.requires.1.1.1.1, w.abstraction.sets-high))
+    (c.requires.0, omega (arith, c.section_after-j.ensures, section_lt x.p.now x.table.now x.c (as_place x.at) c.requires.1.1.1.1, w.abstraction.sets_high))
 
 pub returns : goal.returns
 returns c =
     let x = c.args in
-    rw c.state_of.ensures (step-is x.p.now x.table.now x.c x.d _ (asPlace x.at) _ _ c.section_after-j.ensures c.successors_of-moves.ensures c.least_partner-found.ensures)
+    rw c.state_of.ensures (step_is x.p.now x.table.now x.c x.d _ (as_place x.at) _ _ c.section_after-j.ensures c.successors_of-moves.ensures c.least_partner-found.ensures)

@@ -2,11 +2,11 @@
 use mathlib.Core.Path.{refl, ◌∙◌}
 use native.Mathlib.Omega.{arith}
 use lib.ListN.{length-set}
-use Rattle.mask.specs.FrontLaws.{front-none, front-turn, front-end}
+use Rattle.mask.specs.FrontLaws.{front_none, front_turn, front_end}
 use Rattle.codec.proofs.reader.entries_at.Goals as goal
 
 pub loop-e-init : goal.loop-e-init
-loop-e-init c = (omega arith, refl, front-none _ _)
+loop-e-init c = (omega arith, refl, front_none _ _)
 
 pub overflow_cast-table : goal.overflow_cast-table
 overflow_cast-table c = omega (arith, c.number_at.ensures.small)
@@ -16,11 +16,11 @@ loop-e-preserved c =
     let l = c.loop-e in (
       omega arith,
       length-set l.table l.e c.number_at.result ∙ l.invariant.1,
-      front-turn _ _ l.invariant.2 (omega arith) c.number_at.ensures.value,
+      front_turn _ _ l.invariant.2 (omega arith) c.number_at.ensures.value,
     )
 
 pub shape_of-table : goal.shape_of-table
 shape_of-table c = c.loop-e.invariant.1
 
 pub returns : goal.returns
-returns c = front-end _ _ c.loop-e.invariant.2 (omega arith)
+returns c = front_end _ _ c.loop-e.invariant.2 (omega arith)

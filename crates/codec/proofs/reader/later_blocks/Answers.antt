@@ -4,34 +4,34 @@ use mathlib.Core.List.{List}
 use mathlib.Core.Path.{◌≡◌, sym, ap, subst, ◌∙◌}
 use native.Mathlib.Omega.{arith}
 use lib.ListN.{length}
-use Rattle.machine.specs.Refusals.{valid, testedOf}
-use Rattle.machine.specs.RefusalsLaws.{tested-valid, tested-refused, each-none, each-next, each-refused}
-use Rattle.codec.specs.Reader.{blockValidity, laterBlocks}
+use Rattle.machine.specs.Refusals.{valid, tested_of}
+use Rattle.machine.specs.RefusalsLaws.{tested_valid, tested_refused, each_none, each_next, each_refused}
+use Rattle.codec.specs.Reader.{block_validity, later_blocks}
 use Rattle.codec.proofs.reader.later_blocks.Invariants.{passed}
 use Rattle.codec.proofs.reader.later_blocks.Goals as goal
 
-next : (f : List ℕ) (i : ℕ) → blockValidity f (suc i) ≡ blockValidity f (i + 1)
-next f i = ap (blockValidity f) (omega arith)
+next : (f : List ℕ) (i : ℕ) → block_validity f (suc i) ≡ block_validity f (i + 1)
+next f i = ap (block_validity f) (omega arith)
 
-one-more : (f : List ℕ) (i : ℕ) → passed f i → blockValidity f (i + 1) ≡ valid → passed f (i + 1)
-one-more f i e h = let step : suc i ≡ i + 1 = omega arith in subst (passed f) step (each-next i _ e (next f i ∙ h))
+one_more : (f : List ℕ) (i : ℕ) → passed f i → block_validity f (i + 1) ≡ valid → passed f (i + 1)
+one_more f i e h = let step : suc i ≡ i + 1 = omega arith in subst (passed f) step (each_next i _ e (next f i ∙ h))
 
 pub loop-i-init : goal.loop-i-init
-loop-i-init c = (omega arith, each-none _)
+loop-i-init c = (omega arith, each_none _)
 
 pub returns-in-Refused : goal.returns-in-Refused
-unfolding testedOf laterBlocks
+unfolding tested_of later_blocks
 returns-in-Refused c =
     let l = c.loop-i in
-    sym (each-refused _ _ l.i (omega arith) l.invariant.1 (next _ l.i ∙ tested-refused c.block_validity-block.ensures c.in-Refused.is))
+    sym (each_refused _ _ l.i (omega arith) l.invariant.1 (next _ l.i ∙ tested_refused c.block_validity-block.ensures c.in-Refused.is))
 
 pub loop-i-preserved : goal.loop-i-preserved
 loop-i-preserved c =
     let l = c.loop-i in
-    (omega arith, one-more _ l.i l.invariant.1 (tested-valid c.block_validity-block.ensures c.in_default.is))
+    (omega arith, one_more _ l.i l.invariant.1 (tested_valid c.block_validity-block.ensures c.in_default.is))
 
 pub returns : goal.returns
-unfolding testedOf laterBlocks
+unfolding tested_of later_blocks
 returns c =
     let l = c.loop-i in
     let f = c.args.bytes.now in

@@ -2,12 +2,12 @@ use Prim.Native.Nat.{ℕ, suc, ◌≤◌}
 use mathlib.Core.List.{List}
 use mathlib.Core.Path.{◌≡◌}
 use Rattle.machine.specs.Refusals.{valid, each}
-use Rattle.codec.specs.Reader.{blockValidity}
+use Rattle.codec.specs.Reader.{block_validity}
 use Rattle.codec.proofs.reader.later_blocks.Given as goal
 
 -- the first n of the later blocks are valid
 abbrev pub passed : List ℕ → ℕ → Type 0
-passed f n = each n (λ k. blockValidity f (suc k)) ≡ valid
+passed f n = each n (λ k. block_validity f (suc k)) ≡ valid
 
 abbrev pub invariant-loop-i : goal.invariant-loop-i
 invariant-loop-i l = (l.i ≤ l.later) × passed l.bytes l.i

@@ -1,29 +1,29 @@
 -- The length is the one demanded, so the later blocks and the padding are left, in this order.
 use mathlib.Core.Path.{sym, ap, ◌∙◌}
 use native.Mathlib.Omega.{arith}
-use Rattle.mask.specs.LogicLaws.{not-i, not-f}
-use Rattle.machine.specs.Refusals.{refused, testedOf}
-use Rattle.machine.specs.RefusalsLaws.{tested-valid, tested-refused, then-of, then-refused}
-use Rattle.codec.proofs.ReaderLaws.{fitting, blocks-then}
+use Rattle.mask.specs.LogicLaws.{not_i, not_f}
+use Rattle.machine.specs.Refusals.{refused, tested_of}
+use Rattle.machine.specs.RefusalsLaws.{tested_valid, tested_refused, then_of, then_refused}
+use Rattle.codec.proofs.ReaderLaws.{fitting, blocks_then}
 use Rattle.codec.proofs.reader.later_validity.Goals as goal
 
 pub later_blocks-blocks-requires : goal.later_blocks-blocks-requires
 later_blocks-blocks-requires c = let w = fitting _ c.requires in omega arith
 
 pub returns-in-Refused : goal.returns-in-Refused
-unfolding testedOf
+unfolding tested_of
 returns-in-Refused c =
-    sym (blocks-then _ c.requires ∙ then-refused _ _ _ (tested-refused c.later_blocks-blocks.ensures c.in-Refused.is))
+    sym (blocks_then _ c.requires ∙ then_refused _ _ _ (tested_refused c.later_blocks-blocks.ensures c.in-Refused.is))
 
 pub returns-then-not-padding_holds : goal.returns-then-not-padding_holds
-unfolding testedOf
+unfolding tested_of
 returns-then-not-padding_holds c =
     ap refused c.refuse.ensures
-    ∙ sym (blocks-then _ c.requires ∙ then-of _ _ (tested-valid c.later_blocks-blocks.ensures c.in_default.is)
-    ∙ rw (not-i (sym c.padding_holds.ensures ∙ c.if-not-padding_holds.true)))
+    ∙ sym (blocks_then _ c.requires ∙ then_of _ _ (tested_valid c.later_blocks-blocks.ensures c.in_default.is)
+    ∙ rw (not_i (sym c.padding_holds.ensures ∙ c.if-not-padding_holds.true)))
 
 pub returns : goal.returns
-unfolding testedOf
+unfolding tested_of
 returns c =
-    sym (blocks-then _ c.requires ∙ then-of _ _ (tested-valid c.later_blocks-blocks.ensures c.in_default.is)
-    ∙ rw (not-f (sym c.padding_holds.ensures ∙ c.if-not-padding_holds.false)))
+    sym (blocks_then _ c.requires ∙ then_of _ _ (tested_valid c.later_blocks-blocks.ensures c.in_default.is)
+    ∙ rw (not_f (sym c.padding_holds.ensures ∙ c.if-not-padding_holds.false)))

@@ -2,22 +2,22 @@
 use mathlib.Core.Path.{refl, ◌∙◌}
 use native.Mathlib.Omega.{arith}
 use lib.ListN.{length-set}
-use Rattle.mask.specs.FrontLaws.{front-none, front-turn, front-end}
+use Rattle.mask.specs.FrontLaws.{front_none, front_turn, front_end}
 use Rattle.codec.proofs.reader.masks_at.Goals as goal
 
 pub loop-k-init : goal.loop-k-init
-loop-k-init c = (omega arith, refl, front-none _ _)
+loop-k-init c = (omega arith, refl, front_none _ _)
 
 pub loop-k-preserved : goal.loop-k-preserved
 loop-k-preserved c =
     let l = c.loop-k in (
       omega arith,
       length-set l.out l.k c.number_at.result ∙ l.invariant.1,
-      front-turn _ _ l.invariant.2 (omega arith) c.number_at.ensures.value,
+      front_turn _ _ l.invariant.2 (omega arith) c.number_at.ensures.value,
     )
 
 pub shape_of-out : goal.shape_of-out
 shape_of-out c = c.loop-k.invariant.1
 
 pub returns : goal.returns
-returns c = front-end _ _ c.loop-k.invariant.2 (omega arith)
+returns c = front_end _ _ c.loop-k.invariant.2 (omega arith)

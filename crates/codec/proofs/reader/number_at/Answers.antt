@@ -4,17 +4,17 @@ use mathlib.Core.Path.{◌≡◌, sym}
 use native.Mathlib.Omega.{arith}
 use mir.Syntax.{w64}
 use borrow.Author.Rules.{Fits-under}
-use Rattle.codec.specs.NumberLaws.{number-none, number-turn, turn-lt, turn-room}
+use Rattle.codec.specs.NumberLaws.{number_none, number_turn, turn_lt, turn_room}
 use Rattle.codec.proofs.reader.number_at.Goals as goal
 use Rattle.codec.proofs.reader.number_at.Goals.{In-loop-i}
 
 -- one byte more has room
 room : (c : In-loop-i) (b : ℕ) → b < 256 → c.loop-i.x * 256 + b < 2 ^ 64
 room c b h =
-    omega (arith, turn-room c.args.n c.loop-i.i (omega arith) (omega arith) c.loop-i.x (omega arith) (omega arith))
+    omega (arith, turn_room c.args.n c.loop-i.i (omega arith) (omega arith) c.loop-i.x (omega arith) (omega arith))
 
 pub loop-i-init : goal.loop-i-init
-loop-i-init c = let e : c.args.n - c.args.n ≡ 0 = omega arith in (omega arith, rw e (sym (number-none c.args.s.now (c.args.at + c.args.n))), rw e (omega arith))
+loop-i-init c = let e : c.args.n - c.args.n ≡ 0 = omega arith in (omega arith, rw e (sym (number_none c.args.s.now (c.args.at + c.args.n))), rw e (omega arith))
 
 pub overflow_mul-x : goal.overflow_mul-x
 overflow_mul-x c = omega (arith, room (goal.at.overflow_mul-x c).In-loop-i 0 (omega arith))
@@ -30,8 +30,8 @@ loop-i-preserved c =
     let l = c.loop-i in
     let a = c.args in (
       omega arith,
-      number-turn a.n l.i (omega arith) (omega arith) a.s.now a.at l.x l.invariant.1,
-      turn-lt a.n l.i (omega arith) (omega arith) l.x _ (omega (arith, c.type_inv.s (a.at + (l.i - 1)))) l.invariant.2,
+      number_turn a.n l.i (omega arith) (omega arith) a.s.now a.at l.x l.invariant.1,
+      turn_lt a.n l.i (omega arith) (omega arith) l.x _ (omega (arith, c.type_inv.s (a.at + (l.i - 1)))) l.invariant.2,
     )
 
 pub returns : goal.returns

@@ -5,7 +5,7 @@ use native.Mathlib.Omega.{arith}
 use lib.ListN.{length, get_or}
 use lib.Dec.{eqb}
 use Rattle.mask.specs.Bounded.{every}
-use Rattle.codec.proofs.ReaderLaws.{fitting, padding-is}
+use Rattle.codec.proofs.ReaderLaws.{fitting, padding_is}
 use Rattle.codec.proofs.reader.padding_holds.Goals as goal
 
 pub payload_demanded-len-requires : goal.payload_demanded-len-requires
@@ -25,4 +25,4 @@ returns c =
     let f = c.args.bytes.now in
     let n = length f / 512 in
     c.zeros.ensures ∙ ap (λ (len : ℕ). every (508 * n - len) (λ i. eqb (get_or f (len + 4 * n - 2 + i) 0) 0)) c.payload_demanded-len.ensures.value
-    ∙ padding-is f c.requires
+    ∙ padding_is f c.requires

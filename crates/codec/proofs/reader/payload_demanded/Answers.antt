@@ -1,10 +1,10 @@
 -- The header's bytes are the counts.
 use mathlib.Core.Path.{◌∙◌}
-use Rattle.codec.specs.Reader.{payloadDemanded}
+use Rattle.codec.specs.Reader.{payload_demanded}
 use Rattle.codec.proofs.reader.payload_demanded.Goals as goal
 
 pub returns : goal.returns
-unfolding payloadDemanded
+unfolding payload_demanded
 returns c = record {
   value = c.payload_length.ensures.value
       ∙ rw (

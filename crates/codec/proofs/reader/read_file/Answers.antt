@@ -1,37 +1,37 @@
 -- The tests are made in the order of the definition; where none of them refuses, what is taken is what is said.
 use mathlib.Core.Path.{◌≡◌, sym, ap, ◌∙◌}
-use Rattle.machine.specs.Refusals.{andThen, refused, valid}
-use Rattle.machine.specs.RefusalsLaws.{then-refused, tested-valid, tested-refused, buffer-kept}
-use Rattle.codec.specs.Reader.{firstValidity, blocksValidity, readAnswer, readTable}
-use Rattle.codec.proofs.ReaderLaws.{read-short, tests-refused, read-pair}
-use Rattle.codec.specs.AnswersLaws.{shown-refused}
+use Rattle.machine.specs.Refusals.{and_then, refused, valid}
+use Rattle.machine.specs.RefusalsLaws.{then_refused, tested_valid, tested_refused, buffer_kept}
+use Rattle.codec.specs.Reader.{first_validity, blocks_validity, read_answer, read_table}
+use Rattle.codec.proofs.ReaderLaws.{read_short, tests_refused, read_pair}
+use Rattle.codec.specs.AnswersLaws.{shown_refused}
 use Rattle.codec.proofs.reader.read_file.Goals as goal
 use Rattle.codec.proofs.reader.read_file.Goals.{In-Valid}
 
 -- the tests of the whole file say that it is right
-right : (c : In-Valid) → let f = c.args.bytes.now in andThen (firstValidity f) (blocksValidity f) ≡ valid
-right c = tested-valid c.file_validity.ensures c.in-Valid.is
+right : (c : In-Valid) → let f = c.args.bytes.now in and_then (first_validity f) (blocks_validity f) ≡ valid
+right c = tested_valid c.file_validity.ensures c.in-Valid.is
 
 pub returns-then-table-lt-TABLE_ROOM : goal.returns-then-table-lt-TABLE_ROOM
-unfolding readAnswer readTable
+unfolding read_answer read_table
 returns-then-table-lt-TABLE_ROOM c =
-    let e = read-short c.args.bytes.now _ c.if-table-lt-TABLE_ROOM.true in
-    let shown = shown-refused c.refused_show.result (then-refused _ _ _ e) (c.refused_show.ensures.answer ∙ ap refused c.refuse.ensures) c.refused_show.ensures.machines in
-    record { answer = shown.0; machines = shown.1; content = sym (buffer-kept _ _ _ e) }
+    let e = read_short c.args.bytes.now _ c.if-table-lt-TABLE_ROOM.true in
+    let shown = shown_refused c.refused_show.result (then_refused _ _ _ e) (c.refused_show.ensures.answer ∙ ap refused c.refuse.ensures) c.refused_show.ensures.machines in
+    record { answer = shown.0; machines = shown.1; content = sym (buffer_kept _ _ _ e) }
 
 pub take_show-requires : goal.take_show-requires
 take_show-requires c = record { bytes_value = right (goal.at.take_show-requires c).In-Valid; table_room_in_bounds = c.if-table-lt-TABLE_ROOM.false }
 
 pub returns-in-Refused : goal.returns-in-Refused
-unfolding readAnswer readTable
+unfolding read_answer read_table
 returns-in-Refused c =
-    let e = tests-refused c.args.bytes.now _ c.if-table-lt-TABLE_ROOM.false _ (tested-refused c.file_validity.ensures c.in-Refused.is) in
-    let shown = shown-refused c.refused_show-in-Refused.result (then-refused _ _ _ e) c.refused_show-in-Refused.ensures.answer c.refused_show-in-Refused.ensures.machines in
-    record { answer = shown.0; machines = shown.1; content = sym (buffer-kept _ _ _ e) }
+    let e = tests_refused c.args.bytes.now _ c.if-table-lt-TABLE_ROOM.false _ (tested_refused c.file_validity.ensures c.in-Refused.is) in
+    let shown = shown_refused c.refused_show-in-Refused.result (then_refused _ _ _ e) c.refused_show-in-Refused.ensures.answer c.refused_show-in-Refused.ensures.machines in
+    record { answer = shown.0; machines = shown.1; content = sym (buffer_kept _ _ _ e) }
 
 pub returns-in-Valid : goal.returns-in-Valid
-unfolding readAnswer readTable
+unfolding read_answer read_table
 returns-in-Valid c =
-    let e = read-pair c.args.bytes.now _ c.if-table-lt-TABLE_ROOM.false (right (goal.at.returns-in-Valid c).In-Valid) in
+    let e = read_pair c.args.bytes.now _ c.if-table-lt-TABLE_ROOM.false (right (goal.at.returns-in-Valid c).In-Valid) in
     let t = c.take_show.ensures in
     record { answer = rw e t.answer; machines = rw e t.machines; content = rw e t.content }

@@ -2,21 +2,21 @@
 use Prim.Native.Nat.{ℕ, ◌+◌, ◌*◌}
 use mathlib.Core.Path.{◌≡◌, ap₂, ◌∙◌}
 use native.Mathlib.Omega.{arith}
-use Rattle.codec.specs.Format.{numberAt}
-use Rattle.codec.specs.Loading.{entriesPlace, entriesCount}
+use Rattle.codec.specs.Format.{number_at}
+use Rattle.codec.specs.Loading.{entries_place, entries_count}
 use Rattle.mask.specs.Tables.{front}
-use Rattle.codec.proofs.ReaderLaws.{pairs-room, entries-fit, entries-end, table_is}
+use Rattle.codec.proofs.ReaderLaws.{pairs_room, entries_fit, entries_end, table_is}
 use Rattle.codec.proofs.reader.table_at.Goals as goal
 use Rattle.codec.proofs.reader.table_at.Goals.{After-payload_length-at}
 
 -- what the calls gave, of the file
 counted : (c : After-payload_length-at)
     → c.header_byte-n.result * (c.header_byte-c.result * c.header_byte-a.result)
-    ≡ entriesCount c.args.bytes.now
+    ≡ entries_count c.args.bytes.now
 counted c =
     rw (c.header_byte-c.ensures.value, c.header_byte-a.ensures.value, c.header_byte-n.ensures.value)
 
-placed : (c : After-payload_length-at) → c.payload_length-at.result ≡ entriesPlace c.args.bytes.now
+placed : (c : After-payload_length-at) → c.payload_length-at.result ≡ entries_place c.args.bytes.now
 placed c =
     c.payload_length-at.ensures.value
     ∙ rw (
@@ -27,19 +27,19 @@ placed c =
     )
 
 pub overflow_mul-c : goal.overflow_mul-c
-overflow_mul-c c = omega (arith, pairs-room c.header_byte-c.result c.header_byte-a.result (omega arith) (omega arith))
+overflow_mul-c c = omega (arith, pairs_room c.header_byte-c.result c.header_byte-a.result (omega arith) (omega arith))
 
 pub overflow_mul-n : goal.overflow_mul-n
 overflow_mul-n c =
-    omega (arith, counted (goal.at.overflow_mul-n c).After-payload_length-at, entries-fit c.args.bytes.now c.requires.loaded.counts)
+    omega (arith, counted (goal.at.overflow_mul-n c).After-payload_length-at, entries_fit c.args.bytes.now c.requires.loaded.counts)
 
 pub entries_at-requires : goal.entries_at-requires
 entries_at-requires c =
     let f = c.args.bytes.now in
-    omega (arith, counted (goal.at.entries_at-requires c).After-payload_length-at, placed (goal.at.entries_at-requires c).After-payload_length-at, entries-fit f c.requires.loaded.counts, entries-end f c.requires.bytes_value, c.requires.table_room_in_bounds, c.requires.loaded)
+    omega (arith, counted (goal.at.entries_at-requires c).After-payload_length-at, placed (goal.at.entries_at-requires c).After-payload_length-at, entries_fit f c.requires.loaded.counts, entries_end f c.requires.bytes_value, c.requires.table_room_in_bounds, c.requires.loaded)
 
 pub returns : goal.returns
 returns c =
     let T = c.args.table.now in
-    c.entries_at.ensures ∙ ap₂ (λ (n at : ℕ). front n (λ e. numberAt 2 c.args.q.now (at + 2 * e)) T) (counted (goal.at.returns c).After-payload_length-at) (placed (goal.at.returns c).After-payload_length-at)
+    c.entries_at.ensures ∙ ap₂ (λ (n at : ℕ). front n (λ e. number_at 2 c.args.q.now (at + 2 * e)) T) (counted (goal.at.returns c).After-payload_length-at) (placed (goal.at.returns c).After-payload_length-at)
     ∙ table_is c.args.bytes.now c.args.q.now T c.requires.loaded

@@ -5,44 +5,44 @@ use mathlib.Core.List.{List}
 use mathlib.Core.Path.{◌≡◌, sym, ap, ◌∙◌}
 use native.Mathlib.Omega.{arith}
 use lib.ListN.{length, length-replicate}
-use Rattle.machine.specs.Refusals.{andThen, valid, testedOf}
-use Rattle.machine.specs.RefusalsLaws.{then-answer, then-refused, then-of, tested-valid, tested-refused, buffer-kept}
-use Rattle.machine.specs.WellFormed.{pairValidity}
-use Rattle.codec.specs.Format.{payloadRoom}
-use Rattle.codec.specs.Reader.{firstValidity, blocksValidity, demanded, pairOf}
-use Rattle.codec.specs.Answers.{readOf}
+use Rattle.machine.specs.Refusals.{and_then, valid, tested_of}
+use Rattle.machine.specs.RefusalsLaws.{then_answer, then_refused, then_of, tested_valid, tested_refused, buffer_kept}
+use Rattle.machine.specs.WellFormed.{pair_validity}
+use Rattle.codec.specs.Format.{payload_room}
+use Rattle.codec.specs.Reader.{first_validity, blocks_validity, demanded, pair_of}
+use Rattle.codec.specs.Answers.{read_of}
 use Rattle.codec.specs.Loading.{Loaded}
-use Rattle.codec.proofs.ReaderLaws.{FirstValid, first-valid, blocks-valid, few-blocks, loaded, table-after}
-use Rattle.codec.specs.AnswersLaws.{shown-taken, shown-refused}
+use Rattle.codec.proofs.ReaderLaws.{FirstValid, first_valid, blocks_valid, few_blocks, loaded, table_after}
+use Rattle.codec.specs.AnswersLaws.{shown_taken, shown_refused}
 use Rattle.codec.proofs.reader.take_show.Goals as goal
 use Rattle.codec.proofs.reader.take_show.Goals.{In-Valid, After-join, After-pair_validity}
 
-first : (f : List ℕ) → andThen (firstValidity f) (blocksValidity f) ≡ valid → FirstValid f
-first f e = first-valid f (then-answer _ _ e).0
+first : (f : List ℕ) → and_then (first_validity f) (blocks_validity f) ≡ valid → FirstValid f
+first f e = first_valid f (then_answer _ _ e).0
 
-long : (f : List ℕ) → andThen (firstValidity f) (blocksValidity f) ≡ valid → length f ≡ demanded f
-long f e = (blocks-valid f (then-answer _ _ e).1).long
+long : (f : List ℕ) → and_then (first_validity f) (blocks_validity f) ≡ valid → length f ≡ demanded f
+long f e = (blocks_valid f (then_answer _ _ e).1).long
 
 -- the payload fits its array
-room : (f : List ℕ) → andThen (firstValidity f) (blocksValidity f) ≡ valid → 508 * (length f / 512) ≤ payloadRoom
-room f e = omega (arith, few-blocks f (first f e) (long f e))
+room : (f : List ℕ) → and_then (first_validity f) (blocks_validity f) ≡ valid → 508 * (length f / 512) ≤ payload_room
+room f e = omega (arith, few_blocks f (first f e) (long f e))
 
 -- and is there once it is joined
 there : (c : After-join) → Loaded c.args.bytes.now c.join.new.payload
 there c =
     let f = c.args.bytes.now in
     let e = c.requires.bytes_value in
-    loaded f _ payloadRoom (first f e) (long f e) (room f e) c.join.ensures
+    loaded f _ payload_room (first f e) (long f e) (room f e) c.join.ensures
 
 -- the pair that was read, and what its tests say
-read : (c : After-pair_validity) → testedOf c.pair_validity.result ≡ pairValidity (pairOf c.args.bytes.now)
-read c = c.pair_validity.ensures ∙ ap pairValidity c.pair_at-pair.ensures
+read : (c : After-pair_validity) → tested_of c.pair_validity.result ≡ pair_validity (pair_of c.args.bytes.now)
+read c = c.pair_validity.ensures ∙ ap pair_validity c.pair_at-pair.ensures
 
-right : (c : In-Valid) → pairValidity (pairOf c.args.bytes.now) ≡ valid
-right c = tested-valid (c.pair_validity.ensures ∙ ap pairValidity c.pair_at-pair.ensures) c.in-Valid.is
+right : (c : In-Valid) → pair_validity (pair_of c.args.bytes.now) ≡ valid
+right c = tested_valid (c.pair_validity.ensures ∙ ap pair_validity c.pair_at-pair.ensures) c.in-Valid.is
 
 pub join-requires : goal.join-requires
-join-requires c = rw (length-replicate {A = ℕ} payloadRoom 0) (room _ c.requires.bytes_value)
+join-requires c = rw (length-replicate {A = ℕ} payload_room 0) (room _ c.requires.bytes_value)
 
 pub pair_at-pair-requires : goal.pair_at-pair-requires
 pair_at-pair-requires c = there (goal.at.pair_at-pair-requires c).After-join
@@ -60,24 +60,24 @@ table_at-requires c =
 
 pub returns-in-Refused : goal.returns-in-Refused
 returns-in-Refused c =
-    let e = tested-refused (read (goal.at.returns-in-Refused c).After-pair_validity) c.in-Refused.is in
-    let shown = shown-refused c.refused_show.result (then-refused _ _ _ e) c.refused_show.ensures.answer c.refused_show.ensures.machines in
-    record { answer = shown.0; machines = shown.1; content = sym (buffer-kept _ _ _ e) }
+    let e = tested_refused (read (goal.at.returns-in-Refused c).After-pair_validity) c.in-Refused.is in
+    let shown = shown_refused c.refused_show.result (then_refused _ _ _ e) c.refused_show.ensures.answer c.refused_show.ensures.machines in
+    record { answer = shown.0; machines = shown.1; content = sym (buffer_kept _ _ _ e) }
 
 pub returns-then-note : goal.returns-then-note
-unfolding readOf
+unfolding read_of
 returns-then-note c =
     let e = right (goal.at.returns-then-note c).In-Valid in
-    let shown = shown-taken _ (then-of _ _ e) c.pair_at-pair.ensures c.note_of-note.ensures in
+    let shown = shown_taken _ (then_of _ _ e) c.pair_at-pair.ensures c.note_of-note.ensures in
     record {
       answer = shown.0;
       machines = shown.1;
-      content = c.table_at.ensures ∙ sym (table-after _ _ _ true e (sym c.note_of-note.ensures ∙ c.if-note.true));
+      content = c.table_at.ensures ∙ sym (table_after _ _ _ true e (sym c.note_of-note.ensures ∙ c.if-note.true));
     }
 
 pub returns-else-note : goal.returns-else-note
-unfolding readOf
+unfolding read_of
 returns-else-note c =
     let e = right (goal.at.returns-else-note c).In-Valid in
-    let shown = shown-taken _ (then-of _ _ e) c.pair_at-pair.ensures c.note_of-note.ensures in
-    record { answer = shown.0; machines = shown.1; content = sym (table-after _ _ _ false e (sym c.note_of-note.ensures ∙ c.if-note.false)) }
+    let shown = shown_taken _ (then_of _ _ e) c.pair_at-pair.ensures c.note_of-note.ensures in
+    record { answer = shown.0; machines = shown.1; content = sym (table_after _ _ _ false e (sym c.note_of-note.ensures ∙ c.if-note.false)) }

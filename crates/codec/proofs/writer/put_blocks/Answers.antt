@@ -7,18 +7,18 @@ use lib.Seq.{sets}
 use borrow.Author.Rules.{rules}
 use Rattle.mask.specs.Tables.{table}
 use Rattle.codec.specs.Format.{block}
-use Rattle.codec.specs.WriterLaws.{blocks-none, store-blocks}
+use Rattle.codec.specs.WriterLaws.{blocks_none, store_blocks}
 use Rattle.codec.proofs.writer.put_blocks.Goals as goal
 
 pub loop-i-init : goal.loop-i-init
-loop-i-init c = (search rules, refl, blocks-none _ _)
+loop-i-init c = (search rules, refl, blocks_none _ _)
 
 pub loop-i-preserved : goal.loop-i-preserved
 loop-i-preserved c =
     let x = c.args in
     let l = c.loop-i in
     let p = c.put_block in
-    (search rules, p.auto.out ∙ l.invariant.1, store-blocks x.payload.now x.out.now l.out p.new.out l.i l.invariant.2 p.ensures)
+    (search rules, p.auto.out ∙ l.invariant.1, store_blocks x.payload.now x.out.now l.out p.new.out l.i l.invariant.2 p.ensures)
 
 pub returns : goal.returns
 returns c =

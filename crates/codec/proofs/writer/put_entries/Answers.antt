@@ -6,11 +6,11 @@ use lib.ListN.{get_or, length-set}
 use lib.Seq.{sets}
 use borrow.Author.Rules.{rules}
 use Rattle.codec.specs.Format.{numbers}
-use Rattle.codec.specs.WriterLaws.{numbers-none, store-two, store-next}
+use Rattle.codec.specs.WriterLaws.{numbers_none, store_two, store_next}
 use Rattle.codec.proofs.writer.put_entries.Goals as goal
 
 pub loop-i-init : goal.loop-i-init
-loop-i-init c = (search rules, refl, numbers-none 2 _ _ _)
+loop-i-init c = (search rules, refl, numbers_none 2 _ _ _)
 
 pub overflow_cast-out : goal.overflow_cast-out
 overflow_cast-out c = omega (arith, c.type_inv.entries c.loop-i.i)
@@ -27,8 +27,8 @@ loop-i-preserved c =
     let l = c.loop-i in (
       search rules,
       simp length-set l.invariant.1,
-      store-next 2 x.out.now l.out _ x.at l.i (λ k. get_or x.entries.now k 0) (omega arith) l.invariant.2
-          (store-two l.out (x.at + 2 * l.i) (get_or x.entries.now l.i 0) (omega (arith, c.type_inv.entries l.i))),
+      store_next 2 x.out.now l.out _ x.at l.i (λ k. get_or x.entries.now k 0) (omega arith) l.invariant.2
+          (store_two l.out (x.at + 2 * l.i) (get_or x.entries.now l.i 0) (omega (arith, c.type_inv.entries l.i))),
     )
 
 pub returns : goal.returns

@@ -4,27 +4,27 @@ use Prim.Native.Nat.{◌≤◌}
 use native.Mathlib.Omega.{arith}
 use lib.Dec.{lit≤}
 use lib.ListN.{length}
-use Rattle.machine.specs.WellFormedLaws.{well-pair}
-use Rattle.codec.specs.Format.{payloadMost, payloadRoom}
-use Rattle.codec.specs.WriterLaws.{length-small, file-end, store-file}
+use Rattle.machine.specs.WellFormedLaws.{well_pair}
+use Rattle.codec.specs.Format.{payload_most, payload_room}
+use Rattle.codec.specs.WriterLaws.{length_small, file_end, store_file}
 use Rattle.codec.proofs.writer.put_file.Goals as goal
 use Rattle.codec.proofs.writer.put_file.Goals.{After-put_payload-len}
 
 pub put_payload-len-requires : goal.put_payload-len-requires
-put_payload-len-requires c = record { p_value = c.requires.p_value; table_room_in_bounds = (c.requires.table_room_in_bounds.0, lit≤ {m = payloadMost} tt) }
+put_payload-len-requires c = record { p_value = c.requires.p_value; table_room_in_bounds = (c.requires.table_room_in_bounds.0, lit≤ {m = payload_most} tt) }
 
 -- the payload is no longer than document 01 says
-small : (c : After-put_payload-len) → c.put_payload-len.result ≤ payloadMost
+small : (c : After-put_payload-len) → c.put_payload-len.result ≤ payload_most
 small c =
     let x = c.args in
-    length-small x.p x.with_table c.put_payload-len.result (well-pair x.p c.requires.p_value) c.put_payload-len.ensures.length
+    length_small x.p x.with_table c.put_payload-len.result (well_pair x.p c.requires.p_value) c.put_payload-len.ensures.length
 
 pub overflow_add-blocks : goal.overflow_add-blocks
 overflow_add-blocks c = omega (arith, small (goal.at.overflow_add-blocks c).After-put_payload-len)
 
 pub put_blocks-requires : goal.put_blocks-requires
 put_blocks-requires c =
-    let kept : length c.put_payload-len.new.out ≡ payloadRoom = c.put_payload-len.auto.out in
+    let kept : length c.put_payload-len.new.out ≡ payload_room = c.put_payload-len.auto.out in
     omega (arith, small (goal.at.put_blocks-requires c).After-put_payload-len, c.requires.table_room_in_bounds.1)
 
 pub overflow_mul-result : goal.overflow_mul-result
@@ -35,7 +35,7 @@ returns c =
     let x = c.args in
     let p = c.put_payload-len in
     let b = c.put_blocks in record {
-      length = file-end x.p x.with_table p.result p.ensures.length;
-      bytes = store-file x.p x.with_table x.table.now p.new.out x.buffer.now b.new.out payloadRoom p.result (small (goal.at.returns c).After-put_payload-len) (omega arith)
+      length = file_end x.p x.with_table p.result p.ensures.length;
+      bytes = store_file x.p x.with_table x.table.now p.new.out x.buffer.now b.new.out payload_room p.result (small (goal.at.returns c).After-put_payload-len) (omega arith)
           c.requires.table_room_in_bounds.1 p.ensures.length p.ensures.bytes b.ensures;
     }

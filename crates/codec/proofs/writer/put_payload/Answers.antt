@@ -1,47 +1,47 @@
 -- The header, the two machines and the table are stored one behind the other.
 use native.Mathlib.Omega.{arith}
-use Rattle.machine.specs.WellFormedLaws.{well-pair, pairs-small, entries-small}
-use Rattle.codec.specs.WriterLaws.{store-table, store-no-table}
+use Rattle.machine.specs.WellFormedLaws.{well_pair, pairs_small, entries_small}
+use Rattle.codec.specs.WriterLaws.{store_table, store_no_table}
 use Rattle.codec.proofs.writer.put_payload.Goals as goal
 
 pub put_header-requires : goal.put_header-requires
-put_header-requires c = let w = well-pair c.args.p c.requires.p_value in omega (arith, w.concrete, w.abstraction)
+put_header-requires c = let w = well_pair c.args.p c.requires.p_value in omega (arith, w.concrete, w.abstraction)
 
 pub put_machine-abstraction_at-requires : goal.put_machine-abstraction_at-requires
-put_machine-abstraction_at-requires c = let w = well-pair c.args.p c.requires.p_value in omega (arith, w.concrete)
+put_machine-abstraction_at-requires c = let w = well_pair c.args.p c.requires.p_value in omega (arith, w.concrete)
 
 pub put_machine-table_at-requires : goal.put_machine-table_at-requires
-put_machine-table_at-requires c = let w = well-pair c.args.p c.requires.p_value in omega (arith, w.concrete, w.abstraction, c.put_machine-abstraction_at.ensures)
+put_machine-table_at-requires c = let w = well_pair c.args.p c.requires.p_value in omega (arith, w.concrete, w.abstraction, c.put_machine-abstraction_at.ensures)
 
 pub overflow_mul-count : goal.overflow_mul-count
 overflow_mul-count c =
     let x = c.args in
-    let w = well-pair x.p c.requires.p_value in
-    omega (arith, pairs-small x.p w)
+    let w = well_pair x.p c.requires.p_value in
+    omega (arith, pairs_small x.p w)
 
 pub overflow_mul-count-then-with_table : goal.overflow_mul-count-then-with_table
 overflow_mul-count-then-with_table c =
     let x = c.args in
-    let w = well-pair x.p c.requires.p_value in
-    omega (arith, entries-small x.p w)
+    let w = well_pair x.p c.requires.p_value in
+    omega (arith, entries_small x.p w)
 
 pub put_entries-requires : goal.put_entries-requires
 put_entries-requires c =
     let x = c.args in
-    let w = well-pair x.p c.requires.p_value in
-    omega (arith, entries-small x.p w, w.concrete, w.abstraction, c.requires, c.put_machine-table_at.ensures, c.put_machine-abstraction_at.ensures)
+    let w = well_pair x.p c.requires.p_value in
+    omega (arith, entries_small x.p w, w.concrete, w.abstraction, c.requires, c.put_machine-table_at.ensures, c.put_machine-abstraction_at.ensures)
 
 pub overflow_mul-result : goal.overflow_mul-result
 overflow_mul-result c =
     let x = c.args in
-    let w = well-pair x.p c.requires.p_value in
-    omega (arith, entries-small x.p w)
+    let w = well_pair x.p c.requires.p_value in
+    omega (arith, entries_small x.p w)
 
 pub overflow_add-result : goal.overflow_add-result
 overflow_add-result c =
     let x = c.args in
-    let w = well-pair x.p c.requires.p_value in
-    omega (arith, entries-small x.p w, w.concrete, w.abstraction, c.put_machine-table_at.ensures, c.put_machine-abstraction_at.ensures)
+    let w = well_pair x.p c.requires.p_value in
+    omega (arith, entries_small x.p w, w.concrete, w.abstraction, c.put_machine-table_at.ensures, c.put_machine-abstraction_at.ensures)
 
 pub returns-then-with_table : goal.returns-then-with_table
 returns-then-with_table c =
@@ -49,7 +49,7 @@ returns-then-with_table c =
     let head = c.put_header in
     let rig = c.put_machine-abstraction_at in
     let score = c.put_machine-table_at in
-    let e = store-table x.p x.with_table x.table.now x.out.now head.new.out rig.new.out score.new.out rig.result score.result
+    let e = store_table x.p x.with_table x.table.now x.out.now head.new.out rig.new.out score.new.out rig.result score.result
     head.ensures rig.ensures.1 rig.ensures.0 score.ensures.1 score.ensures.0 c.if-with_table.true c.put_entries.new.out c.put_entries.ensures in
     record { length = e.0; bytes = e.1 }
 
@@ -59,6 +59,6 @@ returns c =
     let head = c.put_header in
     let rig = c.put_machine-abstraction_at in
     let score = c.put_machine-table_at in
-    let e = store-no-table x.p x.with_table x.table.now x.out.now head.new.out rig.new.out score.new.out rig.result score.result
+    let e = store_no_table x.p x.with_table x.table.now x.out.now head.new.out rig.new.out score.new.out rig.result score.result
     head.ensures rig.ensures.1 rig.ensures.0 score.ensures.1 score.ensures.0 c.if-with_table.false in
     record { length = e.0; bytes = e.1 }

@@ -3,49 +3,49 @@ use mathlib.Core.Path.{◌≡◌, refl, ◌∙◌}
 use native.Mathlib.Omega.{arith}
 use lib.ListN.{length}
 use Rattle.machine.specs.Refusals.{valid}
-use Rattle.machine.specs.RefusalsLaws.{tested-valid, tested-refused}
-use Rattle.machine.specs.WellFormed.{nonemptyValidity}
-use Rattle.machine.specs.WellFormedLaws.{valid-is-well}
-use Rattle.machine.specs.EmptySetsLaws.{nonempty-at}
-use Rattle.codec.specs.WriterLaws.{short-table, short-file, with-room, write-refused, write-valid}
+use Rattle.machine.specs.RefusalsLaws.{tested_valid, tested_refused}
+use Rattle.machine.specs.WellFormed.{nonempty_validity}
+use Rattle.machine.specs.WellFormedLaws.{valid_is_well}
+use Rattle.machine.specs.EmptySetsLaws.{nonempty_at}
+use Rattle.codec.specs.WriterLaws.{short_table, short_file, with_room, write_refused, write_valid}
 use Rattle.codec.proofs.writer.write_file.Goals as goal
 use Rattle.codec.proofs.writer.write_file.Goals.{In-Valid}
 
 pub returns-then-table-lt-TABLE_ROOM : goal.returns-then-table-lt-TABLE_ROOM
 returns-then-table-lt-TABLE_ROOM c =
     let x = c.args in
-    let e = write-refused x.p x.with_table x.table.now x.buffer.now (short-table x.p (length x.table.now) (length x.buffer.now) (omega arith)) c.refuse.ensures in
+    let e = write_refused x.p x.with_table x.table.now x.buffer.now (short_table x.p (length x.table.now) (length x.buffer.now) (omega arith)) c.refuse.ensures in
     record { answer = e.0; bytes = e.1 }
 
 pub returns-then-buffer-lt-FILE_ROOM : goal.returns-then-buffer-lt-FILE_ROOM
 returns-then-buffer-lt-FILE_ROOM c =
     let x = c.args in
-    let e = write-refused x.p x.with_table x.table.now x.buffer.now
-    (short-file x.p (length x.table.now) (length x.buffer.now) (omega arith) (omega arith)) c.refuse-then-buffer-lt-FILE_ROOM.ensures in
+    let e = write_refused x.p x.with_table x.table.now x.buffer.now
+    (short_file x.p (length x.table.now) (length x.buffer.now) (omega arith) (omega arith)) c.refuse-then-buffer-lt-FILE_ROOM.ensures in
     record { answer = e.0; bytes = e.1 }
 
-right : (c : In-Valid) → nonemptyValidity c.args.p ≡ valid
-right c = tested-valid c.pair_validity.ensures c.in-Valid.is
+right : (c : In-Valid) → nonempty_validity c.args.p ≡ valid
+right c = tested_valid c.pair_validity.ensures c.in-Valid.is
 
 pub put_file-requires : goal.put_file-requires
 put_file-requires c = record {
-  p_value = valid-is-well _ (nonempty-at _ (right (goal.at.put_file-requires c).In-Valid)).0;
+  p_value = valid_is_well _ (nonempty_at _ (right (goal.at.put_file-requires c).In-Valid)).0;
   table_room_in_bounds = omega arith;
 }
 
 pub returns-in-Refused : goal.returns-in-Refused
 returns-in-Refused c =
     let x = c.args in
-    let e = write-refused x.p x.with_table x.table.now x.buffer.now
-    (with-room x.p (length x.table.now) (length x.buffer.now) (omega arith) (omega arith)
-    ∙ tested-refused c.pair_validity.ensures c.in-Refused.is) refl in
+    let e = write_refused x.p x.with_table x.table.now x.buffer.now
+    (with_room x.p (length x.table.now) (length x.buffer.now) (omega arith) (omega arith)
+    ∙ tested_refused c.pair_validity.ensures c.in-Refused.is) refl in
     record { answer = e.0; bytes = e.1 }
 
 pub returns-in-Valid : goal.returns-in-Valid
 returns-in-Valid c =
     let x = c.args in
     let f = c.put_file in
-    let e = write-valid x.p x.with_table x.table.now x.buffer.now
-    (with-room x.p (length x.table.now) (length x.buffer.now) (omega (arith, c.if-table-lt-TABLE_ROOM)) (omega (arith, c.if-buffer-lt-FILE_ROOM))
+    let e = write_valid x.p x.with_table x.table.now x.buffer.now
+    (with_room x.p (length x.table.now) (length x.buffer.now) (omega (arith, c.if-table-lt-TABLE_ROOM)) (omega (arith, c.if-buffer-lt-FILE_ROOM))
     ∙ right (goal.at.returns-in-Valid c).In-Valid) f.ensures.length in
     record { answer = e.0; bytes = f.ensures.bytes ∙ e.1 }

@@ -1,30 +1,30 @@
 -- Each call has its part of the definition as its contract.
 use Rattle.std.proofs.Common.{arith}
-use Rattle.machine.specs.WellFormedLaws.{WellPair, well-pair, pairs-small, ranks-small, entries-small}
-use Rattle.comparison.specs.PairsLaws.{formed-is}
+use Rattle.machine.specs.WellFormedLaws.{WellPair, well_pair, pairs_small, ranks_small, entries_small}
+use Rattle.comparison.specs.PairsLaws.{formed_is}
 use Rattle.comparison.proofs.pairs.compare_formed.Goals as goal
 use Rattle.comparison.proofs.pairs.compare_formed.Goals.{Start}
 
 well : (c : Start) → WellPair c.args.p
-well c = well-pair c.args.p c.requires
+well c = well_pair c.args.p c.requires
 
 pub overflow_mul-pairs : goal.overflow_mul-pairs
-overflow_mul-pairs c = omega (arith, pairs-small _ (well (goal.at.overflow_mul-pairs c).Start))
+overflow_mul-pairs c = omega (arith, pairs_small _ (well (goal.at.overflow_mul-pairs c).Start))
 
 pub overflow_mul-n : goal.overflow_mul-n
-overflow_mul-n c = omega (arith, entries-small _ (well (goal.at.overflow_mul-n c).Start))
+overflow_mul-n c = omega (arith, entries_small _ (well (goal.at.overflow_mul-n c).Start))
 
 pub overflow_mul-top : goal.overflow_mul-top
-overflow_mul-top c = omega (arith, ranks-small _ (well (goal.at.overflow_mul-top c).Start))
+overflow_mul-top c = omega (arith, ranks_small _ (well (goal.at.overflow_mul-top c).Start))
 
 pub overflow_add-top : goal.overflow_add-top
-overflow_add-top c = omega (arith, ranks-small _ (well (goal.at.overflow_add-top c).Start))
+overflow_add-top c = omega (arith, ranks_small _ (well (goal.at.overflow_add-top c).Start))
 
 pub overflow_cast-top : goal.overflow_cast-top
-overflow_cast-top c = omega (arith, ranks-small _ (well (goal.at.overflow_cast-top c).Start))
+overflow_cast-top c = omega (arith, ranks_small _ (well (goal.at.overflow_cast-top c).Start))
 
 pub overflow_cast-concrete : goal.overflow_cast-concrete
-overflow_cast-concrete c = omega (arith, (well (goal.at.overflow_cast-concrete c).Start).concrete.states-high)
+overflow_cast-concrete c = omega (arith, (well (goal.at.overflow_cast-concrete c).Start).concrete.states_high)
 
 pub returns : goal.returns
-returns c = formed-is _ _ _ _ _ _ _ _ _ c.compare_tables-tables.ensures c.compare_solved-solution.ensures c.compare_lassos-lassos.ensures c.add.ensures c.add-2.ensures
+returns c = formed_is _ _ _ _ _ _ _ _ _ c.compare_tables-tables.ensures c.compare_solved-solution.ensures c.compare_lassos-lassos.ensures c.add.ensures c.add-2.ensures

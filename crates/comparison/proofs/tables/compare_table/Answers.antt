@@ -1,6 +1,6 @@
 -- Both answers are that of the definition, by the contracts of check and plain reading.
 use Rattle.std.proofs.Common.{◌∙◌}
-use Rattle.comparison.specs.TablesLaws.{table-tally-is}
+use Rattle.comparison.specs.TablesLaws.{table_tally_is}
 use Rattle.comparison.proofs.tables.compare_table.Goals as goal
 
 pub returns : goal.returns
@@ -11,5 +11,5 @@ returns c =
     let own = answer.check_table.ensures in
     let form = plain.as_checked.ensures in
     let other = rule.plain_verdict.ensures in
-    table-tally-is _ _ _ _ _ _ _ _ _ _ _ _ _ own.verdict own.empty answer.verdict_four-answer.ensures (form.answer ∙ other.verdict) (form.empty ∙ other.empty) plain.verdict_four-plain.ensures
+    table_tally_is _ _ _ _ _ _ _ _ _ _ _ _ _ own.verdict own.empty answer.verdict_four-answer.ensures (form.answer ∙ other.verdict) (form.empty ∙ other.empty) plain.verdict_four-plain.ensures
     c.says_empty.ensures c.table_agrees.ensures c.of_table.ensures

@@ -1,26 +1,26 @@
 -- The invariant: the sum of the first x tables, and that a table laid over the used buffer is the one laid over the first.
 use Rattle.std.proofs.Common.{◌≡◌, ℕ, sym, ◌∙◌, arith, rules}
 use lib.ListN.{length-replicate}
-use Rattle.machine.specs.Table.{tableRoom}
-use Rattle.comparison.specs.TablesLaws.{reused-start, reused-tally, reused-turn}
-use Rattle.comparison.specs.TalliesLaws.{total-more, total-start}
+use Rattle.machine.specs.Table.{table_room}
+use Rattle.comparison.specs.TablesLaws.{reused_start, reused_tally, reused_turn}
+use Rattle.comparison.specs.TalliesLaws.{total_more, total_start}
 use Rattle.comparison.proofs.tables.compare_tables.Goals as goal
 
 pub loop-x-init : goal.loop-x-init
-loop-x-init c = (search rules, reused-start _ _ _ _ _, total-start _ _ c.none-sum.ensures)
+loop-x-init c = (search rules, reused_start _ _ _ _ _, total_start _ _ c.none-sum.ensures)
 
 pub slice_bounds-put_table-end : goal.slice_bounds-put_table-end
-slice_bounds-put_table-end c = sym (c.loop-x.invariant.1.size ∙ length-replicate {A = ℕ} tableRoom 0)
+slice_bounds-put_table-end c = sym (c.loop-x.invariant.1.size ∙ length-replicate {A = ℕ} table_room 0)
 
 pub slice_bounds-compare_table-end : goal.slice_bounds-compare_table-end
 slice_bounds-compare_table-end c =
-    sym (c.put_table.auto.table ∙ c.loop-x.invariant.1.size ∙ length-replicate {A = ℕ} tableRoom 0)
+    sym (c.put_table.auto.table ∙ c.loop-x.invariant.1.size ∙ length-replicate {A = ℕ} table_room 0)
 
 pub loop-x-preserved : goal.loop-x-preserved
 loop-x-preserved c =
     let l = c.loop-x in
     let e = c.put_table.ensures in
-    (search rules, reused-turn _ _ l.invariant.1 e, total-more _ l.x l.sum c.compare_table.result _ l.invariant.2 (reused-tally _ _ _ _ l.invariant.1 e c.compare_table.ensures) c.add-sum.ensures)
+    (search rules, reused_turn _ _ l.invariant.1 e, total_more _ l.x l.sum c.compare_table.result _ l.invariant.2 (reused_tally _ _ _ _ l.invariant.1 e c.compare_table.ensures) c.add-sum.ensures)
 
 pub returns : goal.returns
 returns c =

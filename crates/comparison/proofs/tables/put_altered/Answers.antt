@@ -1,8 +1,8 @@
 -- The invariant: the first e entries are those of the altered table, and the others are as they were.
 use Rattle.std.proofs.Common.{◌+◌, ◌∙◌, mod-lt, arith, rules}
-use Rattle.mask.specs.FrontLaws.{front-length, front-none, front-over, front-turn}
+use Rattle.mask.specs.FrontLaws.{front_length, front_none, front_over, front_turn}
 use Rattle.comparison.specs.Tables.{altered}
-use Rattle.comparison.specs.TablesLaws.{entry-changed, entry-kept}
+use Rattle.comparison.specs.TablesLaws.{entry_changed, entry_kept}
 use Rattle.comparison.proofs.tables.put_altered.Goals as goal
 use Rattle.comparison.proofs.tables.put_altered.Goals.{else-e-changed, else-n-table, then-e-changed, then-n-table}
 
@@ -16,29 +16,29 @@ loop-e-init c = (
     | then-n-table w ↦ omega arith
     | else-n-table w ↦ omega arith
   ],
-  front-none _ _,
+  front_none _ _,
 )
 
 pub offset_bounds-table-e : goal.offset_bounds-table-e
-offset_bounds-table-e c = let d = c.loop-e.invariant in omega (arith, d.1, front-length _ _ d.2 (omega arith))
+offset_bounds-table-e c = let d = c.loop-e.invariant in omega (arith, d.1, front_length _ _ d.2 (omega arith))
 
 pub bounds-table-e : goal.bounds-table-e
-bounds-table-e c = let d = c.loop-e.invariant in omega (arith, d.1, front-length _ _ d.2 (omega arith))
+bounds-table-e c = let d = c.loop-e.invariant in omega (arith, d.1, front_length _ _ d.2 (omega arith))
 
 pub loop-e-preserved : goal.loop-e-preserved
 loop-e-preserved c =
     let l = c.loop-e in (
       search rules,
       l.invariant.1,
-      front-turn _ _ l.invariant.2 (omega (arith, l.invariant.1)) (elim c.if-e-changed.branch [
-        | then-e-changed w ↦ entry-changed _ _ _ _ _ w.if-e-changed.true (w.v-is ∙ c.entry_of-value.ensures)
-        | else-e-changed w ↦ entry-kept _ _ _ _ _ w.if-e-changed.false (w.v-is ∙ w.value_at-v.ensures)
+      front_turn _ _ l.invariant.2 (omega (arith, l.invariant.1)) (elim c.if-e-changed.branch [
+        | then-e-changed w ↦ entry_changed _ _ _ _ _ w.if-e-changed.true (w.v-is ∙ c.entry_of-value.ensures)
+        | else-e-changed w ↦ entry_kept _ _ _ _ _ w.if-e-changed.false (w.v-is ∙ w.value_at-v.ensures)
       ]),
     )
 
 pub shape_of-table : goal.shape_of-table
-shape_of-table c = let d = c.loop-e.invariant in front-length _ _ d.2 (omega arith)
+shape_of-table c = let d = c.loop-e.invariant in front_length _ _ d.2 (omega arith)
 
 pub returns : goal.returns
 unfolding altered
-returns c = let l = c.loop-e in front-over _ _ l.invariant.2 _ (omega (arith, l.invariant.1))
+returns c = let l = c.loop-e in front_over _ _ l.invariant.2 _ (omega (arith, l.invariant.1))

@@ -1,10 +1,10 @@
 use Rattle.std.proofs.Common.{◌≡◌, ℕ, ◌-◌, ◌<◌, ◌≤◌, true}
-use Rattle.machine.specs.Table.{tableRoom}
-use Rattle.comparison.specs.TurnsLaws.{kept-at}
+use Rattle.machine.specs.Table.{table_room}
+use Rattle.comparison.specs.TurnsLaws.{kept_at}
 use Rattle.comparison.proofs.turns.is_kept.Given as goal
 
 abbrev pub invariant-loop-e : goal.invariant-loop-e
-invariant-loop-e l = (l.from ≤ l.e) × ((q : ℕ) → q < l.e → kept-at l.from l.table q ≡ true)
+invariant-loop-e l = (l.from ≤ l.e) × ((q : ℕ) → q < l.e → kept_at l.from l.table q ≡ true)
 
 abbrev pub decreases-loop-e : goal.decreases-loop-e
-decreases-loop-e l = tableRoom - l.e
+decreases-loop-e l = table_room - l.e
