@@ -114,8 +114,8 @@ module _ (f : List ℕ) (b : AreBytes f) (w : Whole f) where
       let P = payload_of f (length f / 512) in
       record {
         head = header_stands;
-        concrete = machine_stands P 16 (header_byte f 4) (header_byte f 6) r.states_c r.sets_c_lem (joined_bytes f (length f / 512) b);
-        abstraction = machine_stands P (24 + 9 * header_byte f 4 + 8 * header_byte f 6) (header_byte f 5) (header_byte f 7) r.states_a (omega (arith, r.sets_a_lem)) (joined_bytes f (length f / 512) b);
+        concrete = machine_stands P 16 (header_byte f 4) (header_byte f 6) r.states_c r.sets_of_c (joined_bytes f (length f / 512) b);
+        abstraction = machine_stands P (24 + 9 * header_byte f 4 + 8 * header_byte f 6) (header_byte f 5) (header_byte f 7) r.states_a (omega (arith, r.sets_of_a)) (joined_bytes f (length f / 512) b);
         entries = entries_stand;
       }
 

@@ -212,15 +212,15 @@ machine_cong Q R same at n sets =
 pub record InRange (f : List ℕ) : Type 0 where
   pub states_c : header_byte f 4 ≤ 64
   pub states_a : header_byte f 5 ≤ 64
-  pub sets_c_lem : header_byte f 6 ≤ 8
-  pub sets_a_lem : header_byte f 7 ≤ 7
+  pub sets_of_c : header_byte f 6 ≤ 8
+  pub sets_of_a : header_byte f 7 ≤ 7
 
 pub in_range_lem : (f : List ℕ) → counts_hold f ≡ true → InRange f
 unfolding counts_hold
 in_range_lem f t =
     let c = counts_at 8 _ _ (and_l _ _ t) in
     let a = counts_at 7 _ _ (and_r _ _ t) in
-    record { states_c = c.1; states_a = a.1; sets_c_lem = c.3; sets_a_lem = a.3 }
+    record { states_c = c.1; states_a = a.1; sets_of_c = c.3; sets_of_a = a.3 }
 
 pub machines_fit : (f : List ℕ) → 32 + 9 * (header_byte f 4 + header_byte f 5) + 8 * (header_byte f 6 + header_byte f 7) ≤ payload_demanded f
 unfolding payload_demanded payload_length
@@ -242,7 +242,7 @@ pair_is f Q concrete abstraction hidden w ec ea eh =
 -- ---- the table of such a file
 -- its entries have room in a lent table
 pub entries_fit : (f : List ℕ) → counts_hold f ≡ true → entries_count f ≤ table_room
-entries_fit f t = let r = in_range_lem f t in entries_most (header_byte f 4) (header_byte f 5) (header_byte f 7) r.states_c r.states_a r.sets_a_lem
+entries_fit f t = let r = in_range_lem f t in entries_most (header_byte f 4) (header_byte f 5) (header_byte f 7) r.states_c r.states_a r.sets_of_a
 
 -- and they end where the payload does
 pub entries_end : (f : List ℕ) → note_of f ≡ true → entries_place f + 2 * entries_count f ≡ payload_demanded f
@@ -293,7 +293,7 @@ pub payload_fits : (f : List ℕ) → counts_hold f ≡ true → payload_demande
 unfolding payload_demanded
 payload_fits f t =
     let r = in_range_lem f t in
-    payload_most_lem (header_byte f 4) (header_byte f 5) (header_byte f 6) (header_byte f 7) (note_of f) r.states_c r.states_a r.sets_c_lem r.sets_a_lem
+    payload_most_lem (header_byte f 4) (header_byte f 5) (header_byte f 6) (header_byte f 7) (note_of f) r.states_c r.states_a r.sets_of_c r.sets_of_a
 
 pub few_blocks : (f : List ℕ) → FirstValid f → length f ≡ demanded f → length f / 512 ≤ 116
 few_blocks f v e = let w = fitting f e in omega (arith, payload_fits f v.counts)

@@ -142,11 +142,11 @@ module _ (p : Pair) (T : List ℕ) (w : WellPair p) (passing : passes_each p T �
         (non_blank_at p T (place_at p T l t).section (moment l t) (place_at p T l t).state (covered_at t).covered).0
 
   -- there are two such loop starts among the first n_a × n + 1: a and j have no more values together
-  place_number_lem : ℕ → ℕ
-  place_number_lem t = (place_at p T l t).state * sets_a p + (place_at p T l t).section
+  number_of_place : ℕ → ℕ
+  number_of_place t = (place_at p T l t).state * sets_a p + (place_at p T l t).section
 
-  number_same : (t u : ℕ) → place_number_lem t ≡ place_number_lem u → place_at p T l t ≡ place_at p T l u
-  unfolding place_number_lem
+  number_same : (t u : ℕ) → number_of_place t ≡ number_of_place u → place_at p T l t ≡ place_at p T l u
+  unfolding number_of_place
   number_same t u e =
       let v = place_at p T l t in
       let w = place_at p T l u in
@@ -155,8 +155,8 @@ module _ (p : Pair) (T : List ℕ) (w : WellPair p) (passing : passes_each p T �
       (sym (digits_mod v.state (covered_at t).section_bound) ∙ ap (λ n. n % sets_a p) e ∙ digits_mod w.state (covered_at u).section_bound)
 
   pub returns : (x : ℕ) × (z : ℕ) × (x < z) × (z ≤ n_a p * sets_a p) × (place_at p T l (loop_start p T l x) ≡ place_at p T l (loop_start p T l z))
-  unfolding place_number_lem
+  unfolding number_of_place
   returns =
-      let two = pigeonhole (n_a p * sets_a p) (λ x. place_number_lem (loop_start p T l x))
+      let two = pigeonhole (n_a p * sets_a p) (λ x. number_of_place (loop_start p T l x))
       (λ x h. digits_lt (covered_at (loop_start p T l x)).bound (covered_at (loop_start p T l x)).section_bound) in
       (two.0, two.1, two.2, two.3, number_same _ _ two.4)
