@@ -9,7 +9,8 @@ is_beyond_counts, lowest_empty_set, without_table). Functions of src/, exported 
 
 In .antt and .rt files all of the text is respelled but strings, names that a file imports from the library, and, in the answers and invariants
 of a function, names that Rattle makes. In comments and pages a name with a dash is respelled between backticks only, since it may be two words
-of English. It stops, having written nothing, where two names of one file would become one.
+of English, and `nC` and `nA` stay, as the rules' symbols. It stops, having written nothing, where two names have one new name, or where a file
+of specs/ has a new name beside the old one.
 """
 
 import os
@@ -23,6 +24,7 @@ IN_PAGE = re.compile(r"[A-Za-z][\w'-]*")
 USE = re.compile(r"^ *(?:pub )?(?:ghost )?use ([\w.]+?)(?:\.\{([^}]*)\})?(?: as (\w+))?;?$", re.M)
 STRING = re.compile(r'b?"(?:[^"\\\n]|\\.)*"')
 ANSWERS = re.compile(r"/proofs/(.*/)?(Answers|Invariants)\.antt$")
+SYMBOLS = {"nC", "nA"}
 # Steps of goals, which Rattle names after a function and a local.
 MADE = {"rest-left", "best-is", "n-is", "row-is", "answer-is", "part-is", "x-is", "fair-is", "turn-made"}
 
@@ -69,6 +71,7 @@ def foreign(text, ours):
 
 
 def in_comment(text, new):
+    new = {old: name for old, name in new.items() if old not in SYMBOLS}
     text = IN_PAGE.sub(lambda m: new.get(m[0], m[0]) if "-" not in m[0] else m[0], text)
     return re.sub(r"`[^`\n]*`", lambda b: IN_PAGE.sub(lambda m: new.get(m[0], m[0]), b[0]), text)
 

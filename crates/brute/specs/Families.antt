@@ -31,7 +31,7 @@ module _ (p : Pair) where
 unfoldable pub family_table : Pair → List ℕ → List ℕ → List ℕ
 family_table p F T = buffer_after (and_then (buffer_validity table_room (length T)) (pair_validity p)) (table (entries p) (family_entry p F)) T
 
--- the number of row e among those of n sections and n_c concrete states; that after the last for any other row
+-- the number of row e among those of n sections and nC concrete states; that after the last for any other row
 unfoldable pub row_number : ℕ → ℕ → ℕ → ℕ
 row_number n nc e = cond (and (ltb (e / 64) n) (ltb (e % 64) nc)) (e / 64 * nc + e % 64) (n * nc)
 

@@ -1,4 +1,4 @@
--- Ranks by trying every set of pairs, or by striking pairs out. T is a table that tells what is covered, j a section; pair number e is (e / n_a, e % n_a).
+-- Ranks by trying every set of pairs, or by striking pairs out. T is a table that tells what is covered, j a section; pair number e is (e / nA, e % nA).
 use Rattle.std.specs.Prelude.{Bool, cond, List, ℕ, zero, suc, ◌+◌, ◌*◌, ◌/◌, ◌%◌, min, get_or, replicate, set, eqb, leb}
 use Rattle.mask.specs.Bits.{full_mask}
 use Rattle.mask.specs.Bounded.{every, first}

@@ -176,7 +176,7 @@ pub fn entry_passes(p: &Pair, table: &[u16], j: usize, c: usize, a: usize) -> bo
     rank_holds(p, table, j, e, c, a)
 }
 
-// The lowest a whose entry beside c in section j fails, n_a where none does.
+// The lowest a whose entry beside c in section j fails, nA where none does.
 fn failing_state(p: &Pair, table: &[u16], j: usize, c: usize) -> usize
     requires { (well_formed p.now ≡ true) × ((j < sets_a p.now) × (c ≤ 64)) }
     ensures { result ≡ first (n_a p.now) (λ a. not (passes p.now table.now j c a)) }
@@ -190,7 +190,7 @@ fn failing_state(p: &Pair, table: &[u16], j: usize, c: usize) -> usize
     abstraction.states
 }
 
-// The lowest c in whose row of section j an entry fails, n_c where none does.
+// The lowest c in whose row of section j an entry fails, nC where none does.
 fn failing_row(p: &Pair, table: &[u16], j: usize) -> usize
     requires { (well_formed p.now ≡ true) × (j < sets_a p.now) }
     ensures { result ≡ first (n_c p.now) (λ c. not (every (n_a p.now) (passes p.now table.now j c))) }
@@ -267,7 +267,7 @@ fn start_covered(p: &Pair, table: &[u16], c: usize) -> bool
     false
 }
 
-// The lowest concrete start state that has none, n_c where each has one.
+// The lowest concrete start state that has none, nC where each has one.
 fn lacking_start(p: &Pair, table: &[u16]) -> usize
     requires { well_formed p.now ≡ true }
     ensures { result ≡ lacking_start p.now table.now }

@@ -27,7 +27,7 @@ number_at n s at = sum n (λ i. get_or s (at + i) 0 * 256 ^ i)
 abbrev pub letters : List ℕ
 letters = 68 ∷ 79 ∷ 77 ∷ 49 ∷ []
 
--- "16 bytes: the letters DOM1 in ASCII, then n_c, n_a, m, n, a zero, a byte that is 1 if a table follows and else 0, six zeros". Document 02, No. 4:
+-- "16 bytes: the letters DOM1 in ASCII, then nC, nA, m, n, a zero, a byte that is 1 if a table follows and else 0, six zeros". Document 02, No. 4:
 -- "The header's zero after n becomes the hidden mask".
 unfoldable pub header : Pair → Bool → List ℕ
 header p note = letters ++ (n_c p ∷ n_a p ∷ sets_c p ∷ sets_a p ∷ p.hidden ∷ cond note 1 0 ∷ 0 ∷ 0 ∷ 0 ∷ 0 ∷ 0 ∷ 0 ∷ [])
@@ -44,7 +44,7 @@ table_bytes p note T = let bytes = numbers 2 (entries p) (λ e. get_or T e 0) in
 unfoldable pub payload : Pair → Bool → List ℕ → List ℕ
 payload p note T = header p note ++ (machine_bytes p.concrete ++ (machine_bytes p.abstraction ++ table_bytes p note T))
 
--- "Payload is 32 + 9 × (n_c + n_a) + 8 × (m + n) bytes, plus 2 × n × P with a table", by the counts n_c, n_a, m, n
+-- "Payload is 32 + 9 × (nC + nA) + 8 × (m + n) bytes, plus 2 × n × P with a table", by the counts nC, nA, m, n
 unfoldable pub payload_length : ℕ → ℕ → ℕ → ℕ → Bool → ℕ
 payload_length c a m n note = 32 + 9 * (c + a) + 8 * (m + n) + cond note (2 * (n * (c * a))) 0
 

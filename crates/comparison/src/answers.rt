@@ -6,8 +6,8 @@ ghost use Rattle.machine.specs.Refusals.{tested_of};
 ghost use Rattle.linecheck.specs.Answers.{verdict_of, empty_set_of};
 ghost use Rattle.player.specs.Answers.{played_of};
 ghost use Rattle.progress.specs.Answers.{turned_of, looked_up_of};
-ghost use Rattle.brute.specs.Lines.{verdict_of as plainVerdictOf, empty_set_of as plainEmptySetOf};
-ghost use Rattle.brute.specs.Runs.{played_of as plainPlayedOf};
+ghost use Rattle.brute.specs.Lines.{verdict_of as plain_verdict_of, empty_set_of as plain_empty_set_of};
+ghost use Rattle.brute.specs.Runs.{played_of as plain_played_of};
 ghost use Rattle.comparison.specs.Answers.{tested_four, verdict_four, played_four, answer_numbers, answered_four, same_four, says_empty, says_yes};
 
 use linecheck::Checked;
@@ -17,8 +17,8 @@ use progress::{LookedUp, Turned};
 
 // The plain reading's answer about a table, in the check's form.
 pub fn as_checked(v: brute::Verdict) -> Checked
-    ensures answer { verdict_of result ≡ plainVerdictOf v }
-    ensures empty { empty_set_of result ≡ plainEmptySetOf v }
+    ensures answer { verdict_of result ≡ plain_verdict_of v }
+    ensures empty { empty_set_of result ≡ plain_empty_set_of v }
 {
     match v {
         brute::Verdict::Carried(n, e) => Checked::Carried(n, e),
@@ -29,7 +29,7 @@ pub fn as_checked(v: brute::Verdict) -> Checked
 
 // The plain reading's answer about a lasso, in the player's form.
 pub fn as_played(v: brute::Played) -> Played
-    ensures { played_of result ≡ plainPlayedOf v }
+    ensures { played_of result ≡ plain_played_of v }
 {
     match v {
         brute::Played::Run(stem, cycle) => Played::Run(stem, cycle),

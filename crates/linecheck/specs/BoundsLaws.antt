@@ -93,7 +93,7 @@ row_fits p w r j c room e hj hc h =
       row_room (n_c p) (n_a p) j c hj w.concrete.states_high w.abstraction.states_high hc,
     )
 
--- a successor mask of the concrete machine has no state at or past n_c
+-- a successor mask of the concrete machine has no state at or past nC
 pub moves_small : (p : Pair) → WellPair p → (c : ℕ) → c < n_c p → get_or p.concrete.successors c 0 < 2 ^ 64 → get_or p.concrete.successors c 0 < 2 ^ n_c p
 unfolding moves successors
 moves_small p w c hc h = bits_small (n_c p) (successors p.concrete c) h (λ i. w.concrete.move_bits c i hc)

@@ -1,6 +1,6 @@
 // The line check: document 01, "Line check". It sees the machines and the step, and not the solver.
 // Cost: for each non-blank entry and each successor of its concrete state, one search among the successors of its abstract state, which stops
-// at the first that serves: at most n x n_c x n_a x n_c x n_a looks at an entry, and on passing tables far fewer. Nothing divides but by fixed powers
+// at the first that serves: at most n x nC x nA x nC x nA looks at an entry, and on passing tables far fewer. Nothing divides but by fixed powers
 // of two.
 #![tactic(auto)]
 

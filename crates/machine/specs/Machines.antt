@@ -40,7 +40,7 @@ same_observation hidden x y = eqb (bit_or hidden x) (bit_or hidden y)
 abbrev pub pair_under : ℕ → Machine → Machine → Pair
 pair_under hidden concrete abstraction = record { concrete = concrete; abstraction = abstraction; hidden = hidden }
 
--- document 01's n_c, m, n_a, n and P of a pair
+-- document 01's nC, m, nA, n and P of a pair
 abbrev pub n_c : Pair → ℕ
 n_c p = p.concrete.states
 

@@ -13,7 +13,7 @@ blank = 65535
 abbrev pub table_room : ℕ
 table_room = 28672
 
--- "entry ((j − 1) × n_c + c) × n_a + a", section j from 0 here
+-- "entry ((j − 1) × nC + c) × nA + a", section j from 0 here
 unfoldable pub entry_index : ℕ → ℕ → ℕ → ℕ → ℕ → ℕ
 entry_index n_c n_a j c a = (j * n_c + c) * n_a + a
 

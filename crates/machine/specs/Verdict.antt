@@ -31,7 +31,7 @@ start_covered p T c = some_in (n_a p) p.abstraction.start (covers p T 0 c)
 abbrev pub HasStarts : Pair → List ℕ → Type 0
 HasStarts p T = (c : ℕ) → c < n_c p → starts p.concrete c ≡ true → start_covered p T c ≡ true
 
--- "the lowest c that lacks one", n_c where none does
+-- "the lowest c that lacks one", nC where none does
 unfoldable pub lacking_start : Pair → List ℕ → ℕ
 lacking_start p T = first (n_c p) (λ c. and (starts p.concrete c) (not (start_covered p T c)))
 

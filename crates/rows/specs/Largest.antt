@@ -17,7 +17,7 @@ module _ (n_c : ℕ) (moves predecessors base : List ℕ) (members : ℕ) where
   abbrev pub Meets : List ℕ → Type 0
   Meets x = (c a : ℕ) → c < n_c → has_bit (get_or x c 0) a ≡ true → has_bit (rule_row x c) a ≡ true
 
-  -- x is the largest set within the start that meets the rule, and rows from n_c on are the start's
+  -- x is the largest set within the start that meets the rule, and rows from nC on are the start's
   pub record Largest (start x : List ℕ) : Type 0 where
     pub long : length x ≡ 64
     pub beyond : (c : ℕ) → n_c ≤ c → get_or x c 0 ≡ get_or start c 0

@@ -29,7 +29,7 @@ predecessors_of n moves = table 64 (λ b. let row = movers_of n moves b in cond 
 unfoldable pub partners_of : List ℕ → ℕ → ℕ
 partners_of predecessors row = mask_of 64 (λ a. some_in 64 row (λ b. has_bit (get_or predecessors b 0) a))
 
--- for each d below n_c the states that have a partner in row d of the set
+-- for each d below nC the states that have a partner in row d of the set
 unfoldable pub partner_rows : ℕ → List ℕ → List ℕ → List ℕ
 partner_rows n_c predecessors set = table 64 (λ d. let row = partners_of predecessors (get_or set d 0) in cond (ltb d n_c) row 0)
 
@@ -37,7 +37,7 @@ partner_rows n_c predecessors set = table 64 (λ d. let row = partners_of predec
 unfoldable pub meet_of : ℕ → List ℕ → ℕ
 meet_of moves rows = mask_of 64 (λ a. every_in 64 moves (λ d. has_bit (get_or rows d 0) a))
 
--- for each c below n_c the states a such that (c, a) steps into the set
+-- for each c below nC the states a such that (c, a) steps into the set
 unfoldable pub step_rows : ℕ → List ℕ → List ℕ → List ℕ → List ℕ
 step_rows n_c moves predecessors set =
     let rows = partner_rows n_c predecessors set in

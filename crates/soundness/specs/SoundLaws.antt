@@ -141,7 +141,7 @@ module _ (p : Pair) (T : List ℕ) (w : WellPair p) (passing : passes_each p T �
         rw (lasso_of_moment (loop_start p T l x) ((z - x) * length l.loop) (λ t. (place_at p T l t).state) span_some state_again t)
         (non_blank_at p T (place_at p T l t).section (moment l t) (place_at p T l t).state (covered_at t).covered).0
 
-  -- there are two such loop starts among the first n_a × n + 1: a and j have no more values together
+  -- there are two such loop starts among the first nA × n + 1: a and j have no more values together
   number_of_place : ℕ → ℕ
   number_of_place t = (place_at p T l t).state * sets_a p + (place_at p T l t).section
 
