@@ -6,8 +6,8 @@ ghost use Rattle.std.specs.Prelude.{◌≡◌, ℕ, get_or};
 ghost use Rattle.std.proofs.lemmas.List.Edits.{sets};
 ghost use Rattle.mask.specs.Bits.{has_bit};
 ghost use Rattle.machine.specs.Machines.{same_observation, next};
-ghost use Rattle.machine.specs.Refusals.{refusal, four_numbers};
-ghost use Rattle.machine.specs.Step.{partner, single_step, found, state_of, alike, in_row};
+ghost use Rattle.machine.specs.Refusals.{number_of, spot_of, four_numbers};
+ghost use Rattle.machine.specs.Step.{partner, present_of, single_step, found, alike, in_row};
 ghost use Rattle.machine.specs.Observed.{same_mask, matched_masks};
 ghost use Rattle.machine.specs.Table.{place_of};
 
@@ -31,90 +31,99 @@ pub struct Pair {
     pub hidden: u8,
 }
 
-// Where a call was stopped: a number of document 01's table or one that document 02 adds, and the three numbers of its spot, 0 where unused.
-#[derive(Clone, Copy)]
-pub struct Refusal {
-    pub number: u32,
-    pub first: usize,
-    pub second: usize,
-    pub third: usize,
-}
-
 // The least length of a lent table, in entries: 7 x 64 x 64.
 pub const TABLE_ROOM: usize = 28672;
 
 // The entry of a pair that is not covered.
 pub const BLANK: u16 = 65535;
 
-// A number that no state has: the present state where there is none, before the first.
-pub const NO_STATE: usize = 64;
-
-pub const SHORT_BUFFER: u32 = 1;
-
-pub const BAD_LENGTH: u32 = 2;
-
-pub const BAD_FIRST_BLOCK: u32 = 3;
-
-pub const BAD_HEADER: u32 = 4;
-
-pub const BAD_COUNTS: u32 = 5;
-
-pub const WRONG_LENGTH: u32 = 6;
-
-pub const BAD_BLOCK: u32 = 7;
-
-pub const BAD_PADDING: u32 = 8;
-
-pub const BEYOND_COUNTS: u32 = 9;
-
-pub const NO_START: u32 = 10;
-
-pub const NO_SUCCESSOR: u32 = 11;
-
-pub const FAILING_ENTRY: u32 = 12;
-
-pub const BAD_LASSO_LENGTH: u32 = 13;
-
-pub const BAD_LASSO_STEP: u32 = 14;
-
-pub const UNFAIR_LASSO: u32 = 15;
-
-pub const NO_START_PARTNER: u32 = 16;
-
-pub const MISPLACED: u32 = 19;
-
-pub const OUT_OF_RANGE: u32 = 20;
-
-pub const EMPTY_SET: u32 = 21;
-
-// What is said of a file without a table, where other numbers are refusals'.
-pub const NO_TABLE: u32 = 101;
-
-// Whether the tests of a call pass, and if not where the first stopped it.
-#[derive(Clone, Copy)]
-pub enum Validity {
-    Valid,
-    Refused(Refusal),
+// Where a call was stopped: the condition of document 01's table, or one that document 02 adds, with what tells its spot. Sections and sets are
+// counted from 1, machines, states, blocks and positions from 0.
+#[derive(Clone, Copy, Debug, PartialEq, Eq)]
+pub enum Refusal {
+    ShortBuffer,
+    BadLength,
+    BadFirstBlock,
+    BadHeader,
+    BadCounts,
+    WrongLength,
+    BadBlock { block: usize },
+    BadPadding,
+    BeyondCounts { machine: usize },
+    NoStart { machine: usize },
+    NoSuccessor { machine: usize, state: usize },
+    FailingEntry { section: usize, c: usize, a: usize },
+    BadLassoLength,
+    BadLassoStep { position: usize },
+    UnfairLasso { set: usize },
+    NoStartPartner,
+    Misplaced { block: usize, found: usize },
+    OutOfRange,
+    EmptySet { machine: usize, set: usize },
 }
 
-// The abstract state that a single step names, if there is one.
-#[derive(Clone, Copy)]
-pub enum Partner {
-    State(usize),
-    Nobody,
+// What the check says of a table that passes each line.
+#[derive(Clone, Copy, Debug, PartialEq, Eq)]
+pub enum Verdict {
+    // how many entries are not blank
+    Carried { covered: usize },
+    // the lowest concrete start state without a partner too
+    NotCarried { lacking: usize, covered: usize },
+}
+
+// The lengths of stem and loop of a run that the player wrote.
+#[derive(Clone, Copy, Debug, PartialEq, Eq)]
+pub struct Run {
+    pub stem: usize,
+    pub cycle: usize,
 }
 
 // ---- Refusals
 
-// The refusal with this number and spot.
-pub fn refuse(number: u32, first: usize, second: usize, third: usize) -> Refusal
-    ensures { result ≡ refusal number first second third }
-{
-    Refusal {
-        number: number,
-        first: first,
-        second: second,
-        third: third,
+impl Refusal {
+    // Its number in document 01's table, or the one that document 02 gives it.
+    pub fn number(self) -> u32
+        ensures { result ≡ number_of self }
+    {
+        match self {
+            Refusal::ShortBuffer => 1,
+            Refusal::BadLength => 2,
+            Refusal::BadFirstBlock => 3,
+            Refusal::BadHeader => 4,
+            Refusal::BadCounts => 5,
+            Refusal::WrongLength => 6,
+            Refusal::BadBlock { .. } => 7,
+            Refusal::BadPadding => 8,
+            Refusal::BeyondCounts { .. } => 9,
+            Refusal::NoStart { .. } => 10,
+            Refusal::NoSuccessor { .. } => 11,
+            Refusal::FailingEntry { .. } => 12,
+            Refusal::BadLassoLength => 13,
+            Refusal::BadLassoStep { .. } => 14,
+            Refusal::UnfairLasso { .. } => 15,
+            Refusal::NoStartPartner => 16,
+            Refusal::Misplaced { .. } => 19,
+            Refusal::OutOfRange => 20,
+            Refusal::EmptySet { .. } => 21,
+        }
+    }
+
+    // The three numbers of its spot, 0 where unused.
+    pub fn spot(self) -> [usize; 3]
+        ensures { result ≡ spot_of self }
+    {
+        match self {
+            Refusal::BadBlock { block } => [block, 0, 0],
+            Refusal::BeyondCounts { machine } => [machine, 0, 0],
+            Refusal::NoStart { machine } => [machine, 0, 0],
+            Refusal::NoSuccessor { machine, state } => [machine, state, 0],
+            Refusal::FailingEntry { section, c, a } => [section, c, a],
+            Refusal::BadLassoStep { position } => [position, 0, 0],
+            Refusal::UnfairLasso { set } => [set, 0, 0],
+            Refusal::Misplaced { block, found } => [block, found, 0],
+            Refusal::EmptySet { machine, set } => [machine, set, 0],
+            _ => [0, 0, 0],
+        }
     }
 }
 
@@ -122,10 +131,11 @@ pub fn refuse(number: u32, first: usize, second: usize, third: usize) -> Refusal
 pub fn put_refusal(spot: &mut [u64; 4], r: Refusal)
     ensures { spot.new ≡ sets spot.old 0 (four_numbers r) }
 {
-    spot[0] = r.number as u64;
-    spot[1] = r.first as u64;
-    spot[2] = r.second as u64;
-    spot[3] = r.third as u64;
+    let place = r.spot();
+    spot[0] = r.number() as u64;
+    spot[1] = place[0] as u64;
+    spot[2] = place[1] as u64;
+    spot[3] = place[2] as u64;
 }
 
 // ---- Matched pairs
@@ -176,28 +186,26 @@ pub fn matched_masks(p: Pair) -> [u64; 64]
 
 // ---- The single step
 
-// The single step, in the abstract state `present`, into a set that is given by the mask of its states beside c': of the moves that are in the
-// row the present state if it is among them, else the lowest.
-pub fn partner_in(present: usize, moves: u64, row: u64) -> Partner
-    ensures { result ≡ single_step present moves (has_bit row) alike }
+// The single step, in the abstract state `present`, or before the first state, into a set that is given by the mask of its states beside c': of
+// the moves that are in the row the present state if it is among them, else the lowest.
+pub fn partner_in(present: Option<usize>, moves: u64, row: u64) -> Option<usize>
+    ensures { result ≡ single_step (present_of present) moves (has_bit row) alike }
 {
     let m = moves & row;
-    if mask::has(m, present) {
-        return Partner::State(present);
+    if let Some(a) = present {
+        if mask::has(m, a) {
+            return present;
+        }
     }
-    if m == 0 {
-        Partner::Nobody
-    } else {
-        Partner::State(mask::lowest(m))
-    }
+    if m == 0 { None } else { Some(mask::lowest(m)) }
 }
 
 // Of the moves that are matched with c' and whose entry is at most the bound, the one of least entry, the lowest of these.
-fn least_within(moves: u64, matched: u64, row: &[u16], bound: u16) -> Partner
+fn least_within(moves: u64, matched: u64, row: &[u16], bound: u16) -> Option<usize>
     ensures { result ≡ partner moves (in_row matched row.now bound) (λ a. get_or row.now a 0) }
 {
     let mut m = moves & matched;
-    let mut best = Partner::Nobody;
+    let mut best = None;
     // an entry below the limit is taken: the first has to be within the bound, a later one lower than the best
     let mut limit = bound as u32 + 1;
     while m != 0 {
@@ -205,7 +213,7 @@ fn least_within(moves: u64, matched: u64, row: &[u16], bound: u16) -> Partner
         if a < row.len() {
             let e = row[a] as u32;
             if e < limit {
-                best = Partner::State(a);
+                best = Some(a);
                 limit = e;
             }
         }
@@ -214,23 +222,29 @@ fn least_within(moves: u64, matched: u64, row: &[u16], bound: u16) -> Partner
     best
 }
 
-// The single step, in the abstract state `present`, into a set that is given by its entries beside c' and a bound: of the moves that are matched
-// with c' and whose entry is at most the bound, those of least entry; of these the present state if it is among them, else the lowest.
-pub fn partner_within(present: usize, moves: u64, matched: u64, row: &[u16], bound: u16) -> Partner
-    ensures { result ≡ single_step present moves (in_row matched row.now bound) (λ a. get_or row.now a 0) }
+// The single step, in the abstract state `present`, or before the first state, into a set that is given by its entries beside c' and a bound: of
+// the moves that are matched with c' and whose entry is at most the bound, those of least entry; of these the present state if it is among them,
+// else the lowest.
+pub fn partner_within(
+    present: Option<usize>,
+    moves: u64,
+    matched: u64,
+    row: &[u16],
+    bound: u16,
+) -> Option<usize>
+    ensures { result ≡ single_step (present_of present) moves (in_row matched row.now bound) (λ a. get_or row.now a 0) }
 {
-    let found = least_within(moves, matched, row, bound);
-    let Partner::State(best) = found else {
-        return Partner::Nobody;
-    };
-    if mask::has(moves & matched, present) {
-        if present < row.len() {
-            if row[present] <= row[best] {
-                return Partner::State(present);
+    let best = least_within(moves, matched, row, bound)?;
+    if let Some(a) = present {
+        if mask::has(moves & matched, a) {
+            if a < row.len() {
+                if row[a] <= row[best] {
+                    return present;
+                }
             }
         }
     }
-    Partner::State(best)
+    Some(best)
 }
 
 // Whether `partner_within` names a partner, whatever the present state; it stops at the first.
@@ -248,16 +262,6 @@ pub fn has_partner(moves: u64, matched: u64, row: &[u16], bound: u16) -> bool
         m = mask::rest(m);
     }
     false
-}
-
-// The partner's number, 0 where there is none.
-pub fn state_of(found: Partner) -> usize
-    ensures { result ≡ state_of found }
-{
-    match found {
-        Partner::State(a) => a,
-        Partner::Nobody => 0,
-    }
 }
 
 // ---- Sections and tables
