@@ -3,10 +3,10 @@
 -- a lent table with room only has `well_formed p ≡ true`, `nonempty_sets p ≡ true`, or `table_room ≤ length T`. `read_answer` and `read_table` are what the reader says and leaves in the lent table, `file_of`
 -- is the format's bytes of a show, `write_answer` and `write_buffer` what the writer says and leaves in the lent buffer, `check_verdict` what the check says, `solve_validity` and `solved_table` what the solver says and leaves in the lent table, `restore_answer` and
 -- `restore_buffer` what the file solver says and leaves in the lent buffer.
-use Rattle.std.specs.Prelude.{Bool, true, false, List, ◌++◌, ◌↔◌, ◌≡◌, ℕ, ◌≤◌, ◌<◌, length, get_or, take, drop, replicate}
+use Rattle.std.specs.Prelude.{Bool, true, false, List, ◌++◌, ◌↔◌, ◌≡◌, ℕ, ◌≤◌, ◌<◌, length, get_or, take, drop, replicate, Err, Ok}
 use Rattle.machine.specs.declared.Pair.{Pair}
 use Rattle.machine.specs.declared.Refusal.{Refusal}
-use Rattle.machine.specs.Refusals.{valid, answer, refused}
+use Rattle.machine.specs.Refusals.{valid}
 use Rattle.machine.specs.Machines.{observation, n_c, n_a, sets_a}
 use Rattle.machine.specs.WellFormed.{well_formed, nonempty_sets, nonempty_validity}
 use Rattle.machine.specs.EmptySets.{TellsEmptySet, EmptySetIsUnfair, NonemptyHasState}
@@ -14,7 +14,7 @@ use Rattle.machine.specs.Lassos.{Lasso, moment, is_play, SameObservations}
 use Rattle.machine.specs.Table.{table_room, entry, covers, entries, IsTable}
 use Rattle.machine.specs.Ranks.{solver_table}
 use Rattle.machine.specs.Lines.{passes_each}
-use Rattle.machine.specs.Verdict.{carried, HasStarts, check_verdict}
+use Rattle.machine.specs.Verdict.{HasStarts, check_verdict}
 use Rattle.theory.specs.Figure2.{figure2, FigureGoal}
 use Rattle.theory.specs.Statements.{IsRank}
 use Rattle.codec.specs.Reader.{taken, header_byte, read_answer, read_table}
@@ -26,6 +26,7 @@ use Rattle.solver.specs.Solver.{solve_validity, solved_table}
 use Rattle.hanoi.specs.Statements.{TextTellsMachine, TextFits, LongestText}
 use Rattle.progress.specs.Turns.{first_given, turn_answer, turn_family, turn_table, look_up_answer}
 use Rattle.progress.specs.Statements.{TurnsFinish, OnlyFinishedWrites, FinishedSettles, StruckOutIsFinal, FinishedTells, FirstIsMatched, SolverIsTurns}
+use Rattle.machine.specs.declared.Verdict.TheVariants.{Carried}
 
 -- ---- demand 2, files
 -- "The writer's files read back to what was written": the machines, the note and the table's entries
@@ -55,15 +56,15 @@ EntriesAreUnread = CheckUnread × PlayerUnread × EntriesUnread
 -- read. Then every fair lasso of the rig from a start state has a fair lasso of the score, from a start state, with the same observation at
 -- every moment of endless play." Document 02, No. 4: "The matching of plays is then about the bits not hidden."
 abbrev pub FilesAreSound : Type 0
-FilesAreSound = (f T : List ℕ) (p : Pair) (n : ℕ) → read_answer f T ≡ answer (taken p true) → check_verdict p (read_table f T) ≡ answer (carried n)
+FilesAreSound = (f T : List ℕ) (p : Pair) (n : ℕ) → read_answer f T ≡ Ok (taken p true) → check_verdict p (read_table f T) ≡ Ok (Carried n)
     → (l : Lasso) → is_play p.concrete l ≡ true
     → (k : Lasso) × (is_play p.abstraction k ≡ true) × SameObservations p.hidden p.concrete l p.abstraction k
 
 -- Document 02, No. 4: "Stored files have 0 and keep their meaning." The mask that was read is the header's byte after n. Where that byte is 0, test 4
 -- is document 01's, and so are the matched pairs; and Carried means what it meant, equal observations at every moment
 abbrev pub StoredFilesAreSound : Type 0
-StoredFilesAreSound = (f T : List ℕ) (p : Pair) (n : ℕ) → header_byte f 8 ≡ 0 → read_answer f T ≡ answer (taken p true)
-    → check_verdict p (read_table f T) ≡ answer (carried n)
+StoredFilesAreSound = (f T : List ℕ) (p : Pair) (n : ℕ) → header_byte f 8 ≡ 0 → read_answer f T ≡ Ok (taken p true)
+    → check_verdict p (read_table f T) ≡ Ok (Carried n)
     → (l : Lasso) → is_play p.concrete l ≡ true
     → (k : Lasso) × (is_play p.abstraction k ≡ true) × ((t : ℕ) → observation p.concrete (moment l t) ≡ observation p.abstraction (moment k t))
 
@@ -83,12 +84,12 @@ BadCopiesAreTold = DamagedTold × MisplacedTold × JoinedTold × ExchangedTold �
 -- file solver writes a file that is read without refusal, as the same machines under the same hidden mask with the solver's entries
 pub record Replaced (f buffer lent : List ℕ) (p : Pair) : Type 0 where
   pub size : ℕ
-  pub answers : restore_answer f buffer ≡ answer size
-  pub machines : read_answer (take size (restore_buffer f buffer)) lent ≡ answer (taken p true)
+  pub answers : restore_answer f buffer ≡ Ok size
+  pub machines : read_answer (take size (restore_buffer f buffer)) lent ≡ Ok (taken p true)
   pub table : read_table (take size (restore_buffer f buffer)) lent ≡ solver_table p ++ drop (entries p) lent
 
 abbrev pub LostTableIsReplaced : Type 0
-LostTableIsReplaced = (f first : List ℕ) (p : Pair) (note : Bool) → AreBytes f → read_answer f first ≡ answer (taken p note) → nonempty_sets p ≡ true
+LostTableIsReplaced = (f first : List ℕ) (p : Pair) (note : Bool) → AreBytes f → read_answer f first ≡ Ok (taken p note) → nonempty_sets p ≡ true
     → (buffer lent : List ℕ) → file_room ≤ length buffer → table_room ≤ length lent → Replaced f buffer lent p
 
 -- ---- Document 02, No. 7: "Solver, .. and writer no longer take an empty set in either machine." Of machines that are well formed and have one, and
@@ -96,22 +97,22 @@ LostTableIsReplaced = (f first : List ℕ) (p : Pair) (note : Bool) → AreBytes
 -- read without refusal
 abbrev pub SolverRefusesEmpty : Type 0
 SolverRefusesEmpty = (p : Pair) (T : List ℕ) → well_formed p ≡ true → nonempty_sets p ≡ false → table_room ≤ length T
-    → (r : Refusal) × TellsEmptySet p r × (solve_validity p (length T) ≡ refused r) × (solved_table p T ≡ T)
+    → (r : Refusal) × TellsEmptySet p r × (solve_validity p (length T) ≡ Err r) × (solved_table p T ≡ T)
 
 abbrev pub WriterRefusesEmpty : Type 0
 WriterRefusesEmpty = (p : Pair) (note : Bool) (T buffer : List ℕ) → well_formed p ≡ true → nonempty_sets p ≡ false → table_room ≤ length T → file_room ≤ length buffer
-    → (r : Refusal) × TellsEmptySet p r × (write_answer p note T buffer ≡ refused r) × (write_buffer p note T buffer ≡ buffer)
+    → (r : Refusal) × TellsEmptySet p r × (write_answer p note T buffer ≡ Err r) × (write_buffer p note T buffer ≡ buffer)
 
 abbrev pub FileSolverRefusesEmpty : Type 0
-FileSolverRefusesEmpty = (f first : List ℕ) (p : Pair) (note : Bool) → read_answer f first ≡ answer (taken p note) → nonempty_sets p ≡ false
+FileSolverRefusesEmpty = (f first : List ℕ) (p : Pair) (note : Bool) → read_answer f first ≡ Ok (taken p note) → nonempty_sets p ≡ false
     → (buffer : List ℕ) → file_room ≤ length buffer
-    → (r : Refusal) × TellsEmptySet p r × (restore_answer f buffer ≡ refused r) × (restore_buffer f buffer ≡ buffer)
+    → (r : Refusal) × TellsEmptySet p r × (restore_answer f buffer ≡ Err r) × (restore_buffer f buffer ≡ buffer)
 
 -- and so do the calls of the solver by turns, of any family, section and states: the family comes back as it was, and is zeros from the first call
 abbrev pub TurnsRefuseEmpty : Type 0
 TurnsRefuseEmpty = (p : Pair) (F T : List ℕ) (j c a : ℕ) → well_formed p ≡ true → nonempty_sets p ≡ false → table_room ≤ length T
-    → (r : Refusal) × TellsEmptySet p r × ((nonempty_validity p ≡ refused r) × (first_given p ≡ replicate 448 0))
-    × ((turn_answer p F (length T) ≡ refused r) × (turn_family p F (length T) ≡ F) × (turn_table p F T ≡ T)) × (look_up_answer p F j c a ≡ refused r)
+    → (r : Refusal) × TellsEmptySet p r × ((nonempty_validity p ≡ Err r) × (first_given p ≡ replicate 448 0))
+    × ((turn_answer p F (length T) ≡ Err r) × (turn_family p F (length T) ≡ F) × (turn_table p F T ≡ T)) × (look_up_answer p F j c a ≡ Err r)
 
 abbrev pub EmptySetsAreRefused : Type 0
 EmptySetsAreRefused = SolverRefusesEmpty × WriterRefusesEmpty × FileSolverRefusesEmpty × TurnsRefuseEmpty
@@ -150,7 +151,7 @@ module _ (p : Pair) (T : List ℕ) where
   -- score start state with the pair non-blank in section 1"
   abbrev pub SolvedIsCarried : Type 0
   SolvedIsCarried = well_formed p ≡ true → nonempty_sets p ≡ true → table_room ≤ length T
-      → ((n : ℕ) × (check_verdict p (solved_table p T) ≡ answer (carried n))) ↔ ((R : List ℕ) × IsTable p R × (passes_each p R ≡ true) × HasStarts p R)
+      → ((n : ℕ) × (check_verdict p (solved_table p T) ≡ Ok (Carried n))) ↔ ((R : List ℕ) × IsTable p R × (passes_each p R ≡ true) × HasStarts p R)
 
   -- ---- demand 2: "Entry by entry, the solver's table is the triply nested fixpoint .., read as ranks by document 01", over that formula itself
   -- a pair is not blank in a section exactly if it is in document 000's figure 2 there

@@ -1,5 +1,5 @@
 -- A proof of each statement of demands 2 and 3, by name.
-use Rattle.std.specs.Prelude.{true, List, ◌++◌, ◌≡◌, ℕ, ◌+◌, ◌-◌, ◌≤◌, ◌<◌, take, drop}
+use Rattle.std.specs.Prelude.{true, List, ◌++◌, ◌≡◌, ℕ, ◌+◌, ◌-◌, ◌≤◌, ◌<◌, take, drop, Err, Ok}
 use Rattle.std.proofs.Math.Path.{refl}
 use Rattle.std.proofs.Common.{sym, ap, subst, ◌∙◌, arith, get_or-append-add, take_at}
 use Rattle.std.proofs.Math.ListN.{length, get_or}
@@ -7,7 +7,7 @@ use Rattle.std.proofs.Math.Seq.{get_or-drop}
 use Rattle.mask.specs.Tables.{table}
 use Rattle.mask.specs.TablesLaws.{fill_done}
 use Rattle.machine.specs.declared.Pair.{Pair}
-use Rattle.machine.specs.Refusals.{Result, answer, refused, buffer_after}
+use Rattle.machine.specs.Refusals.{buffer_after, Answer}
 use Rattle.machine.specs.RefusalsLaws.{then_refused, buffer_kept}
 use Rattle.machine.specs.Machines.{n_c, n_a, sets_a}
 use Rattle.machine.specs.WellFormed.{well_formed, nonempty_sets}
@@ -16,7 +16,7 @@ use Rattle.machine.specs.EmptySetsLaws.{empty_set_told_lem, empty_set_is_unfair,
 use Rattle.machine.specs.Ranks.{rank, solver_table}
 use Rattle.machine.specs.Table.{table_room, entry, entries}
 use Rattle.machine.specs.LinesLaws.{covers_at, covers_of}
-use Rattle.machine.specs.Verdict.{carried, lines_verdict, check_verdict}
+use Rattle.machine.specs.Verdict.{lines_verdict, check_verdict}
 use Rattle.machine.specs.VerdictLaws.{check_lines, check_said}
 use Rattle.machine.specs.EntriesLaws.{entry_same, covers_same, each_same, verdict_same}
 use Rattle.theory.specs.RankLaws.{table_entries, table_is}
@@ -40,6 +40,7 @@ use Rattle.restore.specs.Restoring.{restored, restore_buffer}
 use Rattle.restore.specs.RestoringLaws.{restore_valid, restore_made, restore_empty}
 use Rattle.assurance.specs.Statements.{FilesReadBack, FilesAreWritten, FirstBlockIsEnough, TakenIsNotCut, EntriesAreUnread, FilesAreSound, StoredFilesAreSound, StoredFilesKeepMeaning, BlocksAreTold, BadCopiesAreTold, LostTableIsReplaced, SolverRefusesEmpty, WriterRefusesEmpty, FileSolverRefusesEmpty, TurnsRefuseEmpty, EmptySetsAreRefused, EmptySetMeans, TurnsAreSolver, TextsOfMachines}
 use Rattle.assurance.specs.Statements.{SolverTakesMachines, SolvedPasses, SolvedCovers, SolvedIsCarried, SolvedIsFigure2, SolvedGoals, SolvedRanks, SolvedRest}
+use Rattle.machine.specs.declared.Verdict.TheVariants.{Carried}
 
 pub files_read_back : FilesReadBack
 files_read_back = (write_read, written_reads)
@@ -57,7 +58,7 @@ pub entries_are_unread : EntriesAreUnread
 entries_are_unread = (check_unread, player_unread, entries_unread)
 
 pub files_are_sound : FilesAreSound
-files_are_sound f T p n taken said = carried_is_sound p _ n (check_said p _ (carried n) said)
+files_are_sound f T p n taken said = carried_is_sound p _ n (check_said p _ (Carried n) said)
 
 -- the mask is 0, and with mask 0 the bytes are equal
 pub stored_files_are_sound : StoredFilesAreSound
@@ -178,8 +179,8 @@ module _ (p : Pair) (T : List ℕ) where
   unfolding solved_table buffer_after
   solved_rest e h = rest (solve_validity p (length T))
     where
-      rest : {A : Type 0} (v : Result A) → get_or (buffer_after v (solver_table p) T) e 0 ≡ get_or T e 0
-      rest (refused r) = refl
-      rest (answer a) =
+      rest : {A : Type 0} (v : Answer A) → get_or (buffer_after v (solver_table p) T) e 0 ≡ get_or T e 0
+      rest (Err r) = refl
+      rest (Ok a) =
           let k : length (solver_table p) + (e - entries p) ≡ e = omega (arith, table_entries p) in
           rw k at (get_or-append-add (solver_table p) (drop (length (solver_table p)) T) (e - entries p) 0 ∙ get_or-drop (length (solver_table p)) T (e - entries p) 0)

@@ -1,5 +1,5 @@
 -- Laws of families as the plain reading has them: entry by entry, bit by bit, and of the table that is made.
-use Rattle.std.specs.Prelude.{Bool, true, List, ◌++◌, ◌≡◌, ◌%◌, ◌*◌, ◌+◌, ◌/◌, ◌<◌, ◌≤◌, ℕ, ltb, get_or, length}
+use Rattle.std.specs.Prelude.{Bool, true, List, ◌++◌, ◌≡◌, ◌%◌, ◌*◌, ◌+◌, ◌/◌, ◌<◌, ◌≤◌, ℕ, ltb, get_or, length, Err}
 use Rattle.std.proofs.Math.Bool.{false}
 use Rattle.std.proofs.Common.{◌∙◌, le-ltb, lt-ltb}
 use Rattle.std.proofs.Math.Path.{ap, sym}
@@ -12,7 +12,7 @@ use Rattle.mask.specs.LogicLaws.{and_false_l, and_false_r, and_i, and_true_l, no
 use Rattle.mask.specs.Tables.{front, table}
 use Rattle.mask.specs.TablesLaws.{table_length}
 use Rattle.machine.specs.Machines.{matched, n_a, n_c, pairs, sets_a}
-use Rattle.machine.specs.Refusals.{refused, valid}
+use Rattle.machine.specs.Refusals.{valid}
 use Rattle.machine.specs.RefusalsLaws.{buffer_kept, buffer_made, buffer_short, buffer_valid, then_of, then_refused}
 use Rattle.machine.specs.Table.{blank, entries, table_room}
 use Rattle.machine.specs.WellFormed.{pair_validity}
@@ -42,7 +42,7 @@ module _ (p : Pair) (F T : List ℕ) where
   family_short h = sym (buffer_kept _ _ T (then_refused _ _ _ (buffer_short table_room (length T) h)))
 
   module _ (h : table_room ≤ length T) where
-    pub family_ill : (r : Refusal) → pair_validity p ≡ refused r → T ≡ family_table p F T
+    pub family_ill : (r : Refusal) → pair_validity p ≡ Err r → T ≡ family_table p F T
     unfolding family_table
     family_ill r e = sym (buffer_kept _ _ T (then_of _ _ (buffer_valid table_room (length T) h) ∙ e))
 

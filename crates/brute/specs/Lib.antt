@@ -1,3 +1,4 @@
+pub mod Comparing
 -- definitions
 pub mod Numbers
 pub mod Lines

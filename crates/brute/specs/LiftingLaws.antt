@@ -1,5 +1,5 @@
 -- Laws of lifting: one turn at a time, and that entries past n × P are neither looked at nor changed.
-use Rattle.std.specs.Prelude.{Bool, cond, false, true, ◌≡◌, get_or, set}
+use Rattle.std.specs.Prelude.{Bool, cond, false, true, ◌≡◌, get_or, set, Err}
 use mathlib.Core.List.{List, ◌++◌}
 use Rattle.std.proofs.Common.{◌∙◌, div-lt_iff_lt-mul, mod-lt, add-one, arith, le-ltb, lt-ltb}
 use Rattle.std.proofs.Math.Path.{ap, refl, sym}
@@ -14,7 +14,7 @@ use Rattle.machine.specs.EntriesLaws.{each_same, front_same, passes_same}
 use Rattle.machine.specs.Lines.{lines_validity, passes, passes_each}
 use Rattle.machine.specs.LinesLaws.{lines_valid, valid_passes}
 use Rattle.machine.specs.Machines.{n_a, n_c, pairs, sets_a, sets_c}
-use Rattle.machine.specs.Refusals.{refused, valid}
+use Rattle.machine.specs.Refusals.{valid}
 use Rattle.machine.specs.RefusalsLaws.{buffer_kept, buffer_made, buffer_short, buffer_valid, refused_not_answer, then_of, then_refused}
 use Rattle.machine.specs.Table.{blank, entries, table_room}
 use Rattle.machine.specs.WellFormed.{pair_validity}
@@ -80,10 +80,10 @@ module _ (p : Pair) (T : List ℕ) where
   lifted_done zero e = refl
   lifted_done (suc n) e = rw (valid_passes p T e)
 
-  fails : (r : Refusal) → lines_validity p T ≡ refused r → passes_each p T ≡ false
+  fails : (r : Refusal) → lines_validity p T ≡ Err r → passes_each p T ≡ false
   fails r e = refute _ (λ t. refused_not_answer (sym e ∙ lines_valid p T t))
 
-  pub lifted_next : {S : List ℕ} (n k : ℕ) (r : Refusal) → lines_validity p T ≡ refused r → S ≡ swept p (entries p) T → n ≡ suc k
+  pub lifted_next : {S : List ℕ} (n k : ℕ) (r : Refusal) → lines_validity p T ≡ Err r → S ≡ swept p (entries p) T → n ≡ suc k
       → lifted p k S ≡ lifted p n T
   unfolding lifted
   lifted_next n k r e q h = rw (q, h, fails r e)
@@ -147,7 +147,7 @@ module _ (p : Pair) (T : List ℕ) where
   lifted_short h = sym (buffer_kept _ _ T (then_refused _ _ _ (buffer_short table_room (length T) h)))
 
   module _ (h : table_room ≤ length T) where
-    pub lifted_ill : (r : Refusal) → pair_validity p ≡ refused r → T ≡ lifted_table p T
+    pub lifted_ill : (r : Refusal) → pair_validity p ≡ Err r → T ≡ lifted_table p T
     unfolding lifted_table
     lifted_ill r e = sym (buffer_kept _ _ T (then_of _ _ (buffer_valid table_room (length T) h) ∙ e))
 

@@ -1,5 +1,5 @@
 -- Laws of ranks that are found by brute force: the rule case by case, and what a turn of each loop does.
-use Rattle.std.specs.Prelude.{Bool, cond, true, List, ◌≡◌, eqb, get_or, length, replicate, set}
+use Rattle.std.specs.Prelude.{Bool, cond, true, List, ◌≡◌, eqb, get_or, length, replicate, set, Err}
 use Rattle.std.proofs.Math.Bool.{false}
 use Rattle.std.proofs.Common.{◌∙◌, add-one}
 use Rattle.std.proofs.Math.Path.{refl, sym}
@@ -14,7 +14,6 @@ use Rattle.mask.specs.Tables.{front}
 use Rattle.mask.specs.FrontLaws.{front_end, front_past, front_skip, front_turn}
 use Rattle.machine.specs.Lines.{goal_line}
 use Rattle.machine.specs.Machines.{in_fair_set, matched, n_a, pairs, sets_a, sets_c}
-use Rattle.machine.specs.Refusals.{refused}
 use Rattle.machine.specs.Step.{steps}
 use Rattle.machine.specs.Table.{blank}
 use Rattle.machine.specs.WellFormed.{is_valid, pair_validity, well_formed}
@@ -195,7 +194,7 @@ module _ (p : Pair) (exact : Bool) (T S : List ℕ) (j : ℕ) {R : List ℕ} (r 
 
 -- ---- the ranks of a table
 module _ (p : Pair) (exact : Bool) (T S : List ℕ) where
-  pub table_ill : (r : Refusal) → pair_validity p ≡ refused r → table_ranked p exact T S ≡ false
+  pub table_ill : (r : Refusal) → pair_validity p ≡ Err r → table_ranked p exact T S ≡ false
   unfolding table_ranked well_formed is_valid
   table_ill r e = and_false_l _ (rw e)
 

@@ -1,5 +1,5 @@
 -- Laws of a scan of all states that keeps the best one so far, and of the player's places.
-use Rattle.std.specs.Prelude.{Bool, false, true, List, ◌≡◌, refl, eqb, get_or, length}
+use Rattle.std.specs.Prelude.{Bool, false, true, List, ◌≡◌, refl, eqb, get_or, length, Err, None, Ok, Option, Some, ℕ}
 use Rattle.std.proofs.Math.Logic.{by_cases}
 use Rattle.std.proofs.Common.{⊎_elim, ◌∙◌, eq-eqb, ne_eqb}
 use Prim.Native.Nat.{◌*◌, ◌+◌, ◌-◌, ◌<◌, ◌≤◌, suc, zero, ℕ}
@@ -16,29 +16,27 @@ use Rattle.machine.specs.LinesLaws.{covers_at}
 use Rattle.machine.specs.Machines.{moves, n_a, n_c, sets_a, successors}
 use Rattle.machine.specs.PartnerLaws.{better_in, better_out, least_miss, least_step, limit_of, partner_view}
 use Rattle.machine.specs.Player.{Place, earlier_round, follow, last_round, loop_length, loop_start, place_at, play_validity, played, same_place, section_after, start_partner, stem_length, step_to, play_answer}
-use Rattle.machine.specs.Refusals.{answer, refused, valid}
+use Rattle.machine.specs.Refusals.{valid}
 use Rattle.machine.specs.RefusalsLaws.{then_of, then_refused}
 use Rattle.machine.specs.Step.{least, partner, staying, single_step, state_of}
 use Rattle.machine.specs.Table.{blank, covers, entry, entry_index}
 use Rattle.machine.specs.PlayerLaws.{section_lt}
 use Rattle.machine.specs.declared.Pair.{Pair}
-use Rattle.machine.specs.declared.Partner.{Partner}
-use Rattle.machine.specs.declared.Partner.TheVariants.{Nobody, State}
 use Rattle.machine.specs.declared.Refusal.{Refusal}
 
 -- the best of the states below n that pass q, and what a later one has to stay below: before there is one, the keys up to the bound
-pub record Scanned (q : ℕ → Bool) (key : ℕ → ℕ) (bound n : ℕ) (best : Partner) (limit : ℕ) : Type 0 where
+pub record Scanned (q : ℕ → Bool) (key : ℕ → ℕ) (bound n : ℕ) (best : (Option ℕ)) (limit : ℕ) : Type 0 where
   pub best_is : least n q key ≡ best
   pub limit_is : limit ≡ limit_of key bound best
   pub limit_le : limit ≤ bound + 1
 
 module _ (q : ℕ → Bool) (key : ℕ → ℕ) (bound : ℕ) where
-  pub scan_start : Scanned q key bound 0 Nobody (bound + 1)
+  pub scan_start : Scanned q key bound 0 None (bound + 1)
   unfolding least limit_of
   scan_start = record { best_is = refl; limit_is = refl; limit_le = omega arith }
 
-  module _ (n : ℕ) (best : Partner) (limit : ℕ) (d : Scanned q key bound n best limit) where
-    pub scan_take : q n ≡ true → key n < limit → Scanned q key bound (n + 1) (State n) (key n)
+  module _ (n : ℕ) (best : (Option ℕ)) (limit : ℕ) (d : Scanned q key bound n best limit) where
+    pub scan_take : q n ≡ true → key n < limit → Scanned q key bound (n + 1) (Some n) (key n)
     unfolding limit_of
     scan_take t h = record {
       best_is = rw add-one (least_step q key n best d.best_is t ∙ rw (better_in key bound best n (rw d.limit_is at h)));
@@ -74,7 +72,6 @@ module _ (p : Pair) (T : List ℕ) (small : (i : ℕ) → get_or T i 0 ≤ blank
 
 -- ---- places stay within the abstract machine's 64 states and its sections
 pub state_small : (moves : ℕ) (S : ℕ → Bool) (key : ℕ → ℕ) → state_of (partner moves S key) < 64
-unfolding state_of
 state_small moves S key = ⊎_elim (λ v. rw v.1 v.2.candidate.below) (λ v. rw v.0 (omega arith)) (partner_view moves S key)
 
 module _ (p : Pair) (T : List ℕ) where
@@ -82,7 +79,7 @@ module _ (p : Pair) (T : List ℕ) where
     pub state_in : at.state ≤ 64
     pub section_in : at.section < sets_a p
 
-  pub step_is : (c d moves : ℕ) (at : Place) (found : Partner) (j : ℕ) → j ≡ section_after p T c at → moves ≡ successors p.abstraction at.state
+  pub step_is : (c d moves : ℕ) (at : Place) (found : (Option ℕ)) (j : ℕ) → j ≡ section_after p T c at → moves ≡ successors p.abstraction at.state
       → found ≡ single_step at.state moves (non_blank p T j d) (entry p T j d) → record { state = state_of found; section = j } ≡ step_to p T c at d
   unfolding step_to follow
   step_is c d moves at found j ej em ef = rw (ef, em, ej)
@@ -92,7 +89,7 @@ module _ (p : Pair) (T : List ℕ) where
   step_placed c d at h = record { state_in = le_of_lt (state_small _ _ _); section_in = section_lt p T c at h.section_in }
 
   module _ (l : Lasso) where
-    pub place_start : (found : Partner) → found ≡ start_partner p T (moment l 0) → record { state = state_of found; section = 0 } ≡ place_at p T l 0
+    pub place_start : (found : (Option ℕ)) → found ≡ start_partner p T (moment l 0) → record { state = state_of found; section = 0 } ≡ place_at p T l 0
     unfolding place_at
     place_start found e = rw e
 
@@ -133,11 +130,11 @@ module _ (p : Pair) (T : List ℕ) (l : Lasso) where
 
 -- ---- the answer
 module _ (p : Pair) (T : List ℕ) (l : Lasso) where
-  pub played_refused : (r : Refusal) → play_validity p T l ≡ refused r → play_answer p T l ≡ refused r
+  pub played_refused : (r : Refusal) → play_validity p T l ≡ Err r → play_answer p T l ≡ Err r
   unfolding play_answer
   played_refused r e = then_refused _ _ r e
 
   pub played_run : play_validity p T l ≡ valid → (x y : ℕ) → y ≡ last_round p T l → x ≡ first y (λ x. same_place p T l x y)
-      → play_answer p T l ≡ answer (played (loop_start p T l x) ((y - x) * length l.loop))
+      → play_answer p T l ≡ Ok (played (loop_start p T l x) ((y - x) * length l.loop))
   unfolding play_answer stem_length loop_length earlier_round
   played_run v x y ey ex = then_of _ _ v ∙ rw (← ey, ← ex)

@@ -1,5 +1,5 @@
 -- Laws of an entry's l and k as they are counted down, of the place of an entry, and of the sets that a line steps into.
-use Rattle.std.specs.Prelude.{Bool, false, true, List, ◌≡◌, ◌*◌, ◌+◌, ◌-◌, ◌/◌, ◌<◌, ◌≤◌, ℕ}
+use Rattle.std.specs.Prelude.{Bool, false, true, List, ◌≡◌, ◌*◌, ◌+◌, ◌-◌, ◌/◌, ◌<◌, ◌≤◌, ℕ, Err}
 use Rattle.std.proofs.Common.{◌∙◌, ap, mod-eq_of_lt, add-one, arith}
 use Rattle.std.proofs.Math.Path.{refl, sym}
 use Rattle.std.proofs.Math.Nat.{add-mod_right, div-eq_of_lt, div-eq-sub-div}
@@ -12,7 +12,7 @@ use Rattle.machine.specs.Lines.{at_most, goal_line, lines_validity, lower, non_b
 use Rattle.machine.specs.Machines.{in_fair_set, matched, moves, n_a, n_c, next, pairs, sets_a, sets_c, starts, successors}
 use Rattle.machine.specs.Ranks.{level_of, set_of}
 use Rattle.machine.specs.LinesLaws.{outside_bound, passes_covered}
-use Rattle.machine.specs.Refusals.{failing_entry, refusal, refused, valid}
+use Rattle.machine.specs.Refusals.{valid}
 use Rattle.machine.specs.RowLaws.{section_room}
 use Rattle.machine.specs.Step.{steps}
 use Rattle.machine.specs.Table.{blank, covers, entry}
@@ -22,6 +22,7 @@ use Rattle.machine.specs.declared.Pair.{Pair}
 use Rattle.brute.specs.Lines.{hit, in_target}
 use Rattle.brute.specs.declared.lines.Target.{Target}
 use Rattle.brute.specs.declared.lines.Target.TheVariants.{AtMost, Lower, NonBlank}
+use Rattle.machine.specs.declared.Refusal.TheVariants.{FailingEntry}
 
 -- ---- l and k
 -- (l − 1) × m + k, counted down by m
@@ -142,7 +143,7 @@ module _ (p : Pair) (T : List ℕ) (j c a : ℕ) where
 -- ---- the first entry that fails, as nested searches find it
 module _ (p : Pair) (T : List ℕ) (j : ℕ) (ej : j ≡ first (sets_a p) (λ j. not (every (n_c p) (λ c. every (n_a p) (passes p T j c))))) where
   pub lines_at_lem : (c a : ℕ) → c ≡ first (n_c p) (λ c. not (every (n_a p) (passes p T j c))) → a ≡ first (n_a p) (λ a. not (passes p T j c a))
-      → j < sets_a p → lines_validity p T ≡ refused (refusal failing_entry (j + 1) c a)
+      → j < sets_a p → lines_validity p T ≡ Err (FailingEntry (j + 1) c a)
   unfolding lines_validity
   lines_at_lem c a ec ea h = rw (← ej, ← ec, ← ea, lt-ltb j (sets_a p) h, add-one)
 

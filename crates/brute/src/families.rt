@@ -9,7 +9,7 @@ ghost use Rattle.brute.specs.Families.{is_pair, holds_pairs, family_entry, famil
 
 use crate::machines::{is_matched, validity};
 use crate::numbers::digit;
-use machine::{Pair, Validity};
+use machine::Pair;
 
 // ---- The table that covers what a family holds
 
@@ -43,8 +43,7 @@ pub fn put_family(p: Pair, family: &[u64; 448], table: &mut [u16])
     if table.len() < machine::TABLE_ROOM {
         return;
     }
-    let valid = validity(p);
-    if let Validity::Refused(_) = valid {
+    if validity(p).is_err() {
         return;
     }
     for e in 0..abstraction.sets * (concrete.states * abstraction.states) {

@@ -1,13 +1,12 @@
 // The plain reading of lassos and of endless play.
 ghost use Rattle.std.specs.Prelude.{[], ◌≡◌, ◌+◌, length, get_or};
-ghost use Rattle.mask.specs.Bounded.{every, some, first};
+ghost use Rattle.mask.specs.Bounded.{every, some, first, below};
 ghost use Rattle.machine.specs.Machines.{observation, same_observation, in_fair_set};
-ghost use Rattle.machine.specs.Refusals.{tested_of};
 ghost use Rattle.machine.specs.Lassos.{moment, is_lasso, is_fair, is_play, given};
 ghost use Rattle.machine.specs.Player.{bad_step, missed_set, lasso_validity};
 
 use crate::machines::{has_move, has_start, in_set, observed};
-use machine::{Machine, Validity};
+use machine::{Machine, Refusal};
 
 // The state at moment t of the endless play.
 pub fn moment_at(stem: &[u8], cycle: &[u8], t: usize) -> u8
@@ -129,47 +128,35 @@ fn bad_step(m: &Machine, stem: &[u8], cycle: &[u8], i: usize) -> bool
     false
 }
 
-// The lowest position at which 14 holds, the lasso's length where there is none.
-fn first_bad(m: &Machine, stem: &[u8], cycle: &[u8]) -> usize
-    ensures { result ≡ first (length stem.now + length cycle.now) (bad_step m.now (given stem.now cycle.now)) }
+// The lowest position at which 14 holds.
+fn first_bad(m: &Machine, stem: &[u8], cycle: &[u8]) -> Option<usize>
+    ensures { result ≡ below (length stem.now + length cycle.now) (first (length stem.now + length cycle.now) (bad_step m.now (given stem.now cycle.now))) }
 {
-    for i in 0..stem.len() + cycle.len() {
-        if bad_step(m, stem, cycle, i) {
-            return i;
-        }
-    }
-    stem.len() + cycle.len()
+    (0..stem.len() + cycle.len()).find(|i| bad_step(m, stem, cycle, *i))
 }
 
-// The lowest set without a state of the loop, the number of sets where there is none.
-fn first_missed(m: &Machine, cycle: &[u8]) -> usize
-    ensures { result ≡ first m.now.sets (missed_set m.now (given [] cycle.now)) }
+// The lowest set without a state of the loop.
+fn first_missed(m: &Machine, cycle: &[u8]) -> Option<usize>
+    ensures { result ≡ below m.now.sets (first m.now.sets (missed_set m.now (given [] cycle.now))) }
 {
-    for k in 0..m.sets {
-        if !visits(m, k, cycle) {
-            return k;
-        }
-    }
-    m.sets
+    (0..m.sets).find(|k| !visits(m, *k, cycle))
 }
 
 // 13 to 15 of a lasso; the spot's set is counted from 1.
-pub fn lasso_fits(m: &Machine, stem: &[u8], cycle: &[u8]) -> Validity
-    ensures { tested_of result ≡ lasso_validity m.now (given stem.now cycle.now) }
+pub fn lasso_fits(m: &Machine, stem: &[u8], cycle: &[u8]) -> Result<(), Refusal>
+    ensures { result ≡ lasso_validity m.now (given stem.now cycle.now) }
 {
     if cycle.len() == 0 {
-        return Validity::Refused(machine::refuse(machine::BAD_LASSO_LENGTH, 0, 0, 0));
+        return Err(Refusal::BadLassoLength);
     }
     if stem.len() + cycle.len() > 64 {
-        return Validity::Refused(machine::refuse(machine::BAD_LASSO_LENGTH, 0, 0, 0));
+        return Err(Refusal::BadLassoLength);
     }
-    let i = first_bad(m, stem, cycle);
-    if i < stem.len() + cycle.len() {
-        return Validity::Refused(machine::refuse(machine::BAD_LASSO_STEP, i, 0, 0));
+    if let Some(position) = first_bad(m, stem, cycle) {
+        return Err(Refusal::BadLassoStep { position });
     }
-    let k = first_missed(m, cycle);
-    if k < m.sets {
-        return Validity::Refused(machine::refuse(machine::UNFAIR_LASSO, k + 1, 0, 0));
+    match first_missed(m, cycle) {
+        Some(k) => Err(Refusal::UnfairLasso { set: k + 1 }),
+        None => Ok(()),
     }
-    Validity::Valid
 }

@@ -15,10 +15,10 @@ mod runs;
 pub use families::{holds_pairs, numbered_family, put_family};
 pub use lassos::{is_play, same_until};
 pub use lifting::lift;
-pub use lines::{Verdict, plain_verdict, value_at};
+pub use lines::{plain_verdict, value_at};
 pub use machines::{nonempty_validity, validity};
 pub use numbers::{
     Shape, digit, entry_of, numbered_machine, numbered_pair, put_entries, put_states,
 };
-pub use ranking::{COVERED, RANKS, is_ranked};
-pub use runs::{Played, is_run, plain_play};
+pub use ranking::{Compared, is_ranked};
+pub use runs::{is_run, plain_play};

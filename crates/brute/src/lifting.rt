@@ -8,7 +8,7 @@ ghost use Rattle.brute.specs.Lifting.{raised, lifted_at, swept, lifted_table};
 
 use crate::lines::{entry_passes, lines};
 use crate::machines::validity;
-use machine::{Pair, Validity};
+use machine::Pair;
 
 // The entry after e: one more, and blank after the greatest rank.
 fn raise(most: usize, e: u16) -> u16
@@ -54,9 +54,7 @@ fn put_zeros(n: usize, table: &mut [u16])
     requires { n ≤ length table.old }
     ensures { table.new ≡ replicate n 0 ++ drop n table.old }
 {
-    for e in 0..n {
-        table[e] = 0;
-    }
+    table[..n].fill(0);
 }
 
 // Lifts the n x P entries from 0 until each line passes. A table that is short and one of machines that are not well formed are kept.
@@ -68,16 +66,14 @@ pub fn lift(p: Pair, table: &mut [u16])
     if table.len() < machine::TABLE_ROOM {
         return;
     }
-    let valid = validity(p);
-    if let Validity::Refused(_) = valid {
+    if validity(p).is_err() {
         return;
     }
     let pairs = concrete.states * abstraction.states;
     let count = abstraction.sets * pairs;
     put_zeros(count, table);
     for _ in 0..count * (concrete.sets * pairs + 2) {
-        let passed = lines(&p, table);
-        if let Validity::Valid = passed {
+        if lines(&p, table).is_ok() {
             return;
         }
         sweep(&p, table);

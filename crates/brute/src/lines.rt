@@ -1,27 +1,18 @@
 // The plain reading of document 01's "Line check".
-ghost use Rattle.std.specs.Prelude.{true, ◌≡◌, ◌<◌, ◌≤◌, get_or};
-ghost use Rattle.mask.specs.Bounded.{every, first, some_in};
+ghost use Rattle.std.specs.Prelude.{true, ◌≡◌, ◌<◌, ◌≤◌, get_or, Ok};
+ghost use Rattle.mask.specs.Bounded.{every, first, below, some_in};
 ghost use Rattle.mask.specs.Logic.{not};
 ghost use Rattle.machine.specs.Machines.{successors, n_c, n_a, sets_a};
-ghost use Rattle.machine.specs.Refusals.{answer, tested_of};
 ghost use Rattle.machine.specs.WellFormed.{has_empty_set, well_formed};
 ghost use Rattle.machine.specs.Step.{steps};
 ghost use Rattle.machine.specs.Ranks.{level_of, set_of};
 ghost use Rattle.machine.specs.Table.{entry, covered_count};
 ghost use Rattle.machine.specs.Lines.{passes, goal_line, rank_line, lines_validity};
-ghost use Rattle.machine.specs.Verdict.{start_covered, lacking_start, start_verdict, check_verdict, check_empty_set};
-ghost use Rattle.brute.specs.Lines.{hit, in_target, verdict_of, empty_set_of};
+ghost use Rattle.machine.specs.Verdict.{start_covered, lacking_start, start_verdict, verdict_of, empty_set_of, check_verdict, check_empty_set};
+ghost use Rattle.brute.specs.Lines.{hit, in_target};
 
 use crate::machines::{has_empty_set, has_move, has_start, in_set, is_matched, validity};
-use machine::{Pair, Refusal, Validity};
-
-// What the check says: Carried with the count, NotCarried with c and the count, each with whether a concrete set is empty; or where it was stopped.
-#[derive(Clone, Copy)]
-pub enum Verdict {
-    Carried(usize, bool),
-    NotCarried(usize, usize, bool),
-    Refused(Refusal),
-}
+use machine::{Checked, Pair, Refusal, Verdict};
 
 // The entries that a line steps into: those that are not blank, those that are 0 or have a smaller l, those that are at most a number.
 #[derive(Clone, Copy)]
@@ -176,63 +167,48 @@ pub fn entry_passes(p: &Pair, table: &[u16], j: usize, c: usize, a: usize) -> bo
     rank_holds(p, table, j, e, c, a)
 }
 
-// The lowest a whose entry beside c in section j fails, nA where none does.
-fn failing_state(p: &Pair, table: &[u16], j: usize, c: usize) -> usize
+// The lowest a whose entry beside c in section j fails.
+fn failing_state(p: &Pair, table: &[u16], j: usize, c: usize) -> Option<usize>
     requires { (well_formed p.now ≡ true) × ((j < sets_a p.now) × (c ≤ 64)) }
-    ensures { result ≡ first (n_a p.now) (λ a. not (passes p.now table.now j c a)) }
+    ensures { result ≡ below (n_a p.now) (first (n_a p.now) (λ a. not (passes p.now table.now j c a))) }
 {
     let abstraction = &p.abstraction;
-    for a in 0..abstraction.states {
-        if !entry_passes(p, table, j, c, a) {
-            return a;
-        }
-    }
-    abstraction.states
+    (0..abstraction.states).find(|a| !entry_passes(p, table, j, c, *a))
 }
 
-// The lowest c in whose row of section j an entry fails, nC where none does.
-fn failing_row(p: &Pair, table: &[u16], j: usize) -> usize
+// The lowest c in whose row of section j an entry fails.
+fn failing_row(p: &Pair, table: &[u16], j: usize) -> Option<usize>
     requires { (well_formed p.now ≡ true) × (j < sets_a p.now) }
-    ensures { result ≡ first (n_c p.now) (λ c. not (every (n_a p.now) (passes p.now table.now j c))) }
+    ensures { result ≡ below (n_c p.now) (first (n_c p.now) (λ c. not (every (n_a p.now) (passes p.now table.now j c)))) }
 {
     let concrete = &p.concrete;
-    let abstraction = &p.abstraction;
-    for c in 0..concrete.states {
-        if failing_state(p, table, j, c) < abstraction.states {
-            return c;
-        }
-    }
-    concrete.states
+    (0..concrete.states).find(|c| failing_state(p, table, j, *c).is_some())
 }
 
-// The lowest section in which an entry fails, n where none does.
-fn failing_section(p: &Pair, table: &[u16]) -> usize
+// The lowest section in which an entry fails.
+fn failing_section(p: &Pair, table: &[u16]) -> Option<usize>
     requires { well_formed p.now ≡ true }
-    ensures { result ≡ first (sets_a p.now) (λ j. not (every (n_c p.now) (λ c. every (n_a p.now) (passes p.now table.now j c)))) }
+    ensures { result ≡ below (sets_a p.now) (first (sets_a p.now) (λ j. not (every (n_c p.now) (λ c. every (n_a p.now) (passes p.now table.now j c))))) }
 {
-    let concrete = &p.concrete;
     let abstraction = &p.abstraction;
-    for j in 0..abstraction.sets {
-        if failing_row(p, table, j) < concrete.states {
-            return j;
-        }
-    }
-    abstraction.sets
+    (0..abstraction.sets).find(|j| failing_row(p, table, *j).is_some())
 }
 
 // 12, with the first entry that fails; the spot's section is counted from 1.
-pub fn lines(p: &Pair, table: &[u16]) -> Validity
+pub fn lines(p: &Pair, table: &[u16]) -> Result<(), Refusal>
     requires { well_formed p.now ≡ true }
-    ensures { tested_of result ≡ lines_validity p.now table.now }
+    ensures { result ≡ lines_validity p.now table.now }
 {
-    let abstraction = &p.abstraction;
-    let j = failing_section(p, table);
-    if j < abstraction.sets {
-        let c = failing_row(p, table, j);
-        let a = failing_state(p, table, j, c);
-        return Validity::Refused(machine::refuse(machine::FAILING_ENTRY, j + 1, c, a));
-    }
-    Validity::Valid
+    let Some(j) = failing_section(p, table) else {
+        return Ok(());
+    };
+    let c = failing_row(p, table, j).unwrap_or(0);
+    let a = failing_state(p, table, j, c).unwrap_or(0);
+    Err(Refusal::FailingEntry {
+        section: j + 1,
+        c,
+        a,
+    })
 }
 
 // How many of the n x P entries are not blank.
@@ -267,53 +243,42 @@ fn start_covered(p: &Pair, table: &[u16], c: usize) -> bool
     false
 }
 
-// The lowest concrete start state that has none, nC where each has one.
-fn lacking_start(p: &Pair, table: &[u16]) -> usize
+// The lowest concrete start state that has none.
+fn lacking_start(p: &Pair, table: &[u16]) -> Option<usize>
     requires { well_formed p.now ≡ true }
-    ensures { result ≡ lacking_start p.now table.now }
+    ensures { result ≡ below (n_c p.now) (lacking_start p.now table.now) }
 {
     let concrete = &p.concrete;
-    for c in 0..concrete.states {
-        if has_start(concrete, c) {
-            if !start_covered(p, table, c) {
-                return c;
-            }
-        }
-    }
-    concrete.states
+    (0..concrete.states).find(|c| has_start(concrete, *c) && !start_covered(p, table, *c))
 }
 
 // What is said of a table that passes each line.
-fn start_verdict(p: &Pair, table: &[u16]) -> Verdict
+fn start_checked(p: &Pair, table: &[u16]) -> Checked
     requires { well_formed p.now ≡ true }
-    ensures verdict { verdict_of result ≡ answer (start_verdict p.now table.now) }
-    ensures empty { empty_set_of result ≡ has_empty_set p.now.concrete }
+    ensures verdict { result.verdict ≡ start_verdict p.now table.now }
+    ensures empty { result.empty_set ≡ has_empty_set p.now.concrete }
 {
+    let covered = covered(p, table);
+    let verdict = match lacking_start(p, table) {
+        Some(lacking) => Verdict::NotCarried { lacking, covered },
+        None => Verdict::Carried { covered },
+    };
     let concrete = &p.concrete;
-    let c = lacking_start(p, table);
-    let empty = has_empty_set(concrete);
-    if c < concrete.states {
-        Verdict::NotCarried(c, covered(p, table), empty)
-    } else {
-        Verdict::Carried(covered(p, table), empty)
+    Checked {
+        verdict,
+        empty_set: has_empty_set(concrete),
     }
 }
 
 // What the check says of any table of any pair.
-pub fn plain_verdict(p: Pair, table: &[u16]) -> Verdict
+pub fn plain_verdict(p: Pair, table: &[u16]) -> Result<Checked, Refusal>
     ensures verdict { verdict_of result ≡ check_verdict p table.now }
     ensures empty { empty_set_of result ≡ check_empty_set p table.now }
 {
     if table.len() < machine::TABLE_ROOM {
-        return Verdict::Refused(machine::refuse(machine::SHORT_BUFFER, 0, 0, 0));
+        return Err(Refusal::ShortBuffer);
     }
-    let valid = validity(p);
-    if let Validity::Refused(r) = valid {
-        return Verdict::Refused(r);
-    }
-    let passed = lines(&p, table);
-    if let Validity::Refused(r) = passed {
-        return Verdict::Refused(r);
-    }
-    start_verdict(&p, table)
+    validity(p)?;
+    lines(&p, table)?;
+    Ok(start_checked(&p, table))
 }

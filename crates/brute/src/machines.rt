@@ -1,12 +1,11 @@
 // The plain reading of machines: every question is asked of a state by its number.
 ghost use Rattle.std.specs.Prelude.{◌≡◌, eqb};
 ghost use Rattle.mask.specs.Logic.{not};
-ghost use Rattle.mask.specs.Bounded.{some};
+ghost use Rattle.mask.specs.Bounded.{some, below};
 ghost use Rattle.machine.specs.Machines.{observation, successors, moves, starts, fair_set, in_fair_set, matched};
-ghost use Rattle.machine.specs.Refusals.{tested_of};
-ghost use Rattle.machine.specs.WellFormed.{counts_ok, beyond, state_beyond, set_beyond, is_beyond_counts, stuck_state, lowest_empty_set, has_empty_set, content_validity, content_tests, pair_tests, pair_validity, nonempty_validity};
+ghost use Rattle.machine.specs.WellFormed.{counts_ok, beyond, state_beyond, set_beyond, is_beyond_counts, stuck_state, lowest_empty_set, has_empty_set, content_validity, sets_validity, content_tests, pair_tests, pair_validity, nonempty_validity};
 
-use machine::{Machine, Pair, Validity};
+use machine::{Machine, Pair, Refusal};
 
 // The successor mask of state s; a machine has 64, and past these an empty one.
 pub fn successors_of(m: &Machine, s: usize) -> u64
@@ -157,118 +156,97 @@ fn is_past(m: &Machine) -> bool
     sets_past(m)
 }
 
-// The lowest state without a successor, 64 where there is none.
-fn stuck(m: &Machine) -> usize
-    ensures { result ≡ stuck_state m.now.states m.now.successors }
+// The lowest state without a successor.
+fn stuck(m: &Machine) -> Option<usize>
+    ensures { result ≡ below 64 (stuck_state m.now.states m.now.successors) }
 {
-    for s in 0..64 {
-        if s < m.states {
-            if successors_of(m, s) == 0 {
-                return s;
-            }
-        }
-    }
-    64
+    (0..64).find(|s| *s < m.states && successors_of(m, *s) == 0)
 }
 
 // 9, 10 and 11 of machine number i of a pair.
-fn content(i: usize, m: &Machine) -> Validity
-    ensures { tested_of result ≡ content_validity i m.now }
+fn content(i: usize, m: &Machine) -> Result<(), Refusal>
+    ensures { result ≡ content_validity i m.now }
 {
     if is_past(m) {
-        return Validity::Refused(machine::refuse(machine::BEYOND_COUNTS, i, 0, 0));
+        return Err(Refusal::BeyondCounts { machine: i });
     }
     if m.start == 0 {
-        return Validity::Refused(machine::refuse(machine::NO_START, i, 0, 0));
+        return Err(Refusal::NoStart { machine: i });
     }
-    let s = stuck(m);
-    if s < 64 {
-        return Validity::Refused(machine::refuse(machine::NO_SUCCESSOR, i, s, 0));
+    match stuck(m) {
+        Some(state) => Err(Refusal::NoSuccessor { machine: i, state }),
+        None => Ok(()),
     }
-    Validity::Valid
 }
 
 // Whether a set has a state.
 fn has_state(members: u64) -> bool
     ensures { result ≡ not (eqb members 0) }
 {
-    for s in 0..64 {
-        if mask::has(members, s) {
-            return true;
-        }
-    }
-    false
+    (0..64).any(|s| mask::has(members, s))
 }
 
-// The lowest set without a state, counted from 0; 8 where there is none.
-fn empty_set(m: &Machine) -> usize
-    ensures { result ≡ lowest_empty_set m.now.sets m.now.fairness }
+// The lowest set without a state, counted from 0.
+fn empty_set(m: &Machine) -> Option<usize>
+    ensures { result ≡ below 8 (lowest_empty_set m.now.sets m.now.fairness) }
 {
-    for k in 0..8 {
-        if k < m.sets {
-            if !has_state(set_of(m, k)) {
-                return k;
-            }
-        }
-    }
-    8
+    (0..8).find(|k| *k < m.sets && !has_state(set_of(m, *k)))
 }
 
 // Whether a machine has a set without a state.
 pub fn has_empty_set(m: &Machine) -> bool
     ensures { result ≡ has_empty_set m.now }
 {
-    empty_set(m) < 8
+    empty_set(m).is_some()
+}
+
+// 21 of machine number i of a pair.
+fn sets(i: usize, m: &Machine) -> Result<(), Refusal>
+    ensures { result ≡ sets_validity i m.now }
+{
+    match empty_set(m) {
+        Some(k) => Err(Refusal::EmptySet {
+            machine: i,
+            set: k + 1,
+        }),
+        None => Ok(()),
+    }
 }
 
 // 9, 10 and 11 of machine number i of a pair, and then 21 if `nonempty`.
-fn content_and_sets(nonempty: bool, i: usize, m: &Machine) -> Validity
-    ensures { tested_of result ≡ content_tests nonempty i m.now }
+fn content_and_sets(nonempty: bool, i: usize, m: &Machine) -> Result<(), Refusal>
+    ensures { result ≡ content_tests nonempty i m.now }
 {
-    let first = content(i, m);
-    if let Validity::Refused(r) = first {
-        return Validity::Refused(r);
-    }
-    if !nonempty {
-        return Validity::Valid;
-    }
-    let k = empty_set(m);
-    if k < 8 {
-        Validity::Refused(machine::refuse(machine::EMPTY_SET, i, k + 1, 0))
-    } else {
-        Validity::Valid
-    }
+    content(i, m)?;
+    if nonempty { sets(i, m) } else { Ok(()) }
 }
 
 // 5, then these of the concrete machine and of the abstract one.
-fn tests(nonempty: bool, p: &Pair) -> Validity
-    ensures { tested_of result ≡ pair_tests nonempty p.now }
+fn tests(nonempty: bool, p: &Pair) -> Result<(), Refusal>
+    ensures { result ≡ pair_tests nonempty p.now }
 {
     let c = &p.concrete;
     let a = &p.abstraction;
     if !has_counts(8, c) {
-        return Validity::Refused(machine::refuse(machine::BAD_COUNTS, 0, 0, 0));
+        return Err(Refusal::BadCounts);
     }
     if !has_counts(7, a) {
-        return Validity::Refused(machine::refuse(machine::BAD_COUNTS, 0, 0, 0));
+        return Err(Refusal::BadCounts);
     }
-    let first = content_and_sets(nonempty, 0, c);
-    match first {
-        Validity::Refused(r) => Validity::Refused(r),
-        Validity::Valid => content_and_sets(nonempty, 1, a),
-    }
+    content_and_sets(nonempty, 0, c)?;
+    content_and_sets(nonempty, 1, a)
 }
 
 // 5, 9, 10 and 11 of a pair.
-pub fn validity(p: Pair) -> Validity
-    ensures { tested_of result ≡ pair_validity p }
+pub fn validity(p: Pair) -> Result<(), Refusal>
+    ensures { result ≡ pair_validity p }
 {
     tests(false, &p)
 }
 
 // 5, 9, 10, 11 and 21 of a pair.
-pub fn nonempty_validity(p: Pair) -> Validity
-    ensures { tested_of result ≡ nonempty_validity p }
+pub fn nonempty_validity(p: Pair) -> Result<(), Refusal>
+    ensures { result ≡ nonempty_validity p }
 {
     tests(true, &p)
 }

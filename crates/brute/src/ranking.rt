@@ -6,14 +6,22 @@ ghost use Rattle.mask.specs.Bits.{full_mask};
 ghost use Rattle.machine.specs.Machines.{pairs, sets_a, sets_c};
 ghost use Rattle.machine.specs.WellFormed.{well_formed};
 ghost use Rattle.brute.specs.Ranking.{keeps, unkept, closed, largest, struck, largest_set, marked, ranked, rank_of, shown_entry, section_ranked, table_ranked};
+ghost use Rattle.brute.specs.Comparing.{is_exact};
 
 use crate::lines::{Target, goal_holds, steps_into, value_at};
 use crate::machines::{in_set, is_matched, validity};
 use crate::numbers::put_entries;
-use machine::{Pair, Validity};
+use machine::Pair;
 
 // Room for the pairs of any two machines: 64 x 64.
 const PAIR_ROOM: usize = 4096;
+
+// What of a table is compared: its entries, or only which pairs they cover, as of the family that a turn makes.
+#[derive(Clone, Copy, Debug, PartialEq, Eq)]
+pub enum Compared {
+    Ranks,
+    Covered,
+}
 
 // Whether (c, a) meets the rule of X(l, k) over a set that is given as a table: it is a goal, or steps into level l - 1, whose entries in
 // `ranks` are at most `low`, or has c outside set k and steps into the set.
@@ -178,19 +186,26 @@ fn rank_of(p: &Pair, lifted: &[u16], j: usize, ranks: &[u16], e: usize) -> u16
 }
 
 // An entry; where it need not be exact, 0 for each that is not blank.
-fn shown(exact: bool, e: u16) -> u16
-    ensures { result ≡ shown_entry exact e }
+fn shown(compared: Compared, e: u16) -> u16
+    ensures { result ≡ shown_entry (is_exact compared) e }
 {
-    if exact {
-        return e;
+    match compared {
+        Compared::Ranks => e,
+        Compared::Covered if e == machine::BLANK => e,
+        Compared::Covered => 0,
     }
-    if e == machine::BLANK { e } else { 0 }
 }
 
 // Whether section j of a table has the ranks; or, where they need not be exact, covers the pairs that have one.
-fn section_ranked(p: &Pair, exact: bool, lifted: &[u16], j: usize, table: &[u16]) -> bool
+fn section_ranked(
+    p: &Pair,
+    compared: Compared,
+    lifted: &[u16],
+    j: usize,
+    table: &[u16],
+) -> bool
     requires { (well_formed p.now ≡ true) × (j < sets_a p.now) }
-    ensures { result ≡ section_ranked p.now exact lifted.now table.now j }
+    ensures { result ≡ section_ranked p.now (is_exact compared) lifted.now table.now j }
 {
     let concrete = &p.concrete;
     let abstraction = &p.abstraction;
@@ -198,32 +213,25 @@ fn section_ranked(p: &Pair, exact: bool, lifted: &[u16], j: usize, table: &[u16]
     let mut ranks = [machine::BLANK; PAIR_ROOM];
     rank_pairs(p, lifted, j, &mut ranks);
     for e in 0..pairs {
-        let rank = shown(exact, rank_of(p, lifted, j, &ranks, e));
-        if rank != shown(exact, value_at(table, j * pairs + e)) {
+        let rank = shown(compared, rank_of(p, lifted, j, &ranks, e));
+        if rank != shown(compared, value_at(table, j * pairs + e)) {
             return false;
         }
     }
     true
 }
 
-// The ranks have to be exact.
-pub const RANKS: bool = true;
-
-// Only what has a rank counts: the family that a turn makes.
-pub const COVERED: bool = false;
-
 // Whether a table has the ranks of two well-formed machines, or covers the pairs that have one, where the lifted table tells what is covered. With the
 // table of any other family in its place these are the ranks over that family.
-pub fn is_ranked(p: Pair, exact: bool, lifted: &[u16], table: &[u16]) -> bool
-    ensures { result ≡ table_ranked p exact lifted.now table.now }
+pub fn is_ranked(p: Pair, compared: Compared, lifted: &[u16], table: &[u16]) -> bool
+    ensures { result ≡ table_ranked p (is_exact compared) lifted.now table.now }
 {
     let abstraction = &p.abstraction;
-    let valid = validity(p);
-    if let Validity::Refused(_) = valid {
+    if validity(p).is_err() {
         return false;
     }
     for j in 0..abstraction.sets {
-        if !section_ranked(&p, exact, lifted, j, table) {
+        if !section_ranked(&p, compared, lifted, j, table) {
             return false;
         }
     }

@@ -5,23 +5,16 @@ ghost use Rattle.mask.specs.Bounded.{every, first};
 ghost use Rattle.mask.specs.Logic.{and};
 ghost use Rattle.machine.specs.Machines.{sets_a};
 ghost use Rattle.machine.specs.WellFormed.{well_formed};
-ghost use Rattle.machine.specs.Step.{staying, single_step};
+ghost use Rattle.machine.specs.Step.{present_of, staying, single_step};
 ghost use Rattle.machine.specs.Table.{entry};
 ghost use Rattle.machine.specs.Lines.{non_blank};
 ghost use Rattle.machine.specs.Player.{section_after, step_to, place_at, same_place, last_round, play_answer};
-ghost use Rattle.brute.specs.Runs.{as_place, played_of};
+ghost use Rattle.brute.specs.Runs.{as_place};
 
 use crate::lassos::{lasso_fits, moment_at};
 use crate::lines::{entry_at, lines};
 use crate::machines::{is_matched, successors_of, validity};
-use machine::{Pair, Partner, Refusal, Validity};
-
-// What the player says: the run's stem length and loop length, or where it was stopped.
-#[derive(Clone, Copy)]
-pub enum Played {
-    Run(usize, usize),
-    Refused(Refusal),
-}
+use machine::{Pair, Refusal, Run};
 
 // The abstract state a and the section j.
 #[derive(Clone, Copy)]
@@ -31,20 +24,28 @@ struct Spot {
 }
 
 // Twice the entry e of a state, and one more unless it is the present state.
-fn staying_key(present: usize, a: usize, e: u16) -> u32
-    ensures { result ≡ staying present (λ _. e) a }
+fn staying_key(present: Option<usize>, a: usize, e: u16) -> u32
+    requires { a < 64 }
+    ensures { result ≡ staying (present_of present) (λ _. e) a }
 {
     let twice = 2 * e as u32;
-    if a == present { twice } else { twice + 1 }
+    if present == Some(a) { twice } else { twice + 1 }
 }
 
 // Of the states of a mask, the matched one of least entry in section j beside d, and none that is blank; of equal ones the state `present`, then
 // the lowest number.
-fn least_partner(p: &Pair, table: &[u16], present: usize, moves: u64, j: usize, d: usize) -> Partner
+fn least_partner(
+    p: &Pair,
+    table: &[u16],
+    present: Option<usize>,
+    moves: u64,
+    j: usize,
+    d: usize,
+) -> Option<usize>
     requires { (well_formed p.now ≡ true) × ((j < 7) × (d < 256)) }
-    ensures { result ≡ single_step present moves (non_blank p.now table.now j d) (entry p.now table.now j d) }
+    ensures { result ≡ single_step (present_of present) moves (non_blank p.now table.now j d) (entry p.now table.now j d) }
 {
-    let mut best = Partner::Nobody;
+    let mut best = None;
     // twice a blank entry: every other has a lower key
     let mut limit: u32 = 131070;
     for a in 0..64 {
@@ -52,7 +53,7 @@ fn least_partner(p: &Pair, table: &[u16], present: usize, moves: u64, j: usize, 
             if is_matched(p, d, a) {
                 let key = staying_key(present, a, entry_at(p, table, j, d, a));
                 if key < limit {
-                    best = Partner::State(a);
+                    best = Some(a);
                     limit = key;
                 }
             }
@@ -81,9 +82,9 @@ fn step_to(p: &Pair, table: &[u16], c: usize, at: Spot, d: usize) -> Spot
 {
     let j = section_after(p, table, c, at);
     let moves = successors_of(&p.abstraction, at.state);
-    let found = least_partner(p, table, at.state, moves, j, d);
+    let found = least_partner(p, table, Some(at.state), moves, j, d);
     Spot {
-        state: machine::state_of(found),
+        state: found.unwrap_or(0),
         section: j,
     }
 }
@@ -97,13 +98,13 @@ fn place_at(p: &Pair, table: &[u16], stem: &[u8], cycle: &[u8], t: usize) -> Spo
     let found = least_partner(
         p,
         table,
-        machine::NO_STATE,
+        None,
         abstraction.start,
         0,
         moment_at(stem, cycle, 0) as usize,
     );
     let mut at = Spot {
-        state: machine::state_of(found),
+        state: found.unwrap_or(0),
         section: 0,
     };
     for i in 0..t {
@@ -154,36 +155,21 @@ fn last_round(p: &Pair, table: &[u16], stem: &[u8], cycle: &[u8]) -> usize
 }
 
 // What the player says of any table and any lasso, where its buffers are long enough.
-pub fn plain_play(p: Pair, table: &[u16], stem: &[u8], cycle: &[u8]) -> Played
-    ensures { played_of result ≡ play_answer p table.now (given stem.now cycle.now) }
+pub fn plain_play(p: Pair, table: &[u16], stem: &[u8], cycle: &[u8]) -> Result<Run, Refusal>
+    ensures { result ≡ play_answer p table.now (given stem.now cycle.now) }
 {
     let abstraction = &p.abstraction;
-    let valid = validity(p);
-    if let Validity::Refused(r) = valid {
-        return Played::Refused(r);
-    }
-    let passed = lines(&p, table);
-    if let Validity::Refused(r) = passed {
-        return Played::Refused(r);
-    }
-    let fits = lasso_fits(&p.concrete, stem, cycle);
-    if let Validity::Refused(r) = fits {
-        return Played::Refused(r);
-    }
-    let found = least_partner(
-        &p,
-        table,
-        machine::NO_STATE,
-        abstraction.start,
-        0,
-        moment_at(stem, cycle, 0) as usize,
-    );
-    if let Partner::Nobody = found {
-        return Played::Refused(machine::refuse(machine::NO_START_PARTNER, 0, 0, 0));
-    }
+    validity(p)?;
+    lines(&p, table)?;
+    lasso_fits(&p.concrete, stem, cycle)?;
+    let first = moment_at(stem, cycle, 0) as usize;
+    least_partner(&p, table, None, abstraction.start, 0, first).ok_or(Refusal::NoStartPartner)?;
     let y = last_round(&p, table, stem, cycle);
     let x = earlier_round(&p, table, stem, cycle, y);
-    Played::Run(stem.len() + x * cycle.len(), (y - x) * cycle.len())
+    Ok(Run {
+        stem: stem.len() + x * cycle.len(),
+        cycle: (y - x) * cycle.len(),
+    })
 }
 
 // State number i of a run, 0 past its end.
@@ -198,8 +184,7 @@ pub fn is_run(p: Pair, table: &[u16], stem: &[u8], cycle: &[u8], run: &[u8], n: 
     ensures { result ≡ and (well_formed p) (every n (λ t. eqb (get_or run.now t 0)
         (place_at p table.now (given stem.now cycle.now) t).state)) }
 {
-    let valid = validity(p);
-    if let Validity::Refused(_) = valid {
+    if validity(p).is_err() {
         return false;
     }
     for t in 0..n {

@@ -1,5 +1,5 @@
 -- The file laws, each as Statements.antt states it.
-use Rattle.std.specs.Prelude.{Bool, true, false, cond, ◌≡◌, refl, List, ◌++◌, ℕ, suc, ◌+◌, ◌*◌, ◌/◌, ◌%◌, ◌≤◌, ◌<◌, length, take, drop, replicate}
+use Rattle.std.specs.Prelude.{Bool, true, false, cond, ◌≡◌, refl, List, ◌++◌, ℕ, suc, ◌+◌, ◌*◌, ◌/◌, ◌%◌, ◌≤◌, ◌<◌, length, take, drop, replicate, Err, Ok}
 use Rattle.std.proofs.lemmas.Bool.{false≢true, eqb-false}
 use Rattle.std.proofs.Common.{⊎_elim, sym, subst, ◌∙◌, arith, length-append, length-drop, get_or-take, take_at, take_all, length-take-le, eq-eqb, ne_eqb, eqb-true}
 use Rattle.std.proofs.Math.Path.{ap, ap₂}
@@ -12,7 +12,7 @@ use Rattle.mask.specs.BoundedLaws.{every_cong}
 use Rattle.mask.specs.TablesLaws.{table_length}
 use Rattle.machine.specs.declared.Pair.{Pair}
 use Rattle.machine.specs.declared.Refusal.{Refusal}
-use Rattle.machine.specs.Refusals.{Tested, valid, answer, refused, refusal, and_then, buffer_after, bad_block, bad_padding, misplaced, buffer_validity}
+use Rattle.machine.specs.Refusals.{Tested, valid, refusal, and_then, buffer_after, bad_block, bad_padding, misplaced, buffer_validity}
 use Rattle.machine.specs.RefusalsLaws.{then_of, then_refused, then_answer, then_cases, given_at, given_refused, RefusesOnly, refuses_none, refuses_at, refuses_cond, refuses_then, refuses_each, buffer_room, buffer_made}
 use Rattle.machine.specs.Machines.{n_c, n_a, sets_c, sets_a}
 use Rattle.machine.specs.Table.{entries, table_room}
@@ -54,7 +54,7 @@ pub record Was (f lent : List ℕ) (p : Pair) (note : Bool) : Type 0 where
   pub note_is : note_of f ≡ note
   pub table_is : read_table f lent ≡ cond note (entries_of f ++ drop (length (entries_of f)) lent) lent
 
-pub was_taken : (f lent : List ℕ) (p : Pair) (note : Bool) → read_answer f lent ≡ answer (taken p note) → Was f lent p note
+pub was_taken : (f lent : List ℕ) (p : Pair) (note : Bool) → read_answer f lent ≡ Ok (taken p note) → Was f lent p note
 unfolding read_answer read_validity read_table
 was_taken f lent p note e =
     let t = given_at (read_validity f (length lent)) (taken (pair_of f) (note_of f)) e in
@@ -128,7 +128,7 @@ module _ (f : List ℕ) (s : Show) (read : read_of s ≡ read_answer f (replicat
   room : length (replicate {A = ℕ} table_room 0) ≡ table_room
   room = length-replicate {A = ℕ} table_room 0
 
-  pub machines_refused : {r : Refusal} → s.reading ≡ reading.Refused r → read_validity f table_room ≡ refused r
+  pub machines_refused : {r : Refusal} → s.reading ≡ reading.Refused r → read_validity f table_room ≡ Err r
   unfolding read_answer
   machines_refused e = ap (read_validity f) (sym room) ∙ given_refused _ _ (read_refused s read e)
 
@@ -183,7 +183,7 @@ read_writes f lent buffer p note b room e nonempty =
     let long = was_long w in
     let v : write_validity p (length T) (length buffer) ≡ valid = with_room p (length T) (length buffer) long room ∙ nonempty_valid p (was_well w) nonempty in
     let same = (read_write f lent p note b e).1 in (
-      then_of _ _ v ∙ ap answer (sym (file_length_lem p note T) ∙ ap length (sym same)),
+      then_of _ _ v ∙ ap Ok (sym (file_length_lem p note T) ∙ ap length (sym same)),
       buffer_made _ _ buffer v ∙ ap (λ (l : List ℕ). l ++ drop (length l) buffer) (sym same),
     )
 
@@ -191,7 +191,7 @@ pub entries_unread : EntriesUnread
 unfolding write_answer write_buffer
 entries_unread p note T U buffer h k same =
     let v = same_tests p (length T) (length U) (length buffer) h k in (
-      ap (λ (t : Tested). and_then t (answer (file_length (n_c p) (n_a p) (sets_c p) (sets_a p) note))) v,
+      ap (λ (t : Tested). and_then t (Ok (file_length (n_c p) (n_a p) (sets_c p) (sets_a p) note))) v,
       ap₂ (λ (t : Tested) (f : List ℕ). buffer_after t f buffer) v (file_cong p note T U (λ t. same)),
     )
 
@@ -241,7 +241,7 @@ module _ (f g : List ℕ) (same : (i : ℕ) → i < 512 → get_or f i 0 ≡ get
 
   size_same : ragged f ≡ ragged g → size_of f ≡ size_of g
   unfolding size_of
-  size_same e = ap₂ (λ (v : Tested) (n : ℕ). and_then v (answer n)) (first_same e) demanded_same
+  size_same e = ap₂ (λ (v : Tested) (n : ℕ). and_then v (Ok n)) (first_same e) demanded_same
 
   -- of two files of one length
   ragged_same : length f ≡ length g → ragged f ≡ ragged g
@@ -270,7 +270,7 @@ blocks_late f e = subst (RefusesOnly IsLate) (sym (blocks_then f e))
     (λ v. refuses_cond IsLate (not (padding_holds f)) _ _ (λ t. refuses_at IsLate _ (late_at bad_padding 0 0 0 (omega arith) (λ q. absurd (omega arith)))) (λ t. refuses_none IsLate)))
 
 early_same : (f g : List ℕ) (len : ℕ) → length f ≡ length g → take 512 f ≡ take 512 g → (r : Refusal) → IsEarly r
-    → read_validity f len ≡ refused r → read_validity g len ≡ refused r
+    → read_validity f len ≡ Err r → read_validity g len ≡ Err r
 unfolding read_validity
 early_same f g len long start r early e = ⊎_elim
     (λ t. then_refused _ _ r t)
@@ -286,7 +286,7 @@ early_same f g len long start r early e = ⊎_elim
     first : first_validity f ≡ first_validity g
     first = first_same f g same (ragged_same f g same long)
 
-    later : first_validity f ≡ valid → and_then (blocks_validity f) (pair_validity (pair_of f)) ≡ refused r → and_then (blocks_validity g) (pair_validity (pair_of g)) ≡ refused r
+    later : first_validity f ≡ valid → and_then (blocks_validity f) (pair_validity (pair_of f)) ≡ Err r → and_then (blocks_validity g) (pair_validity (pair_of g)) ≡ Err r
     later v e = ⊎_elim
         (λ t. absurd (refuses_then IsLate (blocks_validity f) (pair_validity (pair_of f)) (blocks_late f (eqb-true _ _ t)) (λ _. pair_late f (first_valid f v).counts) r e early))
         (λ t. let wrong : length f ≡ demanded f → ⊥ = eqb-false _ _ t in

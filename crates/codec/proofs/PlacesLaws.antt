@@ -1,13 +1,13 @@
 -- Laws of damaged and misplaced blocks, each as Statements.antt states it. A block's test looks at its 512 bytes alone, so a block that stands at
 -- another place than in the file that was taken has a check that holds there and its old place as its number.
-use Rattle.std.specs.Prelude.{Bool, List, ◌≡◌, refl, ℕ, zero, suc, ◌+◌, ◌-◌, ◌*◌, ◌/◌, ◌%◌, ◌≤◌, ◌<◌, eqb, ltb, length, get_or}
+use Rattle.std.specs.Prelude.{Bool, List, ◌≡◌, refl, ℕ, zero, suc, ◌+◌, ◌-◌, ◌*◌, ◌/◌, ◌%◌, ◌≤◌, ◌<◌, eqb, ltb, length, get_or, Err, Ok}
 use Rattle.std.proofs.Common.{sym, ap, ◌∙◌, eq-eqb, ne_eqb}
 use native.Mathlib.Omega.{arith}
 use Rattle.mask.specs.Logic.{not}
 use Rattle.mask.specs.TablesLaws.{table_length, table_at}
 use Rattle.machine.specs.declared.Pair.{Pair}
 use Rattle.machine.specs.declared.Refusal.{Refusal}
-use Rattle.machine.specs.Refusals.{valid, answer, refused, and_then, refusal, each, short_buffer, bad_length, bad_first_block, bad_header, bad_counts, wrong_length, bad_block, bad_padding, misplaced, buffer_validity}
+use Rattle.machine.specs.Refusals.{valid, and_then, refusal, each, short_buffer, bad_length, bad_first_block, bad_header, bad_counts, wrong_length, bad_block, bad_padding, misplaced, buffer_validity}
 use Rattle.machine.specs.RefusalsLaws.{then_of, then_refused, given_refused, each_valid, each_refused, RefusesOnly, refuses_none, refuses_at, refuses_cond, refuses_then, refuses_each}
 use Rattle.machine.specs.Table.{table_room}
 use Rattle.machine.specs.WellFormedLaws.{pair_refuses}
@@ -16,6 +16,7 @@ use Rattle.codec.specs.Statements.{Told, BlocksTold, FirstTold, LowestTold, Alik
 use Rattle.codec.proofs.ReaderLaws.{block_damaged, block_misplaced, block_valid, block_refuses, check_same, found_same, first_valid, first_refuses, blocks_then, later_hold, tests_refused}
 use Rattle.codec.proofs.ReadWriteLaws.{Whole, whole, all_blocks}
 use Rattle.codec.proofs.FileLaws.{Was, was_taken, ragged, not_ragged, first_same, demanded_same}
+use Rattle.machine.specs.declared.Refusal.TheVariants.{Misplaced}
 
 -- ---- what 3, 7 and 19 mean
 -- the other numbers tell nothing here
@@ -76,7 +77,7 @@ blocks_told f lent r e =
     other number = told_other f number 0 0 0
 
 -- ---- and back
-reads : (f lent : List ℕ) {r : Refusal} → table_room ≤ length lent → and_then (first_validity f) (blocks_validity f) ≡ refused r → read_answer f lent ≡ refused r
+reads : (f lent : List ℕ) {r : Refusal} → table_room ≤ length lent → and_then (first_validity f) (blocks_validity f) ≡ Err r → read_answer f lent ≡ Err r
 unfolding read_answer
 reads f lent {r} room e = then_refused _ _ r (tests_refused f (length lent) room r e)
 
@@ -92,8 +93,8 @@ lowest_told f lent (suc i) r room first long some inside hold stops =
     reads f lent room (then_of _ _ first ∙ blocks_then f long ∙ then_refused _ _ r (each_refused (length f / 512 - 1) _ i (omega arith) passed stops))
 
 -- ---- a file that is like one that was taken up to a place
-refused_at : (f g lent : List ℕ) (p : Pair) (note : Bool) (i : ℕ) → read_answer f lent ≡ answer (taken p note) → AlikeBefore i f g
-    → (r : Refusal) → block_validity g i ≡ refused r → read_answer g lent ≡ refused r
+refused_at : (f g lent : List ℕ) (p : Pair) (note : Bool) (i : ℕ) → read_answer f lent ≡ Ok (taken p note) → AlikeBefore i f g
+    → (r : Refusal) → block_validity g i ≡ Err r → read_answer g lent ≡ Err r
 refused_at f g lent p note i e alike r stops = cases i alike stops
   where
     w : Was f lent p note
@@ -115,7 +116,7 @@ refused_at f g lent p note i e alike r stops = cases i alike stops
         let b = all_blocks f rest k (omega (arith, alike.inside)) in
         (check_same g f k k at ∙ b.0, found_same g f k k at ∙ b.1)
 
-    cases : (i : ℕ) → AlikeBefore i f g → block_validity g i ≡ refused r → read_answer g lent ≡ refused r
+    cases : (i : ℕ) → AlikeBefore i f g → block_validity g i ≡ Err r → read_answer g lent ≡ Err r
     cases zero alike stops = first_told g lent r w.room (some alike.long) (full alike.long) stops
     cases (suc i) alike stops =
         let start : (k : ℕ) → k < 512 → get_or g k 0 ≡ get_or f k 0 = λ k l. alike.before k (omega arith) in
@@ -152,7 +153,7 @@ joined_told f lent p note from i e h in_file same other =
     let at : (j : ℕ) → j < 512 → get_or g (512 * i + j) 0 ≡ get_or f (512 * from i + j) 0 = λ j l. joined_at f from i j h l in
     let found : number_found g i ≡ from i = found_same g f i (from i) at ∙ b.1 in
     misplaced_told f g lent p note i e (record { long = joined_length f from; inside = h; before = before }) (check_same g f i (from i) at ∙ b.0) (λ z. other (sym found ∙ z))
-    ∙ ap (λ (n : ℕ). refused (refusal misplaced i n 0)) found
+    ∙ ap (λ (n : ℕ). Err (Misplaced i n)) found
   where
     before : (k : ℕ) → k < 512 * i → get_or (joined from f) k 0 ≡ get_or f k 0
     before k l =
@@ -165,10 +166,10 @@ pub exchanged_told : ExchangedTold
 exchanged_told f lent p note i k e h l =
     let at : exchanged i k i ≡ k = rw (eq-eqb i i refl) in
     joined_told f lent p note (exchanged i k) i e (omega arith) (omega arith) (λ j q. rw (ne_eqb j i (λ z. omega arith), ne_eqb j k (λ z. omega arith))) (λ z. omega arith)
-    ∙ ap (λ (n : ℕ). refused (refusal misplaced i n 0)) at
+    ∙ ap (λ (n : ℕ). Err (Misplaced i n)) at
 
 pub overwritten_told : OverwrittenTold
 overwritten_told f lent p note i k e h l other =
     let at : overwritten i k i ≡ k = rw (eq-eqb i i refl) in
     joined_told f lent p note (overwritten i k) i e h (omega arith) (λ j q. rw (ne_eqb j i (λ z. omega arith))) (λ z. other (sym at ∙ z))
-    ∙ ap (λ (n : ℕ). refused (refusal misplaced i n 0)) at
+    ∙ ap (λ (n : ℕ). Err (Misplaced i n)) at

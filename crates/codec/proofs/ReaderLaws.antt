@@ -1,5 +1,5 @@
 -- Laws of reading: what the tests of a file give, and what each part of the reader computes, as the definitions of Reader say it.
-use Rattle.std.specs.Prelude.{Bool, true, false, cond, List, [], ◌++◌, ◌≡◌, refl, ℕ, zero, suc, ◌+◌, ◌-◌, ◌*◌, ◌/◌, ◌%◌, ◌≤◌, ◌<◌, length, drop, replicate, ltb}
+use Rattle.std.specs.Prelude.{Bool, true, false, cond, List, [], ◌++◌, ◌≡◌, refl, ℕ, zero, suc, ◌+◌, ◌-◌, ◌*◌, ◌/◌, ◌%◌, ◌≤◌, ◌<◌, length, drop, replicate, ltb, Err}
 use Rattle.std.proofs.Common.{⊎_elim, ◌∙◌, arith}
 use Rattle.std.proofs.Math.Logic.{by_cases}
 use Rattle.std.proofs.Math.Path.{sym, ap, ap₂}
@@ -15,7 +15,7 @@ use Rattle.mask.specs.BoundedLaws.{every_at, every_of, every_cong}
 use Rattle.mask.specs.Tables.{table}
 use Rattle.mask.specs.TablesLaws.{table_length, table_cong}
 use Rattle.machine.specs.Machines.{pair_under}
-use Rattle.machine.specs.Refusals.{Tested, valid, refused, and_then, each, buffer_after, refusal, short_buffer, bad_length, bad_header, bad_counts, wrong_length, bad_padding, misplaced}
+use Rattle.machine.specs.Refusals.{Tested, valid, and_then, each, buffer_after, refusal}
 use Rattle.machine.specs.RefusalsLaws.{valid_next, then_of, then_refused, then_answer, then_then, each_valid, each_at, RefusesOnly, refuses_none, refuses_at, refuses_cond, refuses_then, buffer_valid, buffer_short, buffer_made}
 use Rattle.machine.specs.declared.Machine.{Machine}
 use Rattle.machine.specs.declared.Refusal.{Refusal}
@@ -29,14 +29,15 @@ use Rattle.mask.specs.Tables.{front}
 use Rattle.codec.specs.NumberLaws.{number_cong}
 use Rattle.codec.specs.FormatLaws.{check_cong, entries_most, payload_most_lem}
 use Rattle.mask.specs.FrontLaws.{front_length, front_zeros, front_padded}
+use Rattle.machine.specs.declared.Refusal.TheVariants.{BadCounts, BadHeader, BadLength, BadPadding, Misplaced, ShortBuffer, WrongLength}
 
 -- ---- a block
 module _ (f : List ℕ) (i : ℕ) where
-  pub block_damaged : check_holds f i ≡ false → block_validity f i ≡ refused (refusal (damaged_number i) i 0 0)
+  pub block_damaged : check_holds f i ≡ false → block_validity f i ≡ Err (refusal (damaged_number i) i 0 0)
   unfolding block_validity
   block_damaged e = rw (not_i e)
 
-  pub block_misplaced : check_holds f i ≡ true → (number_found f i ≡ i → ⊥) → block_validity f i ≡ refused (refusal misplaced i (number_found f i) 0)
+  pub block_misplaced : check_holds f i ≡ true → (number_found f i ≡ i → ⊥) → block_validity f i ≡ Err (Misplaced i (number_found f i))
   unfolding block_validity
   block_misplaced e n = rw (not_f e, not_i (ne_eqb (number_found f i) i n))
 
@@ -52,7 +53,7 @@ module _ (f : List ℕ) (i : ℕ) where
       (not_false _ a.0, eqb-true (number_found f i) i (not_false _ b.0))
 
   pub block_refuses : (F : Refusal → Type 0) → (check_holds f i ≡ false → F (refusal (damaged_number i) i 0 0))
-      → (check_holds f i ≡ true → (number_found f i ≡ i → ⊥) → F (refusal misplaced i (number_found f i) 0)) → RefusesOnly F (block_validity f i)
+      → (check_holds f i ≡ true → (number_found f i ≡ i → ⊥) → F (Misplaced i (number_found f i))) → RefusesOnly F (block_validity f i)
   unfolding block_validity
   block_refuses F d m =
       refuses_cond F (not (check_holds f i)) _ _ (λ t. refuses_at F _ (d (not_e _ t)))
@@ -114,8 +115,8 @@ first_valid f e =
     record { long = n.0; whole = n.1; block = block_holds f 0 b.0; header = h.0; counts = h.1 }
 
 -- its refusals
-pub first_refuses : (F : Refusal → Type 0) (f : List ℕ) → F (refusal bad_length 0 0 0) → (512 ≤ length f → RefusesOnly F (block_validity f 0))
-    → F (refusal bad_header 0 0 0) → F (refusal bad_counts 0 0 0) → RefusesOnly F (first_validity f)
+pub first_refuses : (F : Refusal → Type 0) (f : List ℕ) → F BadLength → (512 ≤ length f → RefusesOnly F (block_validity f 0))
+    → F BadHeader → F BadCounts → RefusesOnly F (first_validity f)
 unfolding first_validity header_validity
 first_refuses F f ragged block header counts =
     refuses_cond F (or (eqb (length f) 0) (not (eqb (length f % 512) 0))) _ _ (λ t. refuses_at F _ ragged)
@@ -174,7 +175,7 @@ padding_is f e = both _ _
     spot i l = omega (arith, place f n (len + i) w (omega arith) (omega arith))
 
 -- a file of another length than its counts demand
-pub wrong_length_is : (f : List ℕ) → (length f ≡ demanded f → ⊥) → blocks_validity f ≡ refused (refusal wrong_length 0 0 0)
+pub wrong_length_is : (f : List ℕ) → (length f ≡ demanded f → ⊥) → blocks_validity f ≡ Err WrongLength
 unfolding blocks_validity
 wrong_length_is f h = rw (not_i (ne_eqb (length f) (demanded f) h))
 
@@ -284,7 +285,7 @@ blocks_valid f e =
 
 -- a file of the length that its counts demand: the later blocks, then the padding
 pub blocks_then : (f : List ℕ) → length f ≡ demanded f
-    → blocks_validity f ≡ and_then (later_blocks f) (cond (not (padding_holds f)) (refused (refusal bad_padding 0 0 0)) valid)
+    → blocks_validity f ≡ and_then (later_blocks f) (cond (not (padding_holds f)) (Err BadPadding) valid)
 unfolding blocks_validity
 blocks_then f e = rw (not_f (eq-eqb (length f) (demanded f) e))
 
@@ -318,7 +319,7 @@ table_after f T v note e t = buffer_made v (cond (note_of f) (entries_of f) []) 
     cases true = refl
     cases false = refl
 
-pub read_short : (f : List ℕ) (room : ℕ) → room < table_room → read_validity f room ≡ refused (refusal short_buffer 0 0 0)
+pub read_short : (f : List ℕ) (room : ℕ) → room < table_room → read_validity f room ≡ Err ShortBuffer
 unfolding read_validity
 read_short f room h = then_refused _ _ _ (buffer_short table_room room h)
 
@@ -327,7 +328,7 @@ module _ (f : List ℕ) (room : ℕ) (h : table_room ≤ room) where
   unfolding read_validity
   grouped = then_of _ _ (buffer_valid table_room room h) ∙ sym (then_then (first_validity f) (blocks_validity f) (pair_validity (pair_of f)))
 
-  pub tests_refused : (r : Refusal) → and_then (first_validity f) (blocks_validity f) ≡ refused r → read_validity f room ≡ refused r
+  pub tests_refused : (r : Refusal) → and_then (first_validity f) (blocks_validity f) ≡ Err r → read_validity f room ≡ Err r
   tests_refused r e = grouped ∙ then_refused _ _ r e
 
   pub read_pair : and_then (first_validity f) (blocks_validity f) ≡ valid → read_validity f room ≡ pair_validity (pair_of f)

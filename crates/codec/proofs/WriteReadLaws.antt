@@ -1,5 +1,5 @@
 -- The first file law: what is written reads back.
-use Rattle.std.specs.Prelude.{Bool, true, cond, ◌≡◌, refl, List, ◌++◌, drop}
+use Rattle.std.specs.Prelude.{Bool, true, cond, ◌≡◌, refl, List, ◌++◌, drop, Ok}
 use Rattle.std.proofs.Math.Bool.{false}
 use Rattle.std.proofs.Math.Logic.{by_cases}
 use Rattle.std.proofs.Math.Path.{sym, ap}
@@ -15,7 +15,7 @@ use Rattle.mask.specs.BoundedLaws.{every_of}
 use Rattle.mask.specs.Tables.{table}
 use Rattle.mask.specs.TablesLaws.{table_length, table_at, table_past, table_cong}
 use Rattle.machine.specs.declared.Pair.{Pair}
-use Rattle.machine.specs.Refusals.{valid, answer, and_then, pass_on}
+use Rattle.machine.specs.Refusals.{valid, and_then, pass_on}
 use Rattle.machine.specs.RefusalsLaws.{then_of, buffer_valid}
 use Rattle.machine.specs.Machines.{n_c, n_a, sets_c, sets_a}
 use Rattle.machine.specs.Table.{entries, table_room, AreEntries}
@@ -202,7 +202,7 @@ unfolding read_answer read_table
 write_read p note T lent r t b room =
     let w = well_pair p t in
     let v = read_valid p note T w r (well_is_valid p t) (length lent) room in (
-      then_of _ _ v ∙ ap₂ (λ (q : Pair) (n : Bool). answer (taken q n)) (pair_is p note T w r) (note_is p note T w),
+      then_of _ _ v ∙ ap₂ (λ (q : Pair) (n : Bool). Ok (taken q n)) (pair_is p note T w r) (note_is p note T w),
       table_after (file_of p note T) lent _ note v (note_is p note T w) ∙ cases note (entries_are p note T w r b),
     )
   where

@@ -1,9 +1,9 @@
 -- Laws of the calls' answers: what document 01 says where the code has a case.
-use Rattle.std.specs.Prelude.{Bool, ◌≡◌, ℕ}
+use Rattle.std.specs.Prelude.{Bool, ◌≡◌, ℕ, Err, Ok}
 use Rattle.std.proofs.Common.{sym, ap, ap₂, ◌∙◌}
 use Rattle.machine.specs.declared.Pair.{Pair}
 use Rattle.machine.specs.declared.Refusal.{Refusal}
-use Rattle.machine.specs.Refusals.{Result, answer, refused}
+use Rattle.machine.specs.Refusals.{Answer}
 use Rattle.codec.specs.declared.Reading.{Reading}
 use Rattle.codec.specs.declared.Reading.TheVariants as reading
 use Rattle.codec.specs.declared.Show.{Show}
@@ -13,11 +13,11 @@ use Rattle.codec.specs.Reader.{Taken, taken, zero_pair}
 use Rattle.codec.specs.Answers.{read_beside, read_of, pair_given, sized_of, refusal_of}
 
 -- ---- of a contract `read_of s ≡ a`
-pub read_taken : (s : Show) {a : Result Taken} {note : Bool} → read_of s ≡ a → s.reading ≡ reading.Taken note → a ≡ answer (taken s.pair note)
+pub read_taken : (s : Show) {a : Answer Taken} {note : Bool} → read_of s ≡ a → s.reading ≡ reading.Taken note → a ≡ Ok (taken s.pair note)
 unfolding read_of read_beside
 read_taken s e z = sym e ∙ ap (read_beside s.pair) z
 
-pub read_refused : (s : Show) {a : Result Taken} {r : Refusal} → read_of s ≡ a → s.reading ≡ reading.Refused r → a ≡ refused r
+pub read_refused : (s : Show) {a : Answer Taken} {r : Refusal} → read_of s ≡ a → s.reading ≡ reading.Refused r → a ≡ Err r
 unfolding read_of read_beside
 read_refused s e z = sym e ∙ ap (read_beside s.pair) z
 
@@ -26,29 +26,29 @@ unfolding refusal_of
 refusal_of_lem z = ap refusal_of z
 
 -- ---- of a contract `sized_of z ≡ a`
-pub sized_bytes : {z : Size} {a : Result ℕ} {n : ℕ} → sized_of z ≡ a → z ≡ size.Bytes n → a ≡ answer n
+pub sized_bytes : {z : Size} {a : Answer ℕ} {n : ℕ} → sized_of z ≡ a → z ≡ size.Bytes n → a ≡ Ok n
 unfolding sized_of
 sized_bytes e z = sym e ∙ ap sized_of z
 
-pub sized_refused : {z : Size} {a : Result ℕ} {r : Refusal} → sized_of z ≡ a → z ≡ size.Refused r → a ≡ refused r
+pub sized_refused : {z : Size} {a : Answer ℕ} {r : Refusal} → sized_of z ≡ a → z ≡ size.Refused r → a ≡ Err r
 unfolding sized_of
 sized_refused e z = sym e ∙ ap sized_of z
 
 -- ---- the machines beside an answer
-pub pair_taken : {a : Result Taken} {p : Pair} {note : Bool} → a ≡ answer (taken p note) → pair_given a ≡ p
+pub pair_taken : {a : Answer Taken} {p : Pair} {note : Bool} → a ≡ Ok (taken p note) → pair_given a ≡ p
 unfolding pair_given
 pair_taken e = ap pair_given e
 
-pub pair_refused : {a : Result Taken} {r : Refusal} → a ≡ refused r → pair_given a ≡ zero_pair
+pub pair_refused : {a : Answer Taken} {r : Refusal} → a ≡ Err r → pair_given a ≡ zero_pair
 unfolding pair_given
 pair_refused e = ap pair_given e
 
 -- ---- both contracts of the reader at once, where it takes a file and where it refuses one
-pub shown_taken : (p : Pair) {q : Pair} {m n : Bool} {a : Result Taken} → a ≡ answer (taken q n) → p ≡ q → m ≡ n
+pub shown_taken : (p : Pair) {q : Pair} {m n : Bool} {a : Answer Taken} → a ≡ Ok (taken q n) → p ≡ q → m ≡ n
     → (read_beside p (reading.Taken m) ≡ a) × (p ≡ pair_given a)
 unfolding read_beside
-shown_taken p e f g = (ap₂ (λ (x : Pair) (y : Bool). answer (taken x y)) f g ∙ sym e, f ∙ sym (pair_taken e))
+shown_taken p e f g = (ap₂ (λ (x : Pair) (y : Bool). Ok (taken x y)) f g ∙ sym e, f ∙ sym (pair_taken e))
 
-pub shown_refused : (s : Show) {r : Refusal} {a : Result Taken} → a ≡ refused r → read_of s ≡ refused r → s.pair ≡ zero_pair
+pub shown_refused : (s : Show) {r : Refusal} {a : Answer Taken} → a ≡ Err r → read_of s ≡ Err r → s.pair ≡ zero_pair
     → (read_of s ≡ a) × (s.pair ≡ pair_given a)
 shown_refused s e f g = (f ∙ sym e, g ∙ sym (pair_refused e))

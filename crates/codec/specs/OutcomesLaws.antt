@@ -1,51 +1,51 @@
 -- Laws of what a call says of a file, by what the reader says of it.
-use Rattle.std.specs.Prelude.{true, false, List, ℕ, replicate}
+use Rattle.std.specs.Prelude.{true, false, List, ℕ, replicate, Err, None, Ok, Some}
 use Rattle.std.proofs.Math.Path.{◌≡◌, refl, ap}
 use Rattle.std.proofs.Common.{sym, ◌∙◌, arith}
 use Rattle.machine.specs.declared.Pair.{Pair}
 use Rattle.machine.specs.declared.Refusal.{Refusal}
-use Rattle.machine.specs.Refusals.{Result, answer, refused, pass_on}
+use Rattle.machine.specs.Refusals.{pass_on, Answer}
 use Rattle.machine.specs.RefusalsLaws.{pass_of, pass_refused, pass_answer}
 use Rattle.machine.specs.Table.{table_room}
 use Rattle.codec.specs.Reader.{Taken, taken, read_answer}
-use Rattle.codec.specs.Outcomes.{says, without_table, table_in, outcome_after, outcome_by}
+use Rattle.codec.specs.Outcomes.{table_in, outcome_after, outcome_by}
 
-module _ {A : Type 0} (call : Pair → List ℕ → Result A) (f : List ℕ) where
+module _ {A : Type 0} (call : Pair → List ℕ → Answer A) (f : List ℕ) where
   -- what the reader says
-  abbrev read : Result Taken
+  abbrev read : Answer Taken
   read = read_answer f (replicate table_room 0)
 
-  pub outcome_refused : {r : Refusal} → read ≡ refused r → outcome_by call f ≡ refused r
+  pub outcome_refused : {r : Refusal} → read ≡ Err r → outcome_by call f ≡ Err r
   unfolding outcome_by
   outcome_refused e = pass_refused _ _ e
 
-  pub outcome_bare : {p : Pair} → read ≡ answer (taken p false) → outcome_by call f ≡ answer without_table
+  pub outcome_bare : {p : Pair} → read ≡ Ok (taken p false) → outcome_by call f ≡ Ok None
   unfolding outcome_by outcome_after
   outcome_bare e = pass_of _ _ e
 
   -- T is the table that was left, and v what the call says of it
-  pub outcome_taken : {p : Pair} {T : List ℕ} {v : Result A} → read ≡ answer (taken p true) → T ≡ table_in f → v ≡ call p T
-      → outcome_by call f ≡ pass_on v (λ a. answer (says a))
+  pub outcome_taken : {p : Pair} {T : List ℕ} {v : Answer A} → read ≡ Ok (taken p true) → T ≡ table_in f → v ≡ call p T
+      → outcome_by call f ≡ pass_on v (λ a. Ok (Some a))
   unfolding outcome_by outcome_after
-  outcome_taken {p} e left said = pass_of _ _ e ∙ ap (λ (v : Result A). pass_on v (λ a. answer (says a))) (sym (said ∙ ap (call p) left))
+  outcome_taken {p} e left said = pass_of _ _ e ∙ ap (λ (v : Answer A). pass_on v (λ a. Ok (Some a))) (sym (said ∙ ap (call p) left))
 
   -- ---- back: what is said is what the call says of the machines and the table that were read
-  said_after : (t : Taken) {a : A} → outcome_after call (table_in f) t ≡ answer (says a) → (p : Pair) × (t ≡ taken p true) × (call p (table_in f) ≡ answer a)
+  said_after : (t : Taken) {a : A} → outcome_after call (table_in f) t ≡ Ok (Some a) → (p : Pair) × (t ≡ taken p true) × (call p (table_in f) ≡ Ok a)
   unfolding outcome_after
   said_after (taken p true) {a} e =
       let q = pass_answer (call p (table_in f)) _ e in
       let same : q.0 ≡ a = cc in
-      (p, refl, q.1 ∙ ap answer same)
+      (p, refl, q.1 ∙ ap Ok same)
   said_after (taken p false) e = let z : ◌≡◌ {A = ℕ} 0 1 = cc in absurd (omega arith)
 
-  pub outcome_says : {a : A} → outcome_by call f ≡ answer (says a) → (p : Pair) × (read ≡ answer (taken p true)) × (call p (table_in f) ≡ answer a)
+  pub outcome_says : {a : A} → outcome_by call f ≡ Ok (Some a) → (p : Pair) × (read ≡ Ok (taken p true)) × (call p (table_in f) ≡ Ok a)
   unfolding outcome_by
   outcome_says e =
       let q = pass_answer read _ e in
       let s = said_after q.0 q.2 in
-      (s.0, q.1 ∙ ap answer s.1, s.2)
+      (s.0, q.1 ∙ ap Ok s.1, s.2)
 
-  none_after : (t : Taken) → outcome_after call (table_in f) t ≡ answer without_table → (p : Pair) × (t ≡ taken p false)
+  none_after : (t : Taken) → outcome_after call (table_in f) t ≡ Ok None → (p : Pair) × (t ≡ taken p false)
   unfolding outcome_after
   none_after (taken p true) e =
       let q = pass_answer (call p (table_in f)) _ e in
@@ -53,9 +53,9 @@ module _ {A : Type 0} (call : Pair → List ℕ → Result A) (f : List ℕ) whe
       absurd (omega arith)
   none_after (taken p false) e = (p, refl)
 
-  pub outcome_none : outcome_by call f ≡ answer without_table → (p : Pair) × (read ≡ answer (taken p false))
+  pub outcome_none : outcome_by call f ≡ Ok None → (p : Pair) × (read ≡ Ok (taken p false))
   unfolding outcome_by
   outcome_none e =
       let q = pass_answer read _ e in
       let s = none_after q.0 q.2 in
-      (s.0, q.1 ∙ ap answer s.1)
+      (s.0, q.1 ∙ ap Ok s.1)

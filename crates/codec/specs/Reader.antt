@@ -1,15 +1,17 @@
 -- Document 01: how a file is read, with refusals 1 to 11 in its order; and 19 of document 02.
-use Rattle.std.specs.Prelude.{Bool, true, false, cond, List, [], ◌≡◌, ℕ, zero, suc, ◌+◌, ◌-◌, ◌*◌, ◌/◌, ◌%◌, length, get_or, replicate, eqb, leb, ltb}
+use Rattle.std.specs.Prelude.{Bool, true, false, cond, List, [], ◌≡◌, ℕ, zero, suc, ◌+◌, ◌-◌, ◌*◌, ◌/◌, ◌%◌, length, get_or, replicate, eqb, leb, ltb, Err, Ok}
 use Rattle.mask.specs.Logic.{not, and, or}
 use Rattle.mask.specs.Bounded.{every}
 use Rattle.mask.specs.Tables.{table}
 use Rattle.machine.specs.declared.Machine.{Machine}
 use Rattle.machine.specs.declared.Pair.{Pair}
-use Rattle.machine.specs.Refusals.{Result, answer, refused, Tested, valid, and_then, each, buffer_after, refusal, bad_length, bad_first_block, bad_header, bad_counts, wrong_length, bad_block, bad_padding, misplaced, buffer_validity}
+use Rattle.machine.specs.Refusals.{Tested, valid, and_then, each, buffer_after, buffer_validity, Answer}
 use Rattle.machine.specs.Machines.{n_c, n_a, sets_c, sets_a}
 use Rattle.machine.specs.WellFormed.{counts_ok, pair_validity}
 use Rattle.machine.specs.Table.{entries, table_room}
 use Rattle.codec.specs.Format.{letters, number_at, payload_length, file_length, check_at}
+use Rattle.machine.specs.declared.Refusal.{Refusal}
+use Rattle.machine.specs.declared.Refusal.TheVariants.{BadBlock, BadFirstBlock, BadCounts, BadHeader, BadLength, BadPadding, Misplaced, WrongLength}
 
 -- "It takes the first 59,904 bytes of longer input as the file."
 abbrev pub input_room : ℕ
@@ -28,17 +30,17 @@ check_holds f i = eqb (number_at 2 f (512 * i + 510)) (check_at f (512 * i))
 unfoldable pub number_found : List ℕ → ℕ → ℕ
 number_found f i = number_at 2 f (512 * i)
 
--- the refusal for a wrong check: 3 for block 0, 7 for a later one
-unfoldable pub damaged_number : ℕ → ℕ
-damaged_number zero = bad_first_block
-damaged_number (suc i) = bad_block
+-- the refusal for a wrong check of block i: 3 for block 0, 7 for a later one
+unfoldable pub damaged : ℕ → Refusal
+damaged zero = BadFirstBlock
+damaged (suc i) = BadBlock (suc i)
 
 -- block i: 3 or 7 for "a wrong check only", and 19 for "a block whose check holds and whose number isn't its place, tested right after that block's
 -- check", which "tells its place and the number found in it" (document 02, No. 5)
 unfoldable pub block_validity : List ℕ → ℕ → Tested
 block_validity f i =
-    cond (not (check_holds f i)) (refused (refusal (damaged_number i) i 0 0))
-    (cond (not (eqb (number_found f i) i)) (refused (refusal misplaced i (number_found f i) 0)) valid)
+    cond (not (check_holds f i)) (Err (damaged i))
+    (cond (not (eqb (number_found f i) i)) (Err (Misplaced i (number_found f i))) valid)
 
 -- a block that is neither damaged nor misplaced
 abbrev pub BlockHolds : List ℕ → ℕ → Type 0
@@ -73,12 +75,12 @@ counts_hold f = and (counts_ok 8 (header_byte f 4) (header_byte f 6)) (counts_ok
 
 -- 4 and 5
 unfoldable pub header_validity : List ℕ → Tested
-header_validity f = cond (not (header_holds f)) (refused (refusal bad_header 0 0 0)) (cond (not (counts_hold f)) (refused (refusal bad_counts 0 0 0)) valid)
+header_validity f = cond (not (header_holds f)) (Err BadHeader) (cond (not (counts_hold f)) (Err BadCounts) valid)
 
 -- 2, block 0's 3 and 19, 4 and 5: all that rests on the first block
 unfoldable pub first_validity : List ℕ → Tested
 first_validity f =
-    cond (or (eqb (length f) 0) (not (eqb (length f % 512) 0))) (refused (refusal bad_length 0 0 0))
+    cond (or (eqb (length f) 0) (not (eqb (length f % 512) 0))) (Err BadLength)
     (and_then (block_validity f 0) (header_validity f))
 
 -- the payload's length, and the file's, that the counts demand
@@ -89,8 +91,8 @@ unfoldable pub demanded : List ℕ → ℕ
 demanded f = file_length (header_byte f 4) (header_byte f 5) (header_byte f 6) (header_byte f 7) (note_of f)
 
 -- what the first block tells: the length in bytes that the whole file must have, or a refusal
-unfoldable pub size_of : List ℕ → Result ℕ
-size_of f = and_then (first_validity f) (answer (demanded f))
+unfoldable pub size_of : List ℕ → Answer ℕ
+size_of f = and_then (first_validity f) (Ok (demanded f))
 
 -- ---- the whole file
 -- 7 and 19, block by block after block 0, the lowest first
@@ -104,8 +106,8 @@ padding_holds f = every (508 * (length f / 512)) (λ k. or (ltb k (payload_deman
 -- 6, the later blocks' 7 and 19, and 8
 unfoldable pub blocks_validity : List ℕ → Tested
 blocks_validity f =
-    cond (not (eqb (length f) (demanded f))) (refused (refusal wrong_length 0 0 0))
-    (and_then (later_blocks f) (cond (not (padding_holds f)) (refused (refusal bad_padding 0 0 0)) valid))
+    cond (not (eqb (length f) (demanded f))) (Err WrongLength)
+    (and_then (later_blocks f) (cond (not (padding_holds f)) (Err BadPadding) valid))
 
 -- ---- what the payload holds
 -- a machine of N states and some sets, at a place of the payload; entries beyond the counts are zero
@@ -145,8 +147,8 @@ read_validity f room =
     and_then (buffer_validity table_room room) (and_then (first_validity f) (and_then (blocks_validity f) (pair_validity (pair_of f))))
 
 -- the reader's whole answer, for a file f and a lent table T
-unfoldable pub read_answer : List ℕ → List ℕ → Result Taken
-read_answer f T = and_then (read_validity f (length T)) (answer (taken (pair_of f) (note_of f)))
+unfoldable pub read_answer : List ℕ → List ℕ → Answer Taken
+read_answer f T = and_then (read_validity f (length T)) (Ok (taken (pair_of f) (note_of f)))
 
 -- what is written to a lent table: "A file without a table leaves the lent table unchanged."
 unfoldable pub table_of : List ℕ → List ℕ

@@ -1,7 +1,7 @@
 -- Document 01: what the writer writes. "The writer needs 59,392 bytes and writes only the file's own."
-use Rattle.std.specs.Prelude.{Bool, List, ℕ, length}
+use Rattle.std.specs.Prelude.{Bool, List, ℕ, length, Ok}
 use Rattle.machine.specs.declared.Pair.{Pair}
-use Rattle.machine.specs.Refusals.{Result, answer, Tested, and_then, buffer_after, buffer_validity}
+use Rattle.machine.specs.Refusals.{Tested, and_then, buffer_after, buffer_validity, Answer}
 use Rattle.machine.specs.Machines.{n_c, n_a, sets_c, sets_a}
 use Rattle.machine.specs.WellFormed.{nonempty_validity}
 use Rattle.machine.specs.Table.{table_room}
@@ -16,8 +16,8 @@ unfoldable pub write_validity : Pair → ℕ → ℕ → Tested
 write_validity p table_len buffer_len = and_then (buffer_validity table_room table_len) (and_then (buffer_validity file_room buffer_len) (nonempty_validity p))
 
 -- the writer's whole answer: the file's length in bytes, or a refusal
-unfoldable pub write_answer : Pair → Bool → List ℕ → List ℕ → Result ℕ
-write_answer p note T buffer = and_then (write_validity p (length T) (length buffer)) (answer (file_length (n_c p) (n_a p) (sets_c p) (sets_a p) note))
+unfoldable pub write_answer : Pair → Bool → List ℕ → List ℕ → Answer ℕ
+write_answer p note T buffer = and_then (write_validity p (length T) (length buffer)) (Ok (file_length (n_c p) (n_a p) (sets_c p) (sets_a p) note))
 
 -- the buffer's final content
 unfoldable pub write_buffer : Pair → Bool → List ℕ → List ℕ → List ℕ

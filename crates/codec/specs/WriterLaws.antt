@@ -1,5 +1,5 @@
 -- Laws of the format that the writer goes by: the stores of a number, and what one number or one block more adds.
-use Rattle.std.specs.Prelude.{◌≡◌, Bool, true, false, cond, List, [], ◌∷◌, ◌++◌, ℕ, ◌+◌, ◌*◌, ◌/◌, ◌%◌, ◌^◌, ◌≤◌, ◌<◌, length, set, drop, replicate}
+use Rattle.std.specs.Prelude.{◌≡◌, Bool, true, false, cond, List, [], ◌∷◌, ◌++◌, ℕ, ◌+◌, ◌*◌, ◌/◌, ◌%◌, ◌^◌, ◌≤◌, ◌<◌, length, set, drop, replicate, Err, Ok}
 use Rattle.std.proofs.Math.Path.{refl, sym, ap}
 use Rattle.std.proofs.Common.{◌∙◌, zero-add, div-one, pow-suc, add-one, arith}
 use Rattle.std.proofs.Math.Nat.{div-div-eq-div-mul}
@@ -14,7 +14,7 @@ use Rattle.machine.specs.declared.Pair.{Pair}
 use Rattle.machine.specs.Machines.{observation, successors, fair_set, n_c, n_a, sets_c, sets_a}
 use Rattle.machine.specs.Table.{entries, table_room}
 use Rattle.machine.specs.declared.Refusal.{Refusal}
-use Rattle.machine.specs.Refusals.{valid, answer, refused, refusal, and_then, short_buffer, buffer_validity}
+use Rattle.machine.specs.Refusals.{valid, and_then, buffer_validity}
 use Rattle.machine.specs.RefusalsLaws.{then_of, then_refused, then_answer, given_at, buffer_valid, buffer_short, buffer_made, buffer_kept}
 use Rattle.machine.specs.WellFormed.{nonempty_validity, nonempty_sets, well_formed}
 use Rattle.machine.specs.WellFormedLaws.{WellPair, well_valid}
@@ -26,6 +26,7 @@ use Rattle.codec.specs.Format.{byte_of, bytes_of, numbers, letters, header, mach
 use Rattle.codec.specs.NumberLaws.{bytes_length, numbers_length}
 use Rattle.codec.specs.ListLaws.{table_of_lem, rows_more, sets_then, sets_none, sets_snoc, sets_at, sets_front, sets_zeros, pasted}
 use Rattle.codec.specs.FormatLaws.{header_length, machine_length, payload_length_lem, payload_small, blocks_small, front_length, block_length, block_cong, check_cong}
+use Rattle.machine.specs.declared.Refusal.TheVariants.{ShortBuffer}
 
 -- ---- a number, a byte a turn: r is what is left of x after i bytes
 pub store_none : (l : List ℕ) (at x : ℕ) → l ≡ sets l at (bytes_of 0 x)
@@ -184,7 +185,7 @@ store_file p note T R l s zeros len small room long len_is e f =
     ∙ sets_front l whole (omega (arith, table_length (512 * ((length Q + 507) / 508)) (λ k. get_or (block Q (k / 512)) (k % 512) 0)))
 
 -- ---- the whole answer, and what the buffer holds then
-pub short_table : (p : Pair) (table_len buffer_len : ℕ) → table_len < table_room → write_validity p table_len buffer_len ≡ refused (refusal short_buffer 0 0 0)
+pub short_table : (p : Pair) (table_len buffer_len : ℕ) → table_len < table_room → write_validity p table_len buffer_len ≡ Err ShortBuffer
 unfolding write_validity
 short_table p table_len buffer_len h = then_refused _ _ _ (buffer_short table_room table_len h)
 
@@ -193,7 +194,7 @@ with_table : (p : Pair) (table_len buffer_len : ℕ) → table_room ≤ table_le
 unfolding write_validity
 with_table p table_len buffer_len h = then_of _ _ (buffer_valid table_room table_len h)
 
-pub short_file : (p : Pair) (table_len buffer_len : ℕ) → table_room ≤ table_len → buffer_len < file_room → write_validity p table_len buffer_len ≡ refused (refusal short_buffer 0 0 0)
+pub short_file : (p : Pair) (table_len buffer_len : ℕ) → table_room ≤ table_len → buffer_len < file_room → write_validity p table_len buffer_len ≡ Err ShortBuffer
 short_file p table_len buffer_len h k = with_table p table_len buffer_len h ∙ then_refused _ _ _ (buffer_short file_room buffer_len k)
 
 pub with_room : (p : Pair) (table_len buffer_len : ℕ) → table_room ≤ table_len → file_room ≤ buffer_len → write_validity p table_len buffer_len ≡ nonempty_validity p
@@ -204,24 +205,24 @@ pub same_tests : (p : Pair) (m n buffer_len : ℕ) → table_room ≤ m → tabl
 same_tests p m n buffer_len h k = with_table p m buffer_len h ∙ sym (with_table p n buffer_len k)
 
 module _ (p : Pair) (note : Bool) (T buffer : List ℕ) where
-  pub write_refused : {r q : Refusal} → write_validity p (length T) (length buffer) ≡ refused r → q ≡ r
+  pub write_refused : {r q : Refusal} → write_validity p (length T) (length buffer) ≡ Err r → q ≡ r
       → (sized_of (size.Refused q) ≡ write_answer p note T buffer) × (buffer ≡ write_buffer p note T buffer)
   unfolding write_answer write_buffer sized_of
-  write_refused e z = (ap refused z ∙ sym (then_refused _ _ _ e), sym (buffer_kept _ _ buffer e))
+  write_refused e z = (ap Err z ∙ sym (then_refused _ _ _ e), sym (buffer_kept _ _ buffer e))
 
   pub write_valid : {n : ℕ} → write_validity p (length T) (length buffer) ≡ valid → n ≡ file_length (n_c p) (n_a p) (sets_c p) (sets_a p) note
       → (sized_of (size.Bytes n) ≡ write_answer p note T buffer) × (file_of p note T ++ drop (length (file_of p note T)) buffer ≡ write_buffer p note T buffer)
   unfolding write_answer write_buffer sized_of
-  write_valid e z = (ap answer z ∙ sym (then_of _ _ e), sym (buffer_made _ _ buffer e))
+  write_valid e z = (ap Ok z ∙ sym (then_of _ _ e), sym (buffer_made _ _ buffer e))
 
   -- the writer answers where machines are well formed, each set has a state and both buffers have room
   pub write_answers : well_formed p ≡ true → nonempty_sets p ≡ true → table_room ≤ length T → file_room ≤ length buffer
-      → write_answer p note T buffer ≡ answer (file_length (n_c p) (n_a p) (sets_c p) (sets_a p) note)
+      → write_answer p note T buffer ≡ Ok (file_length (n_c p) (n_a p) (sets_c p) (sets_a p) note)
   unfolding write_answer
   write_answers t nonempty h k = then_of _ _ (with_room p (length T) (length buffer) h k ∙ nonempty_valid p t nonempty)
 
   -- and only there
-  pub answer_valid : {n : ℕ} → write_answer p note T buffer ≡ answer n
+  pub answer_valid : {n : ℕ} → write_answer p note T buffer ≡ Ok n
       → (nonempty_validity p ≡ valid) × (write_buffer p note T buffer ≡ file_of p note T ++ drop (length (file_of p note T)) buffer) × (n ≡ file_length (n_c p) (n_a p) (sets_c p) (sets_a p) note)
   unfolding write_answer write_buffer write_validity
   answer_valid e =
@@ -230,7 +231,7 @@ module _ (p : Pair) (note : Bool) (T buffer : List ℕ) where
       ((then_answer (buffer_validity file_room (length buffer)) (nonempty_validity p) a.1).1, buffer_made _ _ buffer t.0, sym t.1)
 
   -- the file has room in the buffer
-  pub answer_small : {n : ℕ} → write_answer p note T buffer ≡ answer n → n ≤ file_room
+  pub answer_small : {n : ℕ} → write_answer p note T buffer ≡ Ok n → n ≤ file_room
   unfolding file_length
   answer_small e =
       let t = answer_valid e in

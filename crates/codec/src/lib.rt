@@ -7,25 +7,12 @@ ghost use Rattle.codec.specs.Format.{check_at};
 
 use machine::{Pair, Refusal};
 
-// What the reader says: the file was taken, with the note whether a table came, or where it was stopped.
-#[derive(Clone, Copy)]
-pub enum Reading {
-    Taken(bool),
-    Refused(Refusal),
-}
-
-// The machines that were read, beside what the reader says; beside a refusal all their numbers are zero.
+// The machines that were read, beside what the reader says: the file was taken, with the note whether a table came, or where it was stopped.
+// Beside a refusal all numbers of the machines are zero. (Document 01 names this form: machines in a struct beside an enum.)
 #[derive(Clone, Copy)]
 pub struct Show {
     pub pair: Pair,
-    pub reading: Reading,
-}
-
-// A file's length in bytes, or where the call was stopped.
-#[derive(Clone, Copy)]
-pub enum Size {
-    Bytes(usize),
-    Refused(Refusal),
+    pub reading: Result<bool, Refusal>,
 }
 
 // The room that a file of any counts takes: 116 blocks.

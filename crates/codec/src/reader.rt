@@ -1,17 +1,18 @@
 // Reading a file, and its length from the first block alone.
-ghost use Rattle.std.specs.Prelude.{true, ◌++◌, ◌≡◌, ◌+◌, ◌*◌, ◌/◌, ◌^◌, ◌≤◌, ◌<◌, length, get_or, drop, replicate, eqb};
+ghost use Rattle.std.specs.Prelude.{true, ◌++◌, ◌≡◌, ◌+◌, ◌*◌, ◌/◌, ◌^◌, ◌≤◌, ◌<◌, length, get_or, drop, replicate, eqb, Err, Ok};
 ghost use Rattle.mask.specs.Bounded.{every};
-ghost use Rattle.machine.specs.Refusals.{answer, refused, valid, tested_of, and_then, buffer_after};
+ghost use Rattle.machine.specs.Refusals.{valid, and_then, buffer_after};
 ghost use Rattle.machine.specs.WellFormed.{pair_validity};
 ghost use Rattle.machine.specs.Table.{table_room};
 ghost use Rattle.codec.specs.Format.{letters, number_at, payload_length};
-ghost use Rattle.codec.specs.Reader.{check_holds, number_found, damaged_number, block_validity, payload_byte, header_byte, note_of, header_holds, counts_hold, header_validity, first_validity, payload_demanded, demanded, later_blocks, padding_holds, blocks_validity, machine_at, pair_of, entries_of, taken, read_answer, table_of, read_table, zero_machine, zero_pair, size_of};
-ghost use Rattle.codec.specs.Answers.{read_of, pair_given, sized_of, refusal_of};
+ghost use Rattle.codec.specs.Reader.{check_holds, number_found, damaged, block_validity, payload_byte, header_byte, note_of, header_holds, counts_hold, header_validity, first_validity, payload_demanded, demanded, later_blocks, padding_holds, blocks_validity, machine_at, pair_of, entries_of, taken, read_answer, table_of, read_table, zero_machine, zero_pair, size_of};
+ghost use Rattle.codec.specs.Answers.{read_of, pair_given};
 ghost use Rattle.codec.specs.Loading.{Loaded};
 ghost use Rattle.mask.specs.Tables.{front};
 
-use super::{PAYLOAD_ROOM, Reading, Show, Size, check_at, copy_to};
-use machine::{Machine, Pair, Refusal, Validity};
+use super::{PAYLOAD_ROOM, Show, check_at, copy_to};
+use machine::{Machine, Pair, Refusal};
+use validity::Sets;
 
 // ---- Numbers and blocks
 
@@ -23,10 +24,8 @@ fn number_at(n: usize, s: &[u8], at: usize) -> u64
     ensures small { result < 256 ^ n }
 {
     let mut x: u64 = 0;
-    let mut i = n;
-    while 0 < i {
-        x = x * 256 + s[at + (i - 1)] as u64;
-        i -= 1;
+    for i in (0..n).rev() {
+        x = x * 256 + s[at + i] as u64;
     }
     x
 }
@@ -48,30 +47,33 @@ fn number_found(bytes: &[u8], i: usize) -> usize
     number_at(2, bytes, 512 * i) as usize
 }
 
-// The refusal for a wrong check: 3 for block 0, 7 for a later one.
-fn damaged_number(i: usize) -> u32
-    ensures { result ≡ damaged_number i }
+// The refusal for a wrong check of block i: 3 for block 0, 7 for a later one.
+fn damaged(i: usize) -> Refusal
+    ensures { result ≡ damaged i }
 {
     if i == 0 {
-        machine::BAD_FIRST_BLOCK
+        Refusal::BadFirstBlock
     } else {
-        machine::BAD_BLOCK
+        Refusal::BadBlock { block: i }
     }
 }
 
 // Block i: its check, and right after it its number.
-fn block_validity(bytes: &[u8], i: usize) -> Validity
+fn block_validity(bytes: &[u8], i: usize) -> Result<(), Refusal>
     requires { 512 * i + 512 ≤ length bytes.now }
-    ensures { tested_of result ≡ block_validity bytes.now i }
+    ensures { result ≡ block_validity bytes.now i }
 {
     if !check_holds(bytes, i) {
-        return Validity::Refused(machine::refuse(damaged_number(i), i, 0, 0));
+        return Err(damaged(i));
     }
     let number = number_found(bytes, i);
     if number != i {
-        return Validity::Refused(machine::refuse(machine::MISPLACED, i, number, 0));
+        return Err(Refusal::Misplaced {
+            block: i,
+            found: number,
+        });
     }
-    Validity::Valid
+    Ok(())
 }
 
 // ---- The first block
@@ -82,12 +84,7 @@ fn letters_hold(bytes: &[u8]) -> bool
     ensures { result ≡ every 4 (λ i. eqb (header_byte bytes.now i) (get_or letters i 0)) }
 {
     let letters = b"DOM1";
-    for i in 0..4 {
-        if bytes[2 + i] != letters[i] {
-            return false;
-        }
-    }
-    true
+    (0..4).all(|i| bytes[2 + i] == letters[i])
 }
 
 // Whether count bytes from a place are zero.
@@ -95,12 +92,7 @@ fn zeros(s: &[u8], from: usize, count: usize) -> bool
     requires { from + count ≤ length s.now }
     ensures { result ≡ every count (λ i. eqb (get_or s.now (from + i) 0) 0) }
 {
-    for i in 0..count {
-        if s[from + i] != 0 {
-            return false;
-        }
-    }
-    true
+    (0..count).all(|i| s[from + i] == 0)
 }
 
 // Byte k of the header.
@@ -147,33 +139,31 @@ fn counts_hold(bytes: &[u8]) -> bool
 }
 
 // Refusals 2, 3, 19 of block 0, 4 and 5, which rest on the length and the first block.
-fn first_validity(bytes: &[u8]) -> Validity
-    ensures { tested_of result ≡ first_validity bytes.now }
+fn first_validity(bytes: &[u8]) -> Result<(), Refusal>
+    ensures { result ≡ first_validity bytes.now }
 {
     if bytes.len() == 0 {
-        return Validity::Refused(machine::refuse(machine::BAD_LENGTH, 0, 0, 0));
+        return Err(Refusal::BadLength);
     }
     if bytes.len() % 512 != 0 {
-        return Validity::Refused(machine::refuse(machine::BAD_LENGTH, 0, 0, 0));
+        return Err(Refusal::BadLength);
     }
-    match block_validity(bytes, 0) {
-        Validity::Refused(r) => Validity::Refused(r),
-        Validity::Valid => header_validity(bytes),
-    }
+    block_validity(bytes, 0)?;
+    header_validity(bytes)
 }
 
 // Refusals 4 and 5.
-fn header_validity(bytes: &[u8]) -> Validity
+fn header_validity(bytes: &[u8]) -> Result<(), Refusal>
     requires { 512 ≤ length bytes.now }
-    ensures { tested_of result ≡ header_validity bytes.now }
+    ensures { result ≡ header_validity bytes.now }
 {
     if !header_holds(bytes) {
-        return Validity::Refused(machine::refuse(machine::BAD_HEADER, 0, 0, 0));
+        return Err(Refusal::BadHeader);
     }
     if !counts_hold(bytes) {
-        return Validity::Refused(machine::refuse(machine::BAD_COUNTS, 0, 0, 0));
+        return Err(Refusal::BadCounts);
     }
-    Validity::Valid
+    Ok(())
 }
 
 // The payload's length, by the counts of both machines and the note whether a table follows.
@@ -204,33 +194,26 @@ fn payload_demanded(bytes: &[u8]) -> usize
 }
 
 // A file's length in bytes, by its first block; refusals 2 to 5, and 19 of block 0.
-pub fn file_size(bytes: &[u8]) -> Size
-    ensures { sized_of result ≡ size_of bytes.now }
+pub fn file_size(bytes: &[u8]) -> Result<usize, Refusal>
+    ensures { result ≡ size_of bytes.now }
 {
-    match first_validity(bytes) {
-        Validity::Refused(r) => Size::Refused(r),
-        Validity::Valid => {
-            let blocks = (payload_demanded(bytes) + 507) / 508;
-            Size::Bytes(512 * blocks)
-        }
-    }
+    first_validity(bytes)?;
+    let blocks = (payload_demanded(bytes) + 507) / 508;
+    Ok(512 * blocks)
 }
 
 // ---- The whole file
 
 // Refusals 7 and 19 of the blocks after block 0, the lowest first.
-fn later_blocks(bytes: &[u8]) -> Validity
+fn later_blocks(bytes: &[u8]) -> Result<(), Refusal>
     requires { 512 ≤ length bytes.now }
-    ensures { tested_of result ≡ later_blocks bytes.now }
+    ensures { result ≡ later_blocks bytes.now }
 {
     let later = bytes.len() / 512 - 1;
     for i in 0..later {
-        let block = block_validity(bytes, i + 1);
-        if let Validity::Refused(r) = block {
-            return Validity::Refused(r);
-        }
+        block_validity(bytes, i + 1)?;
     }
-    Validity::Valid
+    Ok(())
 }
 
 // Whether the padding is zero. A file of the length that its counts demand has all of it in its last block.
@@ -245,33 +228,26 @@ fn padding_holds(bytes: &[u8]) -> bool
 }
 
 // Refusals 7 and 19 of the later blocks, and 8.
-fn later_validity(bytes: &[u8]) -> Validity
+fn later_validity(bytes: &[u8]) -> Result<(), Refusal>
     requires { length bytes.now ≡ demanded bytes.now }
-    ensures { tested_of result ≡ blocks_validity bytes.now }
+    ensures { result ≡ blocks_validity bytes.now }
 {
-    let blocks = later_blocks(bytes);
-    if let Validity::Refused(r) = blocks {
-        return Validity::Refused(r);
-    }
+    later_blocks(bytes)?;
     if !padding_holds(bytes) {
-        return Validity::Refused(machine::refuse(machine::BAD_PADDING, 0, 0, 0));
+        return Err(Refusal::BadPadding);
     }
-    Validity::Valid
+    Ok(())
 }
 
 // Refusals 2 to 8, and 19: up to 6, with 19 of block 0, by the first block and the length that it demands.
-fn file_validity(bytes: &[u8]) -> Validity
-    ensures { tested_of result ≡ and_then (first_validity bytes.now) (blocks_validity bytes.now) }
+fn file_validity(bytes: &[u8]) -> Result<(), Refusal>
+    ensures { result ≡ and_then (first_validity bytes.now) (blocks_validity bytes.now) }
 {
-    match file_size(bytes) {
-        Size::Refused(r) => Validity::Refused(r),
-        Size::Bytes(n) => {
-            if bytes.len() != n {
-                return Validity::Refused(machine::refuse(machine::WRONG_LENGTH, 0, 0, 0));
-            }
-            later_validity(bytes)
-        }
+    let size = file_size(bytes)?;
+    if bytes.len() != size {
+        return Err(Refusal::WrongLength);
     }
+    later_validity(bytes)
 }
 
 // ---- The payload
@@ -392,7 +368,7 @@ fn zero_machine() -> Machine
 
 // The answer beside a refusal.
 fn refused_show(r: Refusal) -> Show
-    ensures answer { read_of result ≡ refused r }
+    ensures answer { read_of result ≡ Err r }
     ensures machines { result.pair ≡ zero_pair }
 {
     Show {
@@ -401,7 +377,7 @@ fn refused_show(r: Refusal) -> Show
             abstraction: zero_machine(),
             hidden: 0,
         },
-        reading: Reading::Refused(r),
+        reading: Err(r),
     }
 }
 
@@ -409,23 +385,23 @@ fn refused_show(r: Refusal) -> Show
 fn take_show(bytes: &[u8], table: &mut [u16]) -> Show
     requires bytes_value { and_then (first_validity bytes.now) (blocks_validity bytes.now) ≡ valid }
     requires table_room_in_bounds { table_room ≤ length table.old }
-    ensures answer { read_of result ≡ and_then (pair_validity (pair_of bytes.now)) (answer (taken (pair_of bytes.now) (note_of bytes.now))) }
-    ensures machines { result.pair ≡ pair_given (and_then (pair_validity (pair_of bytes.now)) (answer (taken (pair_of bytes.now) (note_of bytes.now)))) }
+    ensures answer { read_of result ≡ and_then (pair_validity (pair_of bytes.now)) (Ok (taken (pair_of bytes.now) (note_of bytes.now))) }
+    ensures machines { result.pair ≡ pair_given (and_then (pair_validity (pair_of bytes.now)) (Ok (taken (pair_of bytes.now) (note_of bytes.now)))) }
     ensures content { table.new ≡ buffer_after (pair_validity (pair_of bytes.now)) (table_of bytes.now) table.old }
 {
     let mut payload = [0u8; PAYLOAD_ROOM];
     join(bytes, &mut payload);
     let pair = pair_at(bytes, &payload);
-    match validity::pair_validity(pair, validity::ANY_SETS) {
-        Validity::Refused(r) => refused_show(r),
-        Validity::Valid => {
+    match validity::pair_validity(pair, Sets::Any) {
+        Err(refusal) => refused_show(refusal),
+        Ok(()) => {
             let note = note_of(bytes);
             if note {
                 table_at(bytes, &payload, table);
             }
             Show {
                 pair: pair,
-                reading: Reading::Taken(note),
+                reading: Ok(note),
             }
         }
     }
@@ -438,21 +414,10 @@ pub fn read_file(bytes: &[u8], table: &mut [u16]) -> Show
     ensures content { table.new ≡ read_table bytes.now table.old }
 {
     if table.len() < machine::TABLE_ROOM {
-        return refused_show(machine::refuse(machine::SHORT_BUFFER, 0, 0, 0));
+        return refused_show(Refusal::ShortBuffer);
     }
     match file_validity(bytes) {
-        Validity::Refused(r) => refused_show(r),
-        Validity::Valid => take_show(bytes, table),
-    }
-}
-
-// The refusal of a reading: the call by which a caller passes it on, after `let Reading::Taken(note) = reading else { .. }`. A reading that took
-// its file has no refusal.
-pub fn refusal_of(reading: Reading) -> Refusal
-    ensures { result ≡ refusal_of reading }
-{
-    match reading {
-        Reading::Refused(r) => r,
-        Reading::Taken(_) => machine::refuse(0, 0, 0, 0),
+        Err(refusal) => refused_show(refusal),
+        Ok(()) => take_show(bytes, table),
     }
 }

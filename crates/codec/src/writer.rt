@@ -6,11 +6,11 @@ ghost use Rattle.machine.specs.Machines.{n_c, n_a, sets_c, sets_a};
 ghost use Rattle.machine.specs.WellFormed.{well_formed};
 ghost use Rattle.machine.specs.Table.{table_room};
 ghost use Rattle.codec.specs.Writer.{file_room, write_answer, write_buffer};
-ghost use Rattle.codec.specs.Answers.{sized_of};
 ghost use Rattle.codec.specs.Format.{bytes_of, numbers, header, machine_bytes, payload, payload_most, payload_length, file_length, block, file_of};
 
-use super::{FILE_ROOM, PAYLOAD_ROOM, Size, check_at, copy_to};
-use machine::{Machine, Pair, Validity};
+use super::{FILE_ROOM, PAYLOAD_ROOM, check_at, copy_to};
+use machine::{Machine, Pair, Refusal};
+use validity::Sets;
 
 // ---- Bytes, numbers and machines
 
@@ -156,18 +156,21 @@ fn put_file(p: Pair, with_table: bool, table: &[u16], buffer: &mut [u8]) -> usiz
 
 // Writes the file of a pair into a lent buffer, with the table if `with_table` says so, and gives the file's length in bytes. Stopped by 1, 5,
 // 9 to 11 and 21, it writes nothing.
-pub fn write_file(p: Pair, with_table: bool, table: &[u16], buffer: &mut [u8]) -> Size
-    ensures answer { sized_of result ≡ write_answer p with_table table.now buffer.old }
+pub fn write_file(
+    p: Pair,
+    with_table: bool,
+    table: &[u16],
+    buffer: &mut [u8],
+) -> Result<usize, Refusal>
+    ensures answer { result ≡ write_answer p with_table table.now buffer.old }
     ensures bytes { buffer.new ≡ write_buffer p with_table table.now buffer.old }
 {
     if table.len() < machine::TABLE_ROOM {
-        return Size::Refused(machine::refuse(machine::SHORT_BUFFER, 0, 0, 0));
+        return Err(Refusal::ShortBuffer);
     }
     if buffer.len() < FILE_ROOM {
-        return Size::Refused(machine::refuse(machine::SHORT_BUFFER, 0, 0, 0));
+        return Err(Refusal::ShortBuffer);
     }
-    match validity::pair_validity(p, validity::NONEMPTY_SETS) {
-        Validity::Refused(r) => Size::Refused(r),
-        Validity::Valid => Size::Bytes(put_file(p, with_table, table, buffer)),
-    }
+    validity::pair_validity(p, Sets::Nonempty)?;
+    Ok(put_file(p, with_table, table, buffer))
 }

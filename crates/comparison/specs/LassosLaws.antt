@@ -12,7 +12,7 @@ use Rattle.machine.specs.WellFormed.{well_formed}
 use Rattle.machine.specs.Machines.{observation, same_observation}
 use Rattle.machine.specs.Lassos.{Lasso, moment, is_play, given}
 use Rattle.machine.specs.Player.{Played, place_at, player_answer, player_buffer, play_answer}
-use Rattle.machine.specs.Refusals.{Result}
+use Rattle.machine.specs.Refusals.{Answer}
 use Rattle.brute.specs.Numbers.{states_of}
 use Rattle.comparison.specs.declared.tally.Tally.{Tally}
 use Rattle.comparison.specs.Answers.{played_four, same_four}
@@ -81,14 +81,14 @@ unfolding numbered_lasso
 numbered_is p T L top s q x n t e en et = et ∙ rw (e, en)
 
 -- with a buffer Z of any length
-tally_in : (p : Pair) (T : List ℕ) (l : Lasso) (Z B : List ℕ) (x y : Result Played) (v w : Refusal) (a : Bool) (t : Tally)
+tally_in : (p : Pair) (T : List ℕ) (l : Lasso) (Z B : List ℕ) (x y : Answer Played) (v w : Refusal) (a : Bool) (t : Tally)
     → B ≡ player_buffer p T l Z → x ≡ player_answer p T l Z → y ≡ play_answer p T l → v ≡ played_four x → w ≡ played_four y
     → a ≡ lasso_agrees p T l B v w → t ≡ of_lasso (v.number == 0) a
     → t ≡ (let u = played_four (player_answer p T l Z) in
     of_lasso (u.number == 0) (lasso_agrees p T l (player_buffer p T l Z) u (played_four (play_answer p T l))))
 tally_in p T l Z B x y v w a t eb ex ey ev ew ea et = rw (et, ea, eb, ev, ew, ex, ey)
 
-pub lasso_tally_is : (p : Pair) (T : List ℕ) (l : Lasso) (B : List ℕ) (x y : Result Played) (v w : Refusal) (a : Bool) (t : Tally)
+pub lasso_tally_is : (p : Pair) (T : List ℕ) (l : Lasso) (B : List ℕ) (x y : Answer Played) (v w : Refusal) (a : Bool) (t : Tally)
     → B ≡ player_buffer p T l zeros → x ≡ player_answer p T l zeros → y ≡ play_answer p T l → v ≡ played_four x → w ≡ played_four y
     → a ≡ lasso_agrees p T l B v w → t ≡ of_lasso (v.number == 0) a → t ≡ lasso_tally p T l
 unfolding lasso_tally

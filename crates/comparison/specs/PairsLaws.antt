@@ -1,12 +1,12 @@
 -- Laws of what is compared of a pair, case by case.
-use Rattle.std.specs.Prelude.{◌≡◌, ℕ, ◌+◌, ◌*◌, Bool, true, false, cond, List, length, ◌==◌, ◌≢◌}
+use Rattle.std.specs.Prelude.{◌≡◌, ℕ, ◌+◌, ◌*◌, Bool, true, false, cond, List, length, ◌==◌, ◌≢◌, Err}
 use Rattle.std.proofs.Common.{◌∙◌, sym, eq-eqb, ne_eqb}
 use Rattle.std.proofs.Math.Path.{ap}
 use Rattle.mask.specs.Logic.{not}
 use Rattle.mask.specs.LogicLaws.{and_false_l, and_i, and_true_l, not_f, not_i, or_false_l, or_l}
 use Rattle.machine.specs.declared.Pair.{Pair}
 use Rattle.machine.specs.declared.Refusal.{Refusal}
-use Rattle.machine.specs.Refusals.{Tested, refused, valid}
+use Rattle.machine.specs.Refusals.{Tested, valid}
 use Rattle.machine.specs.Machines.{n_c, sets_c, pairs}
 use Rattle.machine.specs.Table.{entries}
 use Rattle.machine.specs.WellFormed.{is_valid, pair_validity, nonempty_validity, well_formed}
@@ -88,7 +88,7 @@ module _ (solved : Bool) (r x y : Tally) where
   solution_none t e = rw t e
 
 module _ (t : Trial) (p : Pair) where
-  pub unsolved_ill : {r : Refusal} → pair_validity p ≡ refused r → nothing ≡ unsolved_tally t p
+  pub unsolved_ill : {r : Refusal} → pair_validity p ≡ Err r → nothing ≡ unsolved_tally t p
   unfolding unsolved_tally well_formed is_valid
   unsolved_ill e = rw e
 
@@ -109,7 +109,7 @@ module _ (t : Trial) (p : Pair) (v u : Tested) (x y : Refusal) (same : Bool) (tr
   unfolding pair_tally
   pair_at = rw (et, es, ey, ex, eu, ev)
 
-  pub pair_refused : (s : Refusal) → v ≡ refused s → (stopped first unsolved r : Tally) → stopped ≡ stopped_tally p y → first ≡ plus tried stopped
+  pub pair_refused : (s : Refusal) → v ≡ Err s → (stopped first unsolved r : Tally) → stopped ≡ stopped_tally p y → first ≡ plus tried stopped
       → unsolved ≡ unsolved_tally t p → r ≡ plus first unsolved → r ≡ pair_tally t p
   unfolding is_valid
   pair_refused s e stopped first unsolved r eo ef eu er = rw (er, eu, ef, eo) (sym (pair_at ∙ rw e))

@@ -7,8 +7,8 @@ use Rattle.mask.specs.LogicLaws.{and_false_l, and_i, and_true_l, not_f, not_i, o
 use Rattle.mask.specs.Tables.{table}
 use Rattle.mask.specs.TablesLaws.{table_at, table_cong, table_length}
 use Rattle.machine.specs.Table.{blank}
-use Rattle.machine.specs.Refusals.{Result}
-use Rattle.machine.specs.Verdict.{Verdict, check_verdict, check_empty_set}
+use Rattle.machine.specs.Refusals.{Answer}
+use Rattle.machine.specs.Verdict.{check_verdict, check_empty_set}
 use Rattle.machine.specs.declared.Pair.{Pair}
 use Rattle.machine.specs.declared.Refusal.{Refusal}
 use Rattle.brute.specs.Numbers.{numbered_table}
@@ -16,6 +16,7 @@ use Rattle.comparison.specs.Answers.{same_four, verdict_four, says_empty}
 use Rattle.comparison.specs.Tables.{altered, table_agrees, tried_table, table_tally, within}
 use Rattle.comparison.specs.Tallies.{of_table}
 use Rattle.comparison.specs.declared.tally.Tally.{Tally}
+use Rattle.machine.specs.declared.Verdict.{Verdict}
 
 -- ---- S covers each entry that T covers: t and s are the two tables' values of one entry
 unfoldable pub covered_too : ℕ → ℕ → Bool
@@ -114,7 +115,7 @@ reused_turn {every} {top} {n} {S} {A} {B} y C b e = record {
 }
 
 -- ---- one table's counts, from two answers x and y about it
-pub table_tally_is : (p : Pair) (n : ℕ) (S T : List ℕ) (v w : Result Verdict) (d e : Bool) (x y : Refusal) (empty agrees : Bool) (r : Tally)
+pub table_tally_is : (p : Pair) (n : ℕ) (S T : List ℕ) (v w : Answer Verdict) (d e : Bool) (x y : Refusal) (empty agrees : Bool) (r : Tally)
     → v ≡ check_verdict p T → d ≡ check_empty_set p T → x ≡ verdict_four v d → w ≡ check_verdict p T → e ≡ check_empty_set p T → y ≡ verdict_four w e
     → empty ≡ says_empty x → agrees ≡ table_agrees n x y S T → r ≡ of_table (nat_le 100 x.number) (x.number == 100) empty agrees
     → r ≡ table_tally p n S T

@@ -5,7 +5,6 @@ use Rattle.mask.specs.Logic.{not, and, or}
 use Rattle.machine.specs.declared.Pair.{Pair}
 use Rattle.machine.specs.declared.Refusal.{Refusal}
 use Rattle.machine.specs.Machines.{n_c, n_a, sets_a}
-use Rattle.machine.specs.Refusals.{refusal, out_of_range}
 use Rattle.machine.specs.WellFormed.{nonempty_validity}
 use Rattle.machine.specs.Table.{blank, entries, place_of, table_room}
 use Rattle.progress.specs.Turns.{first_given, turn_answer, turn_family, turn_table, look_up_answer}
@@ -16,6 +15,7 @@ use Rattle.comparison.specs.declared.turns.Known.{Known}
 use Rattle.comparison.specs.Answers.{tested_four, answered_four, answer_numbers, same_four, says_yes}
 use Rattle.comparison.specs.Tallies.{nothing, plus, total, of_test, of_turn, of_look_up}
 use Rattle.comparison.specs.Tables.{zeros, within}
+use Rattle.machine.specs.declared.Refusal.TheVariants.{OutOfRange}
 
 -- ---- a turn
 -- what a lent table is full of: no rank, and not blank
@@ -73,7 +73,7 @@ in_range k j c a = and (not (j == 0)) (and (nat_le j k.sections) (and (nat_lt c 
 unfoldable pub plain_look_up : Known → List ℕ → ℕ → ℕ → ℕ → Refusal
 plain_look_up k G j c a =
     let held = answer_numbers (not (slice_index G (place_of k.concretes k.abstractions (j - 1) c a) == blank)) in
-    cond (k.plain.number == 0) (cond (in_range k j c a) held (refusal out_of_range 0 0 0)) k.plain
+    cond (k.plain.number == 0) (cond (in_range k j c a) held OutOfRange) k.plain
 
 module _ (p : Pair) (k : Known) where
   -- one look-up

@@ -5,7 +5,7 @@ use borrow.Author.Tests.{eq-eqb, le-leb, le-ltb, lt-leb, lt-ltb, ne_eqb}
 use Rattle.mask.specs.BoundedLaws.{every_not, every_of}
 use Rattle.mask.specs.Logic.{not, or}
 use Rattle.mask.specs.LogicLaws.{and_false_l, and_true_l, clash, not_f, not_i, or_false, or_l, or_r}
-use Rattle.machine.specs.Refusals.{Result, Tested, out_of_range, refusal}
+use Rattle.machine.specs.Refusals.{Tested, Answer}
 use Rattle.machine.specs.Table.{blank, place_of, table_room}
 use Rattle.machine.specs.WellFormed.{nonempty_validity}
 use Rattle.machine.specs.declared.Pair.{Pair}
@@ -19,6 +19,7 @@ use Rattle.comparison.specs.Answers.{answer_numbers, answered_four, same_four, s
 use Rattle.comparison.specs.Tables.{within, zeros}
 use Rattle.comparison.specs.Tallies.{nothing, of_look_up, of_test, of_turn, plus, total}
 use Rattle.comparison.specs.Turns.{end_agrees, families_tally, family_tally, first_agrees, in_range, kept_from, known_of, look_up_tally, look_ups_tally, made_agrees, mark, marks, plain_look_up, rows_fit, same_entries, same_rows, stopped_agrees, stopped_tally, table_fits, turn_agrees, turn_said, turn_tally, turns_tally, unknown, walk_tally, walked}
+use Rattle.machine.specs.declared.Refusal.TheVariants.{OutOfRange}
 
 -- ---- entries and rows one after the other
 module _ (n : ℕ) (T : List ℕ) where
@@ -124,7 +125,7 @@ module _ (p : Pair) (k : Known) (said : Refusal) (F N T : List ℕ) {same : Bool
       made_table t = made_at ∙ and_true_l _ (sym answer_is ∙ q) ∙ and_true_l _ (rw (← g) t) ∙ rw (s, g)
 
 -- what a turn says
-module _ (p : Pair) (F : List ℕ) {v : Result Bool} {said : Refusal} {finished : Bool} (ev : v ≡ turn_answer p F (length marks)) (es : said ≡ answered_four v) (ef : finished ≡ says_yes said) where
+module _ (p : Pair) (F : List ℕ) {v : Answer Bool} {said : Refusal} {finished : Bool} (ev : v ≡ turn_answer p F (length marks)) (es : said ≡ answered_four v) (ef : finished ≡ says_yes said) where
   pub finished_is : finished ≡ says_yes (turn_said p F)
   unfolding turn_said
   finished_is = rw (ef, es, ev)
@@ -181,7 +182,7 @@ module _ (k : Known) (G : List ℕ) (j c a : ℕ) where
   look_stopped h = rw (ne_eqb _ 0 h)
 
   module _ (h : k.plain.number ≡ 0) where
-    pub look_out : {r : Refusal} → in_range k j c a ≡ false → r ≡ refusal out_of_range 0 0 0 → r ≡ plain_look_up k G j c a
+    pub look_out : {r : Refusal} → in_range k j c a ≡ false → r ≡ OutOfRange → r ≡ plain_look_up k G j c a
     unfolding plain_look_up
     look_out t e = rw (eq-eqb _ 0 h, t) e
 
@@ -191,7 +192,7 @@ module _ (k : Known) (G : List ℕ) (j c a : ℕ) where
     look_held t ee ev eh er = rw (eq-eqb _ 0 h, t, er, eh, ev, ee)
 
 module _ (p : Pair) (k : Known) where
-  pub look_is : (G F : List ℕ) (j c a : ℕ) {v : Result Bool} {said plain : Refusal} {held agrees : Bool} {r : Tally} → v ≡ look_up_answer p F j c a → said ≡ answered_four v
+  pub look_is : (G F : List ℕ) (j c a : ℕ) {v : Answer Bool} {said plain : Refusal} {held agrees : Bool} {r : Tally} → v ≡ look_up_answer p F j c a → said ≡ answered_four v
       → plain ≡ plain_look_up k G j c a → held ≡ says_yes said → agrees ≡ same_four said plain → r ≡ of_look_up held agrees → r ≡ look_up_tally p k G F j c a
   unfolding look_up_tally
   look_is G F j c a ev es ep eh ea er = rw (er, ea, eh, ep, es, ev)

@@ -6,8 +6,7 @@ ghost use Rattle.codec.specs.Reader.{size_of};
 ghost use Rattle.verdict.specs.Outcomes.{file_outcome, outcome_number};
 ghost use Rattle.console.specs.FirstBlock.{size_number};
 
-use codec::Size;
-use verdict::FileVerdict;
+use machine::Verdict;
 
 pub const CARRIED: u32 = 100;
 
@@ -19,10 +18,10 @@ pub fn console_answer(bytes: &[u8]) -> u32
     ensures { result ≡ outcome_number (file_outcome bytes.now) }
 {
     match verdict::file_verdict(bytes) {
-        FileVerdict::Carried(_) => CARRIED,
-        FileVerdict::NotCarried(c, _) => NOT_CARRIED + c as u32,
-        FileVerdict::NoTable => machine::NO_TABLE,
-        FileVerdict::Refused(r) => r.number,
+        Ok(Some(Verdict::Carried { .. })) => CARRIED,
+        Ok(Some(Verdict::NotCarried { lacking, .. })) => NOT_CARRIED + lacking as u32,
+        Ok(None) => machine::NO_TABLE,
+        Err(refusal) => refusal.number(),
     }
 }
 
@@ -31,9 +30,9 @@ pub fn console_answer(bytes: &[u8]) -> u32
 pub fn first_block_answer(bytes: &[u8]) -> u32
     ensures { result ≡ size_number (size_of (take 512 bytes.now)) }
 {
-    let end = if bytes.len() < 512 { bytes.len() } else { 512 };
+    let end = bytes.len().min(512);
     match codec::reader::file_size(&bytes[..end]) {
-        Size::Bytes(n) => n as u32,
-        Size::Refused(r) => r.number,
+        Ok(size) => size as u32,
+        Err(refusal) => refusal.number(),
     }
 }

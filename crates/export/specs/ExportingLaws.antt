@@ -1,5 +1,5 @@
 -- Laws of the text of a machine of a file: by what the reader says, what is answered and what is left in the buffer.
-use Rattle.std.specs.Prelude.{List, ◌++◌, ◌≡◌, ℕ, ◌≤◌, ◌<◌, eqb, length}
+use Rattle.std.specs.Prelude.{List, ◌++◌, ◌≡◌, ℕ, ◌≤◌, ◌<◌, eqb, length, Err, Ok}
 use Rattle.std.proofs.Math.Path.{sym, ap}
 use Rattle.std.proofs.Common.{◌∙◌, arith, lt-ltb, le-ltb}
 use Rattle.std.proofs.Math.ListN.{drop}
@@ -7,7 +7,7 @@ use Rattle.mask.specs.LogicLaws.{cond_cases}
 use Rattle.machine.specs.declared.Machine.{Machine}
 use Rattle.machine.specs.declared.Pair.{Pair}
 use Rattle.machine.specs.declared.Refusal.{Refusal}
-use Rattle.machine.specs.Refusals.{Result, answer, refused, valid, refusal, short_buffer, out_of_range}
+use Rattle.machine.specs.Refusals.{valid, Answer}
 use Rattle.machine.specs.RefusalsLaws.{then_of, then_refused, then_answer, given_at, buffer_valid, buffer_short, buffer_made, buffer_kept}
 use Rattle.machine.specs.WellFormed.{machine_validity}
 use Rattle.machine.specs.WellFormedLaws.{both_valid}
@@ -18,6 +18,7 @@ use Rattle.hanoi.specs.Text.{text_room, hoa_text, text_answer, text_buffer}
 use Rattle.hanoi.proofs.CallLaws.{text_given, text_left}
 use Rattle.hanoi.proofs.Theorems.{text_fits}
 use Rattle.export.specs.Exporting.{machine_in, which_validity, export_validity, export_answer, export_buffer}
+use Rattle.machine.specs.declared.Refusal.TheVariants.{OutOfRange, ShortBuffer}
 
 -- ---- which machine it is
 module _ (f : List ℕ) where
@@ -38,19 +39,19 @@ module _ (f : List ℕ) where
 
 -- ---- the tests decide the answer and the buffer
 module _ (f : List ℕ) (which : ℕ) (buffer : List ℕ) where
-  abbrev Leaves : Result ℕ → List ℕ → Type 0
+  abbrev Leaves : Answer ℕ → List ℕ → Type 0
   Leaves said after = (export_answer f which (length buffer) ≡ said) × (export_buffer f which buffer ≡ after)
 
-  stopped : (r : Refusal) → export_validity f which (length buffer) ≡ refused r → Leaves (refused r) buffer
+  stopped : (r : Refusal) → export_validity f which (length buffer) ≡ Err r → Leaves (Err r) buffer
   unfolding export_answer export_buffer
   stopped r e = (then_refused _ _ r e, buffer_kept _ _ buffer e)
 
-  pub export_short : length buffer < text_room → Leaves (refused (refusal short_buffer 0 0 0)) buffer
+  pub export_short : length buffer < text_room → Leaves (Err ShortBuffer) buffer
   unfolding export_validity
   export_short h = stopped _ (then_refused _ _ _ (buffer_short text_room (length buffer) h))
 
   module _ (h : text_room ≤ length buffer) where
-    pub export_unread : {r : Refusal} → read_validity f table_room ≡ refused r → Leaves (refused r) buffer
+    pub export_unread : {r : Refusal} → read_validity f table_room ≡ Err r → Leaves (Err r) buffer
     unfolding export_validity
     export_unread e = stopped _ (then_of _ _ (buffer_valid text_room (length buffer) h) ∙ then_refused _ _ _ e)
 
@@ -59,7 +60,7 @@ module _ (f : List ℕ) (which : ℕ) (buffer : List ℕ) where
       unfolding export_validity
       tests = then_of _ _ (buffer_valid text_room (length buffer) h) ∙ then_of _ _ read
 
-      pub export_neither : 2 ≤ which → Leaves (refused (refusal out_of_range 0 0 0)) buffer
+      pub export_neither : 2 ≤ which → Leaves (Err OutOfRange) buffer
       unfolding which_validity
       export_neither l = stopped _ (tests ∙ rw (le-ltb which 2 l))
 
@@ -69,12 +70,12 @@ module _ (f : List ℕ) (which : ℕ) (buffer : List ℕ) where
       export_written m l e =
           let nothing : export_validity f which (length buffer) ≡ valid = tests ∙ rw (lt-ltb which 2 l) in
           let v = ap (machine_validity 8) e ∙ machine_valid f which read in (
-            then_of _ _ nothing ∙ ap (λ (x : Machine). answer (length (hoa_text x))) (sym e) ∙ sym (text_given m buffer h v),
+            then_of _ _ nothing ∙ ap (λ (x : Machine). Ok (length (hoa_text x))) (sym e) ∙ sym (text_given m buffer h v),
             buffer_made _ _ buffer nothing ∙ ap (λ (x : Machine). hoa_text x ++ drop (length (hoa_text x)) buffer) (sym e) ∙ sym (text_left m buffer h v),
           )
 
 -- a text that is written fits
-pub export_small : (f : List ℕ) (which room : ℕ) {n : ℕ} → export_answer f which room ≡ answer n → n ≤ text_room
+pub export_small : (f : List ℕ) (which room : ℕ) {n : ℕ} → export_answer f which room ≡ Ok n → n ≤ text_room
 unfolding export_answer export_validity
 export_small f which room e =
     let a = given_at _ _ e in

@@ -1,11 +1,11 @@
 -- Document 02, No. 1: the text of a machine in the Hanoi Omega-Automata format, HOA v1, line by line.
-use Rattle.std.specs.Prelude.{cond, ℕ, length}
+use Rattle.std.specs.Prelude.{cond, ℕ, length, Ok}
 use mathlib.Core.List.{List, [], ◌∷◌, ◌++◌, map, flat_map, flatten}
 use Rattle.mask.specs.Bits.{has_bit}
 use Rattle.text.specs.Decimal.{decimal}
 use Rattle.machine.specs.declared.Machine.{Machine}
 use Rattle.machine.specs.Machines.{observation, successors, in_fair_set}
-use Rattle.machine.specs.Refusals.{Result, answer, Tested, and_then, buffer_validity, buffer_after}
+use Rattle.machine.specs.Refusals.{Tested, and_then, buffer_validity, buffer_after, Answer}
 use Rattle.machine.specs.WellFormed.{machine_validity}
 use Rattle.hanoi.specs.Words.{ascii, below, chosen, states_of, joined}
 
@@ -78,8 +78,8 @@ unfoldable pub text_validity : Machine → ℕ → Tested
 text_validity m room = and_then (buffer_validity text_room room) (machine_validity 8 m)
 
 -- the text's length, or a refusal
-unfoldable pub text_answer : Machine → ℕ → Result ℕ
-text_answer m room = and_then (text_validity m room) (answer (length (hoa_text m)))
+unfoldable pub text_answer : Machine → ℕ → Answer ℕ
+text_answer m room = and_then (text_validity m room) (Ok (length (hoa_text m)))
 
 -- the lent buffer's final content: bytes "past the text are unchanged"
 unfoldable pub text_buffer : Machine → List ℕ → List ℕ

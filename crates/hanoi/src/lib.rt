@@ -7,13 +7,11 @@ ghost use Rattle.mask.specs.Bits.{has_bit};
 ghost use Rattle.text.specs.Decimal.{decimal};
 ghost use Rattle.machine.specs.Refusals.{valid};
 ghost use Rattle.machine.specs.WellFormed.{machine_validity};
-ghost use Rattle.codec.specs.Answers.{sized_of};
 ghost use Rattle.hanoi.specs.Text.{acceptance, label, hoa_text, text_answer, text_buffer};
 ghost use Rattle.hanoi.specs.Parts.{items, start_lines, braces, state_text, sets_mask, lines_below, head_text};
 ghost use Rattle.hanoi.specs.Puts.{Room, Placed};
 
-use codec::Size;
-use machine::{Machine, Validity};
+use machine::{Machine, Refusal};
 
 // The least length of a lent buffer; every text is shorter.
 pub const TEXT_ROOM: usize = 20000;
@@ -226,16 +224,13 @@ fn put_text(out: &mut [u8], m: Machine) -> usize
 }
 
 // Writes the text of one machine, of either kind, into a lent buffer of 20,000 bytes or more, and gives the text's length, or where the call was stopped.
-pub fn write_text(m: Machine, out: &mut [u8]) -> Size
-    ensures answer { sized_of result ≡ text_answer m (length out.old) }
+pub fn write_text(m: Machine, out: &mut [u8]) -> Result<usize, Refusal>
+    ensures answer { result ≡ text_answer m (length out.old) }
     ensures content { out.new ≡ text_buffer m out.old }
 {
     if out.len() < TEXT_ROOM {
-        return Size::Refused(machine::refuse(machine::SHORT_BUFFER, 0, 0, 0));
+        return Err(Refusal::ShortBuffer);
     }
-    let valid = validity::machine_validity(8, m);
-    if let Validity::Refused(r) = valid {
-        return Size::Refused(r);
-    }
-    Size::Bytes(put_text(out, m))
+    validity::machine_validity(8, m)?;
+    Ok(put_text(out, m))
 }

@@ -9,7 +9,7 @@ ghost use Rattle.machine.specs.Refusals.{spot_after};
 ghost use Rattle.codec.specs.Answers.{length_of};
 ghost use Rattle.restore.specs.Restoring.{restore_answer, restore_buffer};
 ghost use Rattle.machine.specs.Lassos.{given};
-ghost use Rattle.playback.specs.Playing.{file_run, file_run_buffer, told_to_c, run_number};
+ghost use Rattle.playback.specs.Playing.{file_run, file_run_buffer, run_number, run_spot};
 ghost use Rattle.watch.specs.Watching.{first_file, first_file_rows, ready_number, turn_file, turn_file_rows, turn_file_table, told_number, look_up_file};
 ghost use Rattle.export.specs.Exporting.{export_answer, export_buffer};
 
@@ -51,9 +51,9 @@ pub extern "C" fn play_file(
     run: &mut [u8],
     spot: &mut [u64; 4],
 ) -> u64
-    ensures value { result ≡ run_number (told_to_c (file_run bytes.now (given stem.now cycle.now) run.old)) }
+    ensures value { result ≡ run_number (file_run bytes.now (given stem.now cycle.now) run.old) }
     ensures content { run.new ≡ file_run_buffer bytes.now (given stem.now cycle.now) run.old }
-    ensures numbers { spot.new ≡ spot_after (told_to_c (file_run bytes.now (given stem.now cycle.now) run.old)) spot.old }
+    ensures numbers { spot.new ≡ run_spot (file_run bytes.now (given stem.now cycle.now) run.old) spot.old }
 {
     playback::play_file(bytes, stem, cycle, run, spot)
 }

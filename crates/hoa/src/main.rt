@@ -2,19 +2,18 @@
 // machine first; or the line of a refusal. A read that fails ends the input.
 #![tactic(auto)]
 
-use codec::Size;
 use std::io;
 
 // Writes the text of a machine of the file, and says whether it did; or writes the line of the refusal, which is the same for both machines.
 fn write_machine(rt: &impl Print, bytes: &[u8], which: usize) -> io::Result<bool> {
     let mut out = [0u8; hanoi::TEXT_ROOM];
     match export::text_bytes(bytes, which, &mut out) {
-        Size::Bytes(n) => {
+        Ok(n) => {
             rt.write_all(&out[..n])?;
             Ok(true)
         }
-        Size::Refused(r) => {
-            let line = report::refusal_line(r);
+        Err(refusal) => {
+            let line = report::refusal_line(refusal);
             let text = line.text;
             let length = line.length;
             rt.write_all(&text[..length])?;

@@ -1,5 +1,4 @@
 -- definitions
-pub mod Answers
 pub mod Bounds
 pub mod Reciprocal
 -- laws

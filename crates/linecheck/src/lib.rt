@@ -4,30 +4,21 @@
 // of two.
 #![tactic(auto)]
 
-ghost use Rattle.std.specs.Prelude.{true, ◌≡◌, ◌<◌, ◌≤◌, length, get_or, eqb};
+ghost use Rattle.std.specs.Prelude.{true, ◌≡◌, ◌<◌, ◌≤◌, length, get_or, eqb, Ok};
 ghost use Rattle.mask.specs.Logic.{not};
-ghost use Rattle.mask.specs.Bounded.{count};
+ghost use Rattle.mask.specs.Bounded.{count, below};
+ghost use Rattle.machine.specs.Machines.{n_c};
 ghost use Rattle.machine.specs.WellFormed.{has_empty_set, well_formed};
 ghost use Rattle.machine.specs.Ranks.{level_of, set_of};
 ghost use Rattle.machine.specs.Table.{blank, table_room};
 ghost use Rattle.machine.specs.Lines.{lines_validity};
 ghost use Rattle.machine.specs.Observed.{matched_masks};
-ghost use Rattle.machine.specs.Refusals.{answer, tested_of};
-ghost use Rattle.machine.specs.Verdict.{lacking_start, start_verdict, check_verdict, check_empty_set};
-ghost use Rattle.linecheck.specs.Answers.{verdict_of, empty_set_of};
+ghost use Rattle.machine.specs.Verdict.{lacking_start, start_verdict, verdict_of, empty_set_of, check_verdict, check_empty_set};
 ghost use Rattle.linecheck.specs.Bounds.{line_of};
 ghost use Rattle.linecheck.specs.Reciprocal.{reciprocal_of};
 
-use machine::{Pair, Refusal, Validity};
-
-// What the check says: Carried with the count, NotCarried with c and the count, each with whether a set of the concrete machine is empty, so that
-// no play of it is fair; or where it was stopped.
-#[derive(Clone, Copy)]
-pub enum Checked {
-    Carried(usize, bool),
-    NotCarried(usize, usize, bool),
-    Refused(Refusal),
-}
+use machine::{Checked, Pair, Refusal, Verdict};
+use validity::Sets;
 
 // What an entry asks of each step: partners in `section` whose entry is at most `bound`; unless `holds`, the entry fails before any step.
 #[derive(Clone, Copy)]
@@ -125,9 +116,9 @@ fn line_of(
 }
 
 // Whether each line of a table of well-formed machines holds, and if not where the first is that fails.
-fn lines_validity(p: Pair, matched: [u64; 64], table: &[u16]) -> Validity
+fn lines_validity(p: Pair, matched: [u64; 64], table: &[u16]) -> Result<(), Refusal>
     requires { (well_formed p ≡ true) × ((matched ≡ matched_masks p) × (table_room ≤ length table.now)) }
-    ensures { tested_of result ≡ lines_validity p table.now }
+    ensures { result ≡ lines_validity p table.now }
 {
     let concrete = p.concrete;
     let abstraction = p.abstraction;
@@ -139,7 +130,7 @@ fn lines_validity(p: Pair, matched: [u64; 64], table: &[u16]) -> Validity
     let n = abstraction.sets;
     let concrete_sets = concrete.fairness;
     let most = m * (nc * na);
-    let mut answer = Validity::Valid;
+    let mut answer = Ok(());
     'lines: for j in 0..n {
         let next = machine::next_section(n, j);
         for c in 0..nc {
@@ -148,7 +139,11 @@ fn lines_validity(p: Pair, matched: [u64; 64], table: &[u16]) -> Validity
                 let e = table[at];
                 if e != machine::BLANK {
                     // the spot of this entry, its section counted from 1
-                    let spot = machine::refuse(machine::FAILING_ENTRY, j + 1, c, a);
+                    let spot = Refusal::FailingEntry {
+                        section: j + 1,
+                        c,
+                        a,
+                    };
                     let line = line_of(
                         m,
                         most,
@@ -162,7 +157,7 @@ fn lines_validity(p: Pair, matched: [u64; 64], table: &[u16]) -> Validity
                         abstraction.fairness[j],
                     );
                     if !line.holds {
-                        answer = Validity::Refused(spot);
+                        answer = Err(spot);
                         break 'lines;
                     }
                     let section = line.section;
@@ -174,7 +169,7 @@ fn lines_validity(p: Pair, matched: [u64; 64], table: &[u16]) -> Validity
                         let from = machine::entry_index(nc, na, section, d, 0);
                         let to = from + na;
                         if !machine::has_partner(moves, matched[d], &table[from..to], bound) {
-                            answer = Validity::Refused(spot);
+                            answer = Err(spot);
                             break 'lines;
                         }
                         rest = mask::rest(rest);
@@ -183,7 +178,7 @@ fn lines_validity(p: Pair, matched: [u64; 64], table: &[u16]) -> Validity
             }
         }
     }
-    answer
+    Ok
 }
 
 // How many of the first `entries` entries are not blank.
@@ -200,10 +195,10 @@ fn covered_count(table: &[u16], entries: usize) -> usize
     found
 }
 
-// The lowest concrete start state without an abstract start state beside it that is not blank in section 1; nc where there is none.
-fn lacking_start(p: Pair, table: &[u16]) -> usize
+// The lowest concrete start state without an abstract start state beside it that is not blank in section 1.
+fn lacking_start(p: Pair, table: &[u16]) -> Option<usize>
     requires { (well_formed p ≡ true) × (table_room ≤ length table.now) }
-    ensures { result ≡ lacking_start p table.now }
+    ensures { result ≡ below (n_c p) (lacking_start p table.now) }
 {
     let concrete = p.concrete;
     let abstraction = p.abstraction;
@@ -221,49 +216,42 @@ fn lacking_start(p: Pair, table: &[u16]) -> usize
                 &table[from..to],
                 machine::BLANK - 1,
             ) {
-                return c;
+                return Some(c);
             }
         }
     }
-    nc
+    None
 }
 
 // The check: what the table says of the pair, or where it was stopped.
-pub fn check_table(p: Pair, table: &[u16]) -> Checked
+pub fn check_table(p: Pair, table: &[u16]) -> Result<Checked, Refusal>
     ensures verdict { verdict_of result ≡ check_verdict p table.now }
     ensures empty { empty_set_of result ≡ check_empty_set p table.now }
 {
     if table.len() < machine::TABLE_ROOM {
-        return Checked::Refused(machine::refuse(machine::SHORT_BUFFER, 0, 0, 0));
+        return Err(Refusal::ShortBuffer);
     }
-    let valid = validity::pair_validity(p, validity::ANY_SETS);
-    if let Validity::Refused(r) = valid {
-        return Checked::Refused(r);
-    }
-    let lines = lines_validity(p, machine::matched_masks(p), table);
-    if let Validity::Refused(r) = lines {
-        return Checked::Refused(r);
-    }
-    verdict_of_starts(p, table)
+    validity::pair_validity(p, Sets::Any)?;
+    lines_validity(p, machine::matched_masks(p), table)?;
+    Ok(checked_of_starts(p, table))
 }
 
 // What is said of a table that passes each line.
-fn verdict_of_starts(p: Pair, table: &[u16]) -> Checked
+fn checked_of_starts(p: Pair, table: &[u16]) -> Checked
     requires { (well_formed p ≡ true) × (table_room ≤ length table.now) }
-    ensures verdict { verdict_of result ≡ answer (start_verdict p table.now) }
-    ensures empty { empty_set_of result ≡ has_empty_set p.concrete }
+    ensures verdict { result.verdict ≡ start_verdict p table.now }
+    ensures empty { result.empty_set ≡ has_empty_set p.concrete }
 {
     let concrete = p.concrete;
     let abstraction = p.abstraction;
     let nc = concrete.states;
     let na = abstraction.states;
     let n = abstraction.sets;
-    let found = covered_count(table, n * (nc * na));
-    let c = lacking_start(p, table);
-    let empty = validity::has_empty_set(concrete);
-    if c < nc {
-        Checked::NotCarried(c, found, empty)
-    } else {
-        Checked::Carried(found, empty)
-    }
+    let covered = covered_count(table, n * (nc * na));
+    let verdict = match lacking_start(p, table) {
+        Some(lacking) => Verdict::NotCarried { lacking, covered },
+        None => Verdict::Carried { covered },
+    };
+    let empty_set = validity::has_empty_set(concrete);
+    Checked { verdict, empty_set }
 }

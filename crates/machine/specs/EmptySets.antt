@@ -1,12 +1,12 @@
 -- Document 02, No. 7: what refusal 21 tells, and what an empty set means for plays. The proofs are in EmptySetsLaws.antt.
-use Rattle.std.specs.Prelude.{true, false, ◌⊎◌, ◌↔◌, ◌≡◌, ℕ, suc, ◌<◌, ◌^◌}
+use Rattle.std.specs.Prelude.{true, false, ◌⊎◌, ◌↔◌, ◌≡◌, ℕ, suc, ◌<◌, ◌^◌, Err}
 use Rattle.machine.specs.declared.Machine.{Machine}
 use Rattle.machine.specs.declared.Pair.{Pair}
 use Rattle.machine.specs.declared.Refusal.{Refusal}
-use Rattle.machine.specs.Refusals.{refused, refusal, empty_set}
 use Rattle.machine.specs.Machines.{fair_set, in_fair_set}
 use Rattle.machine.specs.WellFormed.{has_empty_set, nonempty_sets, nonempty_validity, well_formed}
 use Rattle.machine.specs.Lassos.{Lasso, is_fair}
+use Rattle.machine.specs.declared.Refusal.TheVariants.{EmptySet}
 
 -- set k of a machine, counted from 0, has no state, and each lower set is no empty mask
 pub record LowestEmpty (m : Machine) (k : ℕ) : Type 0 where
@@ -17,12 +17,12 @@ pub record LowestEmpty (m : Machine) (k : ℕ) : Type 0 where
 -- "a set without a state, the spot being machine and set from 1": the lowest, and the concrete machine first
 abbrev pub TellsEmptySet : Pair → Refusal → Type 0
 TellsEmptySet p r =
-    ((k : ℕ) × (r ≡ refusal empty_set 0 (suc k) 0) × LowestEmpty p.concrete k)
-    ⊎ ((k : ℕ) × (r ≡ refusal empty_set 1 (suc k) 0) × (has_empty_set p.concrete ≡ false) × LowestEmpty p.abstraction k)
+    ((k : ℕ) × (r ≡ EmptySet 0 (suc k)) × LowestEmpty p.concrete k)
+    ⊎ ((k : ℕ) × (r ≡ EmptySet 1 (suc k)) × (has_empty_set p.concrete ≡ false) × LowestEmpty p.abstraction k)
 
 -- of well-formed machines of which some set is empty, 21 is said, and nothing else
 abbrev pub EmptySetTold : Type 0
-EmptySetTold = (p : Pair) → well_formed p ≡ true → nonempty_sets p ≡ false → (r : Refusal) × (nonempty_validity p ≡ refused r) × TellsEmptySet p r
+EmptySetTold = (p : Pair) → well_formed p ≡ true → nonempty_sets p ≡ false → (r : Refusal) × (nonempty_validity p ≡ Err r) × TellsEmptySet p r
 
 -- each set of a machine has a state; masks have 64 bits
 abbrev pub SetsHaveStates : Machine → Type 0

@@ -1,5 +1,5 @@
 -- Laws of empty sets: a pair passes with 21 asked for exactly if it is well formed and no set is empty; what 21 tells; what an empty set means.
-use Rattle.std.specs.Prelude.{Bool, true, false, ◌≡◌, refl, ℕ, suc, ◌≤◌, ◌<◌, get_or}
+use Rattle.std.specs.Prelude.{Bool, true, false, ◌≡◌, refl, ℕ, suc, ◌≤◌, ◌<◌, get_or, Err}
 use Rattle.std.proofs.Common.{inl, inr, ⊎_elim, sym, ap, ◌∙◌, arith, pow_pos}
 use Rattle.std.proofs.Math.Dec.{ltb}
 use borrow.Author.Tests.{ltb-true, lt-ltb, le-ltb, ltb-false}
@@ -10,7 +10,7 @@ use Rattle.mask.specs.BoundedLaws.{find, every_at, some_at}
 use Rattle.machine.specs.declared.Machine.{Machine}
 use Rattle.machine.specs.declared.Pair.{Pair}
 use Rattle.machine.specs.declared.Refusal.{Refusal}
-use Rattle.machine.specs.Refusals.{valid, refused, refusal, empty_set}
+use Rattle.machine.specs.Refusals.{valid}
 use Rattle.machine.specs.RefusalsLaws.{valid_next, then_of, then_answer, then_refused}
 use Rattle.machine.specs.Machines.{fair_set, in_fair_set}
 use Rattle.machine.specs.WellFormed.{lowest_empty_set, has_empty_set, content_validity, sets_validity, content_tests, pair_validity, nonempty_validity, nonempty_sets, well_formed}
@@ -18,6 +18,7 @@ use Rattle.machine.specs.FirstEmptyLaws.{found_empty, none_is_empty}
 use Rattle.machine.specs.WellFormedLaws.{WellMachine, tests_passed, passed_tests, bad_concrete, good_concrete, content_only, content_then_sets, well_is_valid, well_pair}
 use Rattle.machine.specs.Lassos.{is_fair}
 use Rattle.machine.specs.EmptySets.{LowestEmpty, EmptySetTold, SetsHaveStates, NonemptyHasState, EmptySetIsUnfair}
+use Rattle.machine.specs.declared.Refusal.TheVariants.{EmptySet}
 
 -- ---- 21 of one machine
 module _ (i : ℕ) (m : Machine) where
@@ -25,7 +26,7 @@ module _ (i : ℕ) (m : Machine) where
   unfolding sets_validity
   sets_valid e = rw e
 
-  sets_refused : has_empty_set m ≡ true → sets_validity i m ≡ refused (refusal empty_set i (suc (lowest_empty_set m.sets m.fairness)) 0)
+  sets_refused : has_empty_set m ≡ true → sets_validity i m ≡ Err (EmptySet i (suc (lowest_empty_set m.sets m.fairness)))
   unfolding sets_validity
   sets_refused e = rw e
 
@@ -39,11 +40,11 @@ module _ (i : ℕ) (m : Machine) where
   passed_of : content_validity i m ≡ valid → has_empty_set m ≡ false → content_tests true i m ≡ valid
   passed_of e f = content_then_sets i m ∙ then_of _ _ e ∙ sets_valid f
 
-  stopped_of : content_validity i m ≡ valid → has_empty_set m ≡ true → content_tests true i m ≡ refused (refusal empty_set i (suc (lowest_empty_set m.sets m.fairness)) 0)
+  stopped_of : content_validity i m ≡ valid → has_empty_set m ≡ true → content_tests true i m ≡ Err (EmptySet i (suc (lowest_empty_set m.sets m.fairness)))
   stopped_of e f = content_then_sets i m ∙ then_of _ _ e ∙ sets_refused f
 
   -- ---- as the code goes: what was said of 9 to 11, and k, the lowest empty set
-  pub tests_stopped : (nonempty : Bool) {r : Refusal} → content_validity i m ≡ refused r → content_tests nonempty i m ≡ refused r
+  pub tests_stopped : (nonempty : Bool) {r : Refusal} → content_validity i m ≡ Err r → content_tests nonempty i m ≡ Err r
   tests_stopped true e = content_then_sets i m ∙ then_refused _ _ _ e
   tests_stopped false e = content_only i m ∙ e
 
@@ -52,7 +53,7 @@ module _ (i : ℕ) (m : Machine) where
 
   module _ (nonempty : Bool) (t : nonempty ≡ true) (e : content_validity i m ≡ valid) (k : ℕ) (lowest : k ≡ lowest_empty_set m.sets m.fairness) where
     -- n is the set counted from 1
-    pub tests_empty : (n : ℕ) → k < 8 → n ≡ suc k → content_tests nonempty i m ≡ refused (refusal empty_set i n 0)
+    pub tests_empty : (n : ℕ) → k < 8 → n ≡ suc k → content_tests nonempty i m ≡ Err (EmptySet i n)
     unfolding has_empty_set
     tests_empty n h one = rw (t, one, lowest) (stopped_of e (ap (λ (x : ℕ). ltb x 8) (sym lowest) ∙ lt-ltb k 8 h))
 

@@ -1,13 +1,14 @@
 -- Document 01, "Line check": the lines.
-use Rattle.std.specs.Prelude.{Bool, cond, List, ℕ, suc, ◌*◌, eqb, leb, ltb}
+use Rattle.std.specs.Prelude.{Bool, cond, List, ℕ, suc, ◌*◌, eqb, leb, ltb, Err}
 use Rattle.mask.specs.Logic.{not, and, or}
 use Rattle.mask.specs.Bounded.{every, first}
 use Rattle.machine.specs.declared.Pair.{Pair}
-use Rattle.machine.specs.Refusals.{Tested, valid, refused, refusal, failing_entry}
+use Rattle.machine.specs.Refusals.{Tested, valid}
 use Rattle.machine.specs.Machines.{in_fair_set, matched, next, n_c, n_a, sets_c, sets_a, pairs}
 use Rattle.machine.specs.Step.{steps}
 use Rattle.machine.specs.Table.{blank, entry, covers}
 use Rattle.machine.specs.Ranks.{level_of, set_of}
+use Rattle.machine.specs.declared.Refusal.TheVariants.{FailingEntry}
 
 module _ (p : Pair) (T : List ℕ) where
   -- the sets that a line steps into: "all sets below hold matched pairs only"
@@ -54,4 +55,4 @@ module _ (p : Pair) (T : List ℕ) where
       let j = first (sets_a p) (λ j. not (every (n_c p) (λ c. every (n_a p) (passes j c)))) in
       let c = first (n_c p) (λ c. not (every (n_a p) (passes j c))) in
       let a = first (n_a p) (λ a. not (passes j c a)) in
-      cond (ltb j (sets_a p)) (refused (refusal failing_entry (suc j) c a)) valid
+      cond (ltb j (sets_a p)) (Err (FailingEntry (suc j) c a)) valid

@@ -1,6 +1,6 @@
 -- Laws of the lines: a passing entry as sentences, and the first that fails.
 use Rattle.std.proofs.Math.Bool.{true, false}
-use Rattle.std.specs.Prelude.{cond, List, ◌≡◌, ℕ, suc, ◌+◌, ◌-◌, ◌*◌, ◌/◌, ◌≤◌, ◌<◌, eqb, leb, ltb}
+use Rattle.std.specs.Prelude.{cond, List, ◌≡◌, ℕ, suc, ◌+◌, ◌-◌, ◌*◌, ◌/◌, ◌≤◌, ◌<◌, eqb, leb, ltb, Err}
 use Rattle.std.proofs.Math.Logic.{⊎_elim, by_cases}
 use Rattle.std.proofs.Math.Path.{sym, ap}
 use Rattle.std.proofs.Common.{◌∙◌, div-lt_iff_lt-mul, arith}
@@ -11,7 +11,7 @@ use Rattle.mask.specs.LogicLaws.{dec, clash, both, cond_cases, and_l, and_r, and
 use Rattle.mask.specs.Bounded.{every, first}
 use Rattle.mask.specs.BoundedLaws.{every_at, every_of, every_not, first_is, first_none, first_all}
 use Rattle.machine.specs.declared.Pair.{Pair}
-use Rattle.machine.specs.Refusals.{valid, refused, refusal, failing_entry}
+use Rattle.machine.specs.Refusals.{valid}
 use Rattle.machine.specs.RefusalsLaws.{valid_next}
 use Rattle.machine.specs.Machines.{in_fair_set, matched, next, n_c, n_a, sets_c, sets_a, pairs}
 use Rattle.machine.specs.Step.{steps}
@@ -20,6 +20,7 @@ use Rattle.machine.specs.Table.{blank, entry, covers}
 use Rattle.machine.specs.Ranks.{level_of, set_of}
 use Rattle.machine.specs.LevelLaws.{level_low}
 use Rattle.machine.specs.Lines.{non_blank, lower, at_most, goal_line, rank_line, passes, passes_each, lines_validity}
+use Rattle.machine.specs.declared.Refusal.TheVariants.{FailingEntry}
 
 -- "entry 0 or smaller l", exactly if at most (l − 1) × m
 pub lower_is : (m l e : ℕ) → 0 < m → 0 < l → or (eqb e 0) (ltb (level_of m e) l) ≡ leb e ((l - 1) * m)
@@ -161,7 +162,7 @@ module _ (p : Pair) (T : List ℕ) where
       → ((j' : ℕ) → j' < j → every (n_c p) (λ c. every (n_a p) (passes p T j' c)) ≡ true)
       → ((c' : ℕ) → c' < c → every (n_a p) (passes p T j c') ≡ true)
       → ((a' : ℕ) → a' < a → passes p T j c a' ≡ true)
-      → lines_validity p T ≡ refused (refusal failing_entry (suc j) c a)
+      → lines_validity p T ≡ Err (FailingEntry (suc j) c a)
   unfolding lines_validity
   lines_fail j c a hj hc ha e bj bc ba =
       let row : every (n_a p) (passes p T j c) ≡ false = every_not _ _ a ha e in

@@ -1,5 +1,5 @@
 -- Laws of the search for a partner of least key: what it names, and what one turn of a walk does to the best state so far.
-use Rattle.std.specs.Prelude.{Bool, cond, ◌⊎◌, ◌≡◌, List, ltb, leb, length, get_or}
+use Rattle.std.specs.Prelude.{Bool, cond, ◌⊎◌, ◌≡◌, List, ltb, leb, length, get_or, None, Option, Some, ℕ}
 use Rattle.std.proofs.Math.Bool.{true, false}
 use Rattle.std.proofs.Math.Logic.{inl, inr, ⊎_elim, by_cases}
 use Rattle.std.proofs.Math.Path.{refl, sym, ap}
@@ -17,8 +17,6 @@ use Rattle.mask.specs.BitsLaws.{has_and, has_none, lowest_set, lowest_lt, lowest
 use Rattle.mask.specs.Bounded.{some, some_in}
 use Rattle.mask.specs.BoundedLaws.{some_of, some_none}
 use Rattle.mask.specs.WalkLaws.{rest_above, rest_has, rest_keeps, rest_small}
-use Rattle.machine.specs.declared.Partner.{Partner}
-use Rattle.machine.specs.declared.Partner.TheVariants.{State, Nobody}
 use Rattle.machine.specs.Step.{better, least, partner, alike, in_row, found, state_of}
 use Rattle.machine.specs.SingleStep.{Candidate, Best}
 
@@ -35,7 +33,7 @@ module _ (p : ℕ → Bool) (key : ℕ → ℕ) where
   unfolding least
   least_miss n e = rw (and_false_l _ e)
 
-  pub least_step : (n : ℕ) (best : Partner) → least n p key ≡ best → p n ≡ true → least (suc n) p key ≡ cond (better key n best) (State n) best
+  pub least_step : (n : ℕ) (best : (Option ℕ)) → least n p key ≡ best → p n ≡ true → least (suc n) p key ≡ cond (better key n best) (Some n) best
   unfolding least
   least_step n best e t = rw (e, and_true_l _ t)
 
@@ -47,10 +45,10 @@ module _ (p : ℕ → Bool) (key : ℕ → ℕ) where
       (λ d. least_miss j (b j (omega arith) (omega arith)) ∙ least_skip i j (omega arith) (λ k l q. b k l (omega arith)))
 
   abbrev Named : ℕ → Type 0
-  Named n = (a : ℕ) × (least n p key ≡ State a) × Least n p key a
+  Named n = (a : ℕ) × (least n p key ≡ Some a) × Least n p key a
 
   abbrev Unnamed : ℕ → Type 0
-  Unnamed n = (least n p key ≡ Nobody) × ((i : ℕ) → i < n → p i ≡ false)
+  Unnamed n = (least n p key ≡ None) × ((i : ℕ) → i < n → p i ≡ false)
 
   -- the next number takes the place of the least one, or leaves it
   least_take : (n a : ℕ) → Least n p key a → p n ≡ true → key n < key a → Least (suc n) p key n
@@ -85,25 +83,25 @@ module _ (p : ℕ → Bool) (key : ℕ → ℕ) where
     where
       hit : Named n ⊎ Unnamed n → p n ≡ true → Named (suc n) ⊎ Unnamed (suc n)
       hit (inl (a, e, l)) t =
-          ⊎_elim (λ u. inl (n, least_step n (State a) e t ∙ rw u, least_take n a l t (ltb-true _ _ u)))
-          (λ u. inl (a, least_step n (State a) e t ∙ rw u, least_keep n a l (λ v. ltb-false _ _ u)))
+          ⊎_elim (λ u. inl (n, least_step n (Some a) e t ∙ rw u, least_take n a l t (ltb-true _ _ u)))
+          (λ u. inl (a, least_step n (Some a) e t ∙ rw u, least_keep n a l (λ v. ltb-false _ _ u)))
           (dec (ltb (key n) (key a)))
-      hit (inr (e, b)) t = inl (n, least_step n Nobody e t, least_only n b t)
+      hit (inr (e, b)) t = inl (n, least_step n None e t, least_only n b t)
 
       miss : Named n ⊎ Unnamed n → p n ≡ false → Named (suc n) ⊎ Unnamed (suc n)
       miss (inl (a, e, l)) t = inl (a, least_miss n t ∙ e, least_keep n a l (λ v. absurd (clash t v)))
       miss (inr (e, b)) t = inr (least_miss n t ∙ e, below_suc n (λ i. p i ≡ false) b t)
 
   -- which number is named is told by what it is
-  pub least_is : (n a : ℕ) → Least n p key a → least n p key ≡ State a
-  least_is n a l = ⊎_elim (λ v. v.1 ∙ ap State (same v.0 v.2)) (λ v. absurd (clash (v.1 a l.below) l.passes)) (least_view n)
+  pub least_is : (n a : ℕ) → Least n p key a → least n p key ≡ Some a
+  least_is n a l = ⊎_elim (λ v. v.1 ∙ ap Some (same v.0 v.2)) (λ v. absurd (clash (v.1 a l.below) l.passes)) (least_view n)
     where
       same : (b : ℕ) → Least n p key b → b ≡ a
       same b m =
           by_cases (dec_lt a b) (λ q. absurd (omega (arith, m.first a q l.passes, l.keyed b m.below m.passes)))
           (λ q. by_cases (dec_lt b a) (λ r. absurd (omega (arith, l.first b r m.passes, m.keyed a l.below l.passes))) (λ r. omega arith))
 
-  pub least_none : (n : ℕ) → ((i : ℕ) → i < n → p i ≡ false) → least n p key ≡ Nobody
+  pub least_none : (n : ℕ) → ((i : ℕ) → i < n → p i ≡ false) → least n p key ≡ None
   least_none n b = ⊎_elim (λ v. absurd (clash (b v.0 v.2.below) v.2.passes)) (λ v. v.0) (least_view n)
 
   pub least_found : (n : ℕ) → found (least n p key) ≡ some n p
@@ -153,11 +151,11 @@ module _ (moves : ℕ) (S : ℕ → Bool) (key : ℕ → ℕ) where
     lowest = λ i h c. l.first i h (and_i c.moved c.inside);
   }
 
-  pub partner_is : (a : ℕ) → Best moves S key a → partner moves S key ≡ State a
+  pub partner_is : (a : ℕ) → Best moves S key a → partner moves S key ≡ Some a
   unfolding partner
   partner_is a b = least_is (candidate moves S) key 64 a (best_least a b)
 
-  pub partner_none : ((i : ℕ) → i < 64 → has_bit moves i ≡ true → S i ≡ false) → partner moves S key ≡ Nobody
+  pub partner_none : ((i : ℕ) → i < 64 → has_bit moves i ≡ true → S i ≡ false) → partner moves S key ≡ None
   unfolding partner
   partner_none h = least_none (candidate moves S) key 64 (λ i l. ⊎_elim (λ e. and_false_r _ (h i l e)) (λ e. and_false_l _ e) (dec (has_bit moves i)))
 
@@ -167,21 +165,21 @@ module _ (moves : ℕ) (S : ℕ → Bool) (key : ℕ → ℕ) where
   partner_found = least_found (candidate moves S) key 64
 
   -- either the best one is named, or no state of the moves is in the set
-  pub partner_view : ((a : ℕ) × (partner moves S key ≡ State a) × Best moves S key a) ⊎ ((partner moves S key ≡ Nobody) × (some_in 64 moves S ≡ false))
+  pub partner_view : ((a : ℕ) × (partner moves S key ≡ Some a) × Best moves S key a) ⊎ ((partner moves S key ≡ None) × (some_in 64 moves S ≡ false))
   unfolding partner some_in
   partner_view =
       ⊎_elim (λ v. inl (v.0, v.1, least_best v.0 v.2)) (λ v. inr (v.0, some_none 64 (candidate moves S) v.1)) (least_view (candidate moves S) key 64)
 
-  pub partner_at : (a : ℕ) → partner moves S key ≡ State a → Best moves S key a
+  pub partner_at : (a : ℕ) → partner moves S key ≡ Some a → Best moves S key a
   partner_at a e = ⊎_elim
       (λ v. let z : v.0 ≡ a = cc in subst (Best moves S key) z v.2)
       (λ v. let z : ◌≡◌ {A = ℕ} 0 1 = cc in absurd (omega arith)) partner_view
 
 -- a partner that there is has its number
-pub found_state : (b : Partner) → found b ≡ true → b ≡ State (state_of b)
-unfolding found state_of
-found_state (State a) t = refl
-found_state Nobody t = absurd (clash refl t)
+pub found_state : (b : (Option ℕ)) → found b ≡ true → b ≡ Some (state_of b)
+unfolding found
+found_state (Some a) t = refl
+found_state None t = absurd (clash refl t)
 
 -- the same candidates with the same keys have the same partner
 pub partner_same : (m n : ℕ) (S R : ℕ → Bool) (key rank : ℕ → ℕ) → ((i : ℕ) → i < 64 → candidate m S i ≡ candidate n R i)
@@ -198,7 +196,7 @@ module _ (moves row : ℕ) (h : moves < 2 ^ 64) where
   small : bit_and moves row < 2 ^ 64
   small = omega (arith, and_le_l moves row)
 
-  pub partner_lowest : (bit_and moves row ≡ 0 → ⊥) → partner moves (has_bit row) alike ≡ State (lowest_of 64 (bit_and moves row))
+  pub partner_lowest : (bit_and moves row ≡ 0 → ⊥) → partner moves (has_bit row) alike ≡ Some (lowest_of 64 (bit_and moves row))
   partner_lowest d =
       let m = bit_and moves row in
       let a = lowest_of 64 m in
@@ -210,7 +208,7 @@ module _ (moves row : ℕ) (h : moves < 2 ^ 64) where
         lowest = λ i l c. absurd (clash (lowest_least 64 m i l) (has_and i moves row ∙ and_i c.moved c.inside));
       })
 
-  pub partner_nobody : bit_and moves row ≡ 0 → partner moves (has_bit row) alike ≡ Nobody
+  pub partner_nobody : bit_and moves row ≡ 0 → partner moves (has_bit row) alike ≡ None
   partner_nobody e =
       partner_none moves (has_bit row) alike
       (λ i l t. refute (has_bit row i) (λ u. clash (has_none i) (ap (λ (m : ℕ). has_bit m i) (sym e) ∙ has_and i moves row ∙ and_i t u)))
@@ -251,7 +249,7 @@ module _ (moves matched : ℕ) (row : List ℕ) (bound : ℕ) where
 
 -- ---- a walk that keeps the best state so far
 -- what is left of the moves are the states from `upto` on, and the best is that of the states below
-pub record Passed (S : ℕ → Bool) (key : ℕ → ℕ) (moves m : ℕ) (best : Partner) : Type 0 where
+pub record Passed (S : ℕ → Bool) (key : ℕ → ℕ) (moves m : ℕ) (best : (Option ℕ)) : Type 0 where
   pub small : m < 2 ^ 64
   pub upto : ℕ
   pub upto_le : upto ≤ 64
@@ -259,7 +257,7 @@ pub record Passed (S : ℕ → Bool) (key : ℕ → ℕ) (moves m : ℕ) (best :
   pub left : (k : ℕ) → has_bit m k ≡ and (leb upto k) (has_bit moves k)
 
 module _ (S : ℕ → Bool) (key : ℕ → ℕ) (moves : ℕ) where
-  pub passed_start : moves < 2 ^ 64 → Passed S key moves moves Nobody
+  pub passed_start : moves < 2 ^ 64 → Passed S key moves moves None
   unfolding least
   passed_start h = record {
     small = h;
@@ -269,7 +267,7 @@ module _ (S : ℕ → Bool) (key : ℕ → ℕ) (moves : ℕ) where
     left = λ k. sym (and_true_l _ (le-leb 0 k zero-le));
   }
 
-  module _ (m : ℕ) (best : Partner) (a : ℕ) (p : 0 < m) (low : a ≡ lowest_of 64 m) (d : Passed S key moves m best) where
+  module _ (m : ℕ) (best : (Option ℕ)) (a : ℕ) (p : 0 < m) (low : a ≡ lowest_of 64 m) (d : Passed S key moves m best) where
     here : has_bit m a ≡ true
     here = ap (has_bit m) low ∙ lowest_set 64 m p d.small
 
@@ -289,7 +287,7 @@ module _ (S : ℕ → Bool) (key : ℕ → ℕ) (moves : ℕ) where
         (λ t. let l : suc a ≤ k = leb-true (suc a) k (and_l _ _ t) in
         rest_keeps 64 m p d.small k (d.left k ∙ and_i (le-leb d.upto k (omega (arith, above))) (and_r _ _ t)) (λ e. omega arith))
 
-    pub passed_turn : Passed S key moves (rest_of m) (cond (and (S a) (better key a best)) (State a) best)
+    pub passed_turn : Passed S key moves (rest_of m) (cond (and (S a) (better key a best)) (Some a) best)
     unfolding least
     passed_turn = record {
       small = rest_small 64 m p d.small;
@@ -299,7 +297,7 @@ module _ (S : ℕ → Bool) (key : ℕ → ℕ) (moves : ℕ) where
       left = rest_left;
     }
 
-  pub passed_done : (best : Partner) → Passed S key moves 0 best → best ≡ partner moves S key
+  pub passed_done : (best : (Option ℕ)) → Passed S key moves 0 best → best ≡ partner moves S key
   unfolding partner
   passed_done best d =
       d.best_is
@@ -308,21 +306,21 @@ module _ (S : ℕ → Bool) (key : ℕ → ℕ) (moves : ℕ) where
 
 -- ---- such a walk over a row of entries
 -- what an entry has to be below, to be taken in place of the best so far
-unfoldable pub limit_of : (ℕ → ℕ) → ℕ → Partner → ℕ
-limit_of key bound (State b) = key b
-limit_of key bound Nobody = bound + 1
+unfoldable pub limit_of : (ℕ → ℕ) → ℕ → Option ℕ → ℕ
+limit_of key bound (Some b) = key b
+limit_of key bound None = bound + 1
 
-pub better_in : (key : ℕ → ℕ) (bound : ℕ) (best : Partner) (a : ℕ) → key a < limit_of key bound best → better key a best ≡ true
+pub better_in : (key : ℕ → ℕ) (bound : ℕ) (best : (Option ℕ)) (a : ℕ) → key a < limit_of key bound best → better key a best ≡ true
 unfolding limit_of better
-better_in key bound (State b) a h = lt-ltb (key a) (key b) h
-better_in key bound Nobody a h = refl
+better_in key bound (Some b) a h = lt-ltb (key a) (key b) h
+better_in key bound None a h = refl
 
-pub better_out : (key : ℕ → ℕ) (bound : ℕ) (best : Partner) (a : ℕ) → limit_of key bound best ≤ key a → key a ≤ bound → better key a best ≡ false
+pub better_out : (key : ℕ → ℕ) (bound : ℕ) (best : (Option ℕ)) (a : ℕ) → limit_of key bound best ≤ key a → key a ≤ bound → better key a best ≡ false
 unfolding limit_of better
-better_out key bound (State b) a h k = le-ltb (key a) (key b) h
-better_out key bound Nobody a h k = absurd (omega arith)
+better_out key bound (Some b) a h k = le-ltb (key a) (key b) h
+better_out key bound None a h k = absurd (omega arith)
 
-pub record Walked (row : List ℕ) (bound moves m : ℕ) (best : Partner) (limit : ℕ) : Type 0 where
+pub record Walked (row : List ℕ) (bound moves m : ℕ) (best : (Option ℕ)) (limit : ℕ) : Type 0 where
   pub passed : Passed (within row bound) (λ a. get_or row a 0) moves m best
   pub limit_is : limit ≡ limit_of (λ a. get_or row a 0) bound best
   pub limit_le : limit ≤ bound + 1
@@ -331,15 +329,15 @@ module _ (row : List ℕ) (bound moves : ℕ) where
   abbrev Key : ℕ → ℕ
   Key a = get_or row a 0
 
-  pub walked_start : moves < 2 ^ 64 → Walked row bound moves moves Nobody (bound + 1)
+  pub walked_start : moves < 2 ^ 64 → Walked row bound moves moves None (bound + 1)
   unfolding limit_of
   walked_start h = record { passed = passed_start (within row bound) Key moves h; limit_is = refl; limit_le = omega arith }
 
-  pub walked_done : (best : Partner) (limit : ℕ) → Walked row bound moves 0 best limit → best ≡ partner moves (within row bound) Key
+  pub walked_done : (best : (Option ℕ)) (limit : ℕ) → Walked row bound moves 0 best limit → best ≡ partner moves (within row bound) Key
   walked_done best limit d = passed_done (within row bound) Key moves best d.passed
 
-  module _ (m : ℕ) (best : Partner) (limit a : ℕ) (p : 0 < m) (low : a ≡ lowest_of 64 m) (d : Walked row bound moves m best limit) where
-    pub walked_take : a < length row → Key a < limit → Walked row bound moves (rest_of m) (State a) (Key a)
+  module _ (m : ℕ) (best : (Option ℕ)) (limit a : ℕ) (p : 0 < m) (low : a ≡ lowest_of 64 m) (d : Walked row bound moves m best limit) where
+    pub walked_take : a < length row → Key a < limit → Walked row bound moves (rest_of m) (Some a) (Key a)
     unfolding limit_of
     walked_take h k =
         let t : and (within row bound a) (better Key a best) ≡ true =

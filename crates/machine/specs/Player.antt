@@ -1,18 +1,19 @@
 -- Document 01, "Player", with the single step of document 02, No. 10, and refusals 13 to 16.
-use Rattle.std.specs.Prelude.{Bool, cond, List, ℕ, zero, suc, ◌+◌, ◌-◌, ◌*◌, length, get_or, eqb, ltb, leb}
+use Rattle.std.specs.Prelude.{Bool, cond, List, ℕ, zero, suc, ◌+◌, ◌-◌, ◌*◌, length, get_or, eqb, ltb, leb, Err, Ok, Option}
 use Rattle.mask.specs.Logic.{not, and, or}
 use Rattle.mask.specs.Bounded.{some, first}
 use Rattle.mask.specs.Tables.{table}
 use Rattle.machine.specs.declared.Machine.{Machine}
 use Rattle.machine.specs.declared.Pair.{Pair}
-use Rattle.machine.specs.declared.Partner.{Partner}
-use Rattle.machine.specs.Refusals.{Result, Tested, answer, valid, refused, refusal, and_then, buffer_validity, buffer_after, bad_lasso_length, bad_lasso_step, unfair_lasso, no_start_partner}
+use Rattle.machine.specs.declared.Run.{Run}
+use Rattle.machine.specs.Refusals.{Tested, valid, and_then, buffer_validity, buffer_after, Answer}
 use Rattle.machine.specs.Machines.{successors, moves, starts, in_fair_set, next, sets_a}
 use Rattle.machine.specs.WellFormed.{pair_validity}
 use Rattle.machine.specs.Lassos.{Lasso, lasso_length, moment}
 use Rattle.machine.specs.Step.{partner, single_step, found, state_of}
 use Rattle.machine.specs.Table.{table_room, entry}
 use Rattle.machine.specs.Lines.{non_blank, lines_validity}
+use Rattle.machine.specs.declared.Refusal.TheVariants.{BadLassoLength, BadLassoStep, NoStartPartner, UnfairLasso}
 
 -- 13: "empty loop, or over 64 states"
 unfoldable pub has_bad_length : Lasso → Bool
@@ -35,9 +36,9 @@ unfoldable pub lasso_validity : Machine → Lasso → Tested
 lasso_validity m l =
     let i = first (lasso_length l) (bad_step m l) in
     let k = first m.sets (missed_set m l) in
-    cond (has_bad_length l) (refused (refusal bad_lasso_length 0 0 0))
-    (cond (ltb i (lasso_length l)) (refused (refusal bad_lasso_step i 0 0))
-    (cond (ltb k m.sets) (refused (refusal unfair_lasso (suc k) 0 0)) valid))
+    cond (has_bad_length l) (Err BadLassoLength)
+    (cond (ltb i (lasso_length l)) (Err (BadLassoStep i))
+    (cond (ltb k m.sets) (Err (UnfairLasso (suc k))) valid))
 
 -- the abstract state a and the section j
 pub record Place : Type 0 where
@@ -46,12 +47,12 @@ pub record Place : Type 0 where
 
 module _ (p : Pair) (T : List ℕ) where
   -- "the start state of least entry in section 1"; "Ties go to the lowest number." Document 02, No. 10: "the first state is chosen as before"
-  unfoldable pub start_partner : ℕ → Partner
+  unfoldable pub start_partner : ℕ → Option ℕ
   start_partner c = partner p.abstraction.start (non_blank p T 0 c) (entry p T 0 c)
 
   -- 16: "first state has no non-blank start partner"
   unfoldable pub start_validity : Lasso → Tested
-  start_validity l = cond (found (start_partner (moment l 0))) valid (refused (refusal no_start_partner 0 0 0))
+  start_validity l = cond (found (start_partner (moment l 0))) valid (Err NoStartPartner)
 
   -- "If the pair's entry is 0, j becomes the next section."
   unfoldable pub section_after : ℕ → Place → ℕ
@@ -59,7 +60,7 @@ module _ (p : Pair) (T : List ℕ) where
 
   -- "The next a' is the successor of a with the least entry in section j beside c'." Document 02, No. 10: of these a itself if it is among them,
   -- else the lowest number
-  unfoldable pub follow : ℕ → Place → ℕ → Partner
+  unfoldable pub follow : ℕ → Place → ℕ → Option ℕ
   follow j at d = single_step at.state (successors p.abstraction at.state) (non_blank p T j d) (entry p T j d)
 
   unfoldable pub step_to : ℕ → Place → ℕ → Place
@@ -104,13 +105,13 @@ module _ (p : Pair) (T : List ℕ) where
   play_validity l =
       and_then (pair_validity p) (and_then (lines_validity p T) (and_then (lasso_validity p.concrete l) (start_validity l)))
 
--- what the player can say of a lasso that it takes: stem length and loop length of the run
-pub data Played : Type 0 where
-  played : ℕ → ℕ → Played
+-- what the player says of a lasso that it takes: stem length and loop length of the run
+abbrev pub run_lengths : Pair → List ℕ → Lasso → Run
+run_lengths p T l = record { stem = stem_length p T l; cycle = loop_length p T l }
 
 -- the player's answer where its buffers are long enough
-unfoldable pub play_answer : Pair → List ℕ → Lasso → Result Played
-play_answer p T l = and_then (play_validity p T l) (answer (played (stem_length p T l) (loop_length p T l)))
+unfoldable pub play_answer : Pair → List ℕ → Lasso → Answer Run
+play_answer p T l = and_then (play_validity p T l) (Ok (run_lengths p T l))
 
 -- "a lent buffer of 28,672 bytes"
 abbrev pub run_room : ℕ
@@ -122,8 +123,8 @@ all_validity p T l buffer =
     and_then (buffer_validity table_room (length T)) (and_then (buffer_validity run_room (length buffer)) (play_validity p T l))
 
 -- the player's whole answer
-unfoldable pub player_answer : Pair → List ℕ → Lasso → List ℕ → Result Played
-player_answer p T l buffer = and_then (all_validity p T l buffer) (answer (played (stem_length p T l) (loop_length p T l)))
+unfoldable pub player_answer : Pair → List ℕ → Lasso → List ℕ → Answer Run
+player_answer p T l buffer = and_then (all_validity p T l buffer) (Ok (run_lengths p T l))
 
 -- and the buffer's final content: "buffer bytes past the run are unchanged"
 unfoldable pub player_buffer : Pair → List ℕ → Lasso → List ℕ → List ℕ

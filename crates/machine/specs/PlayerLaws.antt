@@ -1,6 +1,6 @@
 -- Laws of the player's tests: refusals 13 to 15, as code asks for their parts, and which test of document 01's order tells what is said.
 use Rattle.std.proofs.Math.Bool as B
-use Rattle.std.specs.Prelude.{Bool, true, false, cond, List, ◌≡◌, ℕ, suc, ◌+◌, ◌-◌, ◌≤◌, ◌<◌, eqb, ltb}
+use Rattle.std.specs.Prelude.{Bool, true, false, cond, List, ◌≡◌, ℕ, suc, ◌+◌, ◌-◌, ◌≤◌, ◌<◌, eqb, ltb, Err, None, Some}
 use Rattle.std.proofs.Math.Path.{sym}
 use Rattle.std.proofs.Common.{ap, ◌∙◌, add-one}
 use native.Mathlib.Omega.{arith}
@@ -11,9 +11,8 @@ use Rattle.mask.specs.LogicLaws.{cond_cases, or_l, or_r, or_false_l, or_none, no
 use Rattle.mask.specs.Bounded.{first}
 use Rattle.machine.specs.declared.Machine.{Machine}
 use Rattle.machine.specs.declared.Pair.{Pair}
-use Rattle.machine.specs.declared.Partner.TheVariants.{State, Nobody}
 use Rattle.machine.specs.declared.Refusal.{Refusal}
-use Rattle.machine.specs.Refusals.{and_then, valid, refused, refusal, bad_lasso_length, bad_lasso_step, unfair_lasso, no_start_partner}
+use Rattle.machine.specs.Refusals.{and_then, valid}
 use Rattle.machine.specs.RefusalsLaws.{then_of, then_refused, valid_next}
 use Rattle.machine.specs.Machines.{moves, starts, next, sets_a}
 use Rattle.machine.specs.WellFormed.{pair_validity}
@@ -24,6 +23,7 @@ use Rattle.machine.specs.SingleStepLaws.{single_none}
 use Rattle.machine.specs.Table.{entry}
 use Rattle.machine.specs.Lines.{non_blank, lines_validity}
 use Rattle.machine.specs.Player.{has_bad_length, bad_step, missed_set, lasso_validity, Place, start_partner, start_validity, section_after, play_validity}
+use Rattle.machine.specs.declared.Refusal.TheVariants.{BadLassoLength, BadLassoStep, NoStartPartner, UnfairLasso}
 
 -- ---- 13
 module _ (l : Lasso) where
@@ -102,18 +102,18 @@ module _ (m : Machine) (l : Lasso) (i : ℕ) where
 
 -- ---- 13 to 15 together, each after all that is tested before it
 module _ (m : Machine) (l : Lasso) where
-  pub refused_length : has_bad_length l ≡ true → lasso_validity m l ≡ refused (refusal bad_lasso_length 0 0 0)
+  pub refused_length : has_bad_length l ≡ true → lasso_validity m l ≡ Err BadLassoLength
   unfolding lasso_validity
   refused_length e = rw e
 
   -- i is the first wrong position, and k the first missed set
   module _ (fit : has_bad_length l ≡ false) (i : ℕ) (position : i ≡ first (lasso_length l) (bad_step m l)) where
-    pub refused_step : i < lasso_length l → lasso_validity m l ≡ refused (refusal bad_lasso_step i 0 0)
+    pub refused_step : i < lasso_length l → lasso_validity m l ≡ Err (BadLassoStep i)
     unfolding lasso_validity
     refused_step h = rw (fit, ← position, lt-ltb i (lasso_length l) h)
 
     module _ (past : lasso_length l ≤ i) (k : ℕ) (set : k ≡ first m.sets (missed_set m l)) where
-      pub refused_set : k < m.sets → lasso_validity m l ≡ refused (refusal unfair_lasso (k + 1) 0 0)
+      pub refused_set : k < m.sets → lasso_validity m l ≡ Err (UnfairLasso (k + 1))
       unfolding lasso_validity
       refused_set h = rw (fit, ← position, le-ltb i (lasso_length l) past, ← set, lt-ltb k m.sets h, add-one)
 
@@ -142,12 +142,12 @@ module _ (p : Pair) (T : List ℕ) where
 
   -- ---- 5, 9 to 16: which test tells what is said
   module _ (l : Lasso) where
-    pub play_ill : (r : Refusal) → pair_validity p ≡ refused r → play_validity p T l ≡ refused r
+    pub play_ill : (r : Refusal) → pair_validity p ≡ Err r → play_validity p T l ≡ Err r
     unfolding play_validity
     play_ill r e = then_refused _ _ r e
 
     module _ (v : pair_validity p ≡ valid) where
-      pub play_fails : (r : Refusal) → lines_validity p T ≡ refused r → play_validity p T l ≡ refused r
+      pub play_fails : (r : Refusal) → lines_validity p T ≡ Err r → play_validity p T l ≡ Err r
       unfolding play_validity
       play_fails r e = then_of _ _ v ∙ then_refused _ _ r e
 
@@ -156,14 +156,14 @@ module _ (p : Pair) (T : List ℕ) where
         unfolding play_validity
         left = then_of _ _ v ∙ then_of _ _ t
 
-        pub play_unfit : (r : Refusal) → lasso_validity p.concrete l ≡ refused r → play_validity p T l ≡ refused r
+        pub play_unfit : (r : Refusal) → lasso_validity p.concrete l ≡ Err r → play_validity p T l ≡ Err r
         play_unfit r e = left ∙ then_refused _ _ r e
 
         module _ (f : lasso_validity p.concrete l ≡ valid) where
-          pub play_alone : start_partner p T (moment l 0) ≡ Nobody → play_validity p T l ≡ refused (refusal no_start_partner 0 0 0)
+          pub play_alone : start_partner p T (moment l 0) ≡ None → play_validity p T l ≡ Err NoStartPartner
           unfolding start_validity found
           play_alone e = left ∙ then_of _ _ f ∙ rw e
 
-          pub play_valid : (a : ℕ) → start_partner p T (moment l 0) ≡ State a → play_validity p T l ≡ valid
+          pub play_valid : (a : ℕ) → start_partner p T (moment l 0) ≡ Some a → play_validity p T l ≡ valid
           unfolding start_validity found
           play_valid a e = left ∙ then_of _ _ f ∙ rw e

@@ -1,7 +1,6 @@
 -- What document 02, No. 10, asks of the single step: which state is the chosen one, and what it is to name that. SingleStepLaws.antt proves that it does.
-use Rattle.std.specs.Prelude.{Bool, true, ◌↔◌, ◌≡◌, ℕ, ◌^◌, ◌≤◌, ◌<◌}
+use Rattle.std.specs.Prelude.{Bool, true, ◌↔◌, ◌≡◌, ℕ, ◌^◌, ◌≤◌, ◌<◌, None, Some}
 use Rattle.mask.specs.Bits.{has_bit}
-use Rattle.machine.specs.declared.Partner.TheVariants.{State, Nobody}
 use Rattle.machine.specs.Step.{single_step, found}
 
 -- a state of the moves that is in the set
@@ -25,9 +24,9 @@ pub record Chosen (present moves : ℕ) (S : ℕ → Bool) (entries : ℕ → �
 
 -- the single step "shall name the chosen partner, or none exactly if there is none"; of moves of w bits it names a number below w
 pub record Names (present moves : ℕ) (S : ℕ → Bool) (entries : ℕ → ℕ) : Type 0 where
-  pub chosen : (a : ℕ) → (single_step present moves S entries ≡ State a) ↔ Chosen present moves S entries a
-  pub nobody : (single_step present moves S entries ≡ Nobody) ↔ ((i : ℕ) → Candidate moves S i → ⊥)
-  pub width : (w : ℕ) → w ≤ 64 → moves < 2 ^ w → (a : ℕ) → single_step present moves S entries ≡ State a → a < w
+  pub chosen : (a : ℕ) → (single_step present moves S entries ≡ Some a) ↔ Chosen present moves S entries a
+  pub nobody : (single_step present moves S entries ≡ None) ↔ ((i : ℕ) → Candidate moves S i → ⊥)
+  pub width : (w : ℕ) → w ≤ 64 → moves < 2 ^ w → (a : ℕ) → single_step present moves S entries ≡ Some a → a < w
 
 -- for any mask, any set and any entries
 abbrev pub NamesChosen : Type 0

@@ -1,6 +1,6 @@
 -- The single step names the chosen partner: keys of different entries are ordered as the entries are, and of equal entries the present state has the
 -- lower key.
-use Rattle.std.specs.Prelude.{Bool, true, false, List, ◌≡◌, refl, ℕ, ◌+◌, ◌*◌, ◌^◌, ◌≤◌, ◌<◌}
+use Rattle.std.specs.Prelude.{Bool, true, false, List, ◌≡◌, refl, ℕ, ◌+◌, ◌*◌, ◌^◌, ◌≤◌, ◌<◌, None, Some}
 use Rattle.std.proofs.Common.{⊎_elim, sym, ◌∙◌, arith, eq-eqb, ne_eqb}
 use Rattle.std.proofs.Math.Logic.{by_cases}
 use Rattle.std.proofs.Math.Path.{ap}
@@ -11,7 +11,6 @@ use Rattle.mask.specs.Bits.{has_bit, lowest_of}
 use Rattle.mask.specs.BitsLaws.{has_lt, has_and}
 use Rattle.mask.specs.Bounded.{some_in}
 use Rattle.mask.specs.BoundedLaws.{some_in_of}
-use Rattle.machine.specs.declared.Partner.TheVariants.{State, Nobody}
 use Rattle.machine.specs.Step.{partner, staying, single_step, alike, in_row, found, state_of}
 use Rattle.machine.specs.PartnerLaws.{partner_is, partner_none, partner_found, partner_view, partner_at, found_state, partner_below, partner_lowest, partner_nobody, within, found_row}
 use Rattle.machine.specs.SingleStep.{Candidate, Best, Chosen, Names, NamesChosen, FoundAnywhere}
@@ -78,10 +77,10 @@ module _ (present : ℕ) (entries : ℕ → ℕ) where
     }
 
     -- ---- the present state is named if it is a candidate and none is better, else the lowest state b of least entry
-    pub single_stays : Candidate moves S present → ((i : ℕ) → Candidate moves S i → entries present ≤ entries i) → single_step present moves S entries ≡ State present
+    pub single_stays : Candidate moves S present → ((i : ℕ) → Candidate moves S i → entries present ≤ entries i) → single_step present moves S entries ≡ Some present
     single_stays here least = (names.chosen present).1 (record { candidate = here; least = least; stays = λ c k. refl; lowest = λ n. absurd (n refl) })
 
-    pub single_leaves : (b : ℕ) → Best moves S entries b → (Candidate moves S present → entries b < entries present) → single_step present moves S entries ≡ State b
+    pub single_leaves : (b : ℕ) → Best moves S entries b → (Candidate moves S present → entries b < entries present) → single_step present moves S entries ≡ Some b
     single_leaves b best worse = (names.chosen b).1 (record {
       candidate = best.candidate;
       least = best.least;
@@ -89,7 +88,7 @@ module _ (present : ℕ) (entries : ℕ → ℕ) where
       lowest = λ n. best.lowest;
     })
 
-    pub single_nobody : partner moves S entries ≡ Nobody → single_step present moves S entries ≡ Nobody
+    pub single_nobody : partner moves S entries ≡ None → single_step present moves S entries ≡ None
     unfolding found
     single_nobody e = names.nobody.1 (λ i c. clash (sym (partner_found moves S entries) ∙ ap found e) (some_in_of 64 moves S i c.below c.moved c.inside))
 
@@ -121,16 +120,16 @@ single_below present moves n S R entries others moved set same =
 
 -- ---- a set that is a mask
 module _ (present moves row : ℕ) (h : moves < 2 ^ 64) where
-  pub mask_stays : has_bit (bit_and moves row) present ≡ true → single_step present moves (has_bit row) alike ≡ State present
+  pub mask_stays : has_bit (bit_and moves row) present ≡ true → single_step present moves (has_bit row) alike ≡ Some present
   mask_stays t =
       let bits = sym (has_and present moves row) ∙ t in
       single_stays present alike moves (has_bit row)
       (record { below = has_lt 64 moves present h (and_l _ _ bits); moved = and_l _ _ bits; inside = and_r _ _ bits }) (λ i c. omega arith)
 
-  pub mask_nobody : bit_and moves row ≡ 0 → single_step present moves (has_bit row) alike ≡ Nobody
+  pub mask_nobody : bit_and moves row ≡ 0 → single_step present moves (has_bit row) alike ≡ None
   mask_nobody e = single_nobody present alike moves (has_bit row) (partner_nobody moves row h e)
 
-  pub mask_lowest : (bit_and moves row ≡ 0 → ⊥) → has_bit (bit_and moves row) present ≡ false → single_step present moves (has_bit row) alike ≡ State (lowest_of 64 (bit_and moves row))
+  pub mask_lowest : (bit_and moves row ≡ 0 → ⊥) → has_bit (bit_and moves row) present ≡ false → single_step present moves (has_bit row) alike ≡ Some (lowest_of 64 (bit_and moves row))
   mask_lowest d t = single_away present alike moves (has_bit row) (λ c. clash t (has_and present moves row ∙ and_i c.moved c.inside)) ∙ partner_lowest moves row h d
 
 -- ---- a set that is given by its entries and a bound

@@ -1,11 +1,12 @@
 -- Document 01: "Well formed means not stopped by refusals 5 and 9 to 11." Document 02, No. 7: 21 behind them, for the calls that take no empty
 -- set. Any content of a machine has an answer.
-use Rattle.std.specs.Prelude.{Bool, true, false, cond, List, ℕ, suc, get_or, eqb, ltb, leb}
+use Rattle.std.specs.Prelude.{Bool, true, false, cond, List, ℕ, suc, get_or, eqb, ltb, leb, Err, Ok}
 use Rattle.mask.specs.Logic.{not, and, or}
 use Rattle.mask.specs.Bounded.{some, first, some_in}
 use Rattle.machine.specs.declared.Machine.{Machine}
 use Rattle.machine.specs.declared.Pair.{Pair}
-use Rattle.machine.specs.Refusals.{Tested, valid, answer, refused, refusal, and_then, bad_counts, beyond_counts, no_start, no_successor, empty_set}
+use Rattle.machine.specs.Refusals.{Tested, valid, and_then}
+use Rattle.machine.specs.declared.Refusal.TheVariants.{BadCounts, BeyondCounts, EmptySet, NoStart, NoSuccessor}
 
 -- 5: "1 to 64" states; "1 to 8 fairness sets for a rig, 1 to 7 for a score"
 unfoldable pub counts_ok : ℕ → ℕ → ℕ → Bool
@@ -46,9 +47,9 @@ lowest_empty_set sets fairness = first_empty 8 sets fairness
 unfoldable pub content_validity : ℕ → Machine → Tested
 content_validity i m =
     let s = stuck_state m.states m.successors in
-    cond (is_beyond_counts m) (refused (refusal beyond_counts i 0 0))
-    (cond (eqb m.start 0) (refused (refusal no_start i 0 0))
-    (cond (ltb s 64) (refused (refusal no_successor i s 0)) valid))
+    cond (is_beyond_counts m) (Err (BeyondCounts i))
+    (cond (eqb m.start 0) (Err (NoStart i))
+    (cond (ltb s 64) (Err (NoSuccessor i s)) valid))
 
 -- a machine has an empty set
 unfoldable pub has_empty_set : Machine → Bool
@@ -56,7 +57,7 @@ has_empty_set m = ltb (lowest_empty_set m.sets m.fairness) 8
 
 -- 21 of machine number i: "a set without a state, the spot being machine and set from 1"
 unfoldable pub sets_validity : ℕ → Machine → Tested
-sets_validity i m = cond (has_empty_set m) (refused (refusal empty_set i (suc (lowest_empty_set m.sets m.fairness)) 0)) valid
+sets_validity i m = cond (has_empty_set m) (Err (EmptySet i (suc (lowest_empty_set m.sets m.fairness)))) valid
 
 -- all that is tested of the content of machine number i: 9, 10 and 11, and 21 "after 11 of the same machine" where its sets shall be nonempty
 unfoldable pub content_tests : Bool → ℕ → Machine → Tested
@@ -65,7 +66,7 @@ content_tests false i m = content_validity i m
 
 -- one machine with at most `limit` sets: "A later call on one machine takes 1 to 8 sets unless its kind is said, and has it as machine 0"
 unfoldable pub machine_validity : ℕ → Machine → Tested
-machine_validity limit m = cond (counts_ok limit m.states m.sets) (content_validity 0 m) (refused (refusal bad_counts 0 0 0))
+machine_validity limit m = cond (counts_ok limit m.states m.sets) (content_validity 0 m) (Err BadCounts)
 
 -- both machines: the counts first, and then "the rig goes through all .. before the score"
 unfoldable pub pair_tests : Bool → Pair → Tested
@@ -73,7 +74,7 @@ pair_tests nonempty p =
     let C = p.concrete in
     let A = p.abstraction in
     cond (and (counts_ok 8 C.states C.sets) (counts_ok 7 A.states A.sets)) (and_then (content_tests nonempty 0 C) (content_tests nonempty 1 A))
-    (refused (refusal bad_counts 0 0 0))
+    (Err BadCounts)
 
 -- 5 and 9 to 11: "For 9 to 11 the rig goes through all three before the score."
 abbrev pub pair_validity : Pair → Tested
@@ -84,8 +85,8 @@ abbrev pub nonempty_validity : Pair → Tested
 nonempty_validity p = pair_tests true p
 
 unfoldable pub is_valid : Tested → Bool
-is_valid (answer t) = true
-is_valid (refused r) = false
+is_valid (Ok t) = true
+is_valid (Err r) = false
 
 -- "Well formed means not stopped by refusals 5 and 9 to 11."
 unfoldable pub well_formed : Pair → Bool

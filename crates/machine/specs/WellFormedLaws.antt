@@ -1,5 +1,5 @@
 -- What a well-formed machine and a well-formed pair give, and what makes one.
-use Rattle.std.specs.Prelude.{Bool, true, false, ◌≡◌, ℕ, ◌+◌, ◌*◌, ◌≤◌, ◌<◌, ◌^◌, eqb, leb, ltb}
+use Rattle.std.specs.Prelude.{Bool, true, false, ◌≡◌, ℕ, ◌+◌, ◌*◌, ◌≤◌, ◌<◌, ◌^◌, eqb, leb, ltb, Err, Ok}
 use Rattle.std.proofs.Math.Logic.{by_cases}
 use Rattle.std.proofs.Math.Path.{refl}
 use Rattle.std.proofs.Common.{sym, ◌∙◌, le_trans, mul-le-mul_right, mul-le-mul_left, mul-pos, arith}
@@ -13,18 +13,19 @@ use Rattle.mask.specs.BoundedLaws.{none_at, some_in_of, some_in_at}
 use Rattle.machine.specs.declared.Machine.{Machine}
 use Rattle.machine.specs.declared.Pair.{Pair}
 use Rattle.machine.specs.declared.Refusal.{Refusal}
-use Rattle.machine.specs.Refusals.{Tested, valid, answer, refused, refusal, bad_counts, beyond_counts, no_start, no_successor, and_then}
+use Rattle.machine.specs.Refusals.{Tested, valid, number_of, and_then}
 use Rattle.machine.specs.RefusalsLaws.{valid_next, valid_if, then_answer, then_of, then_refused, RefusesOnly, refuses_none, refuses_at, refuses_cond, refuses_then}
 use Rattle.machine.specs.Machines.{observation, successors, moves, starts, fair_set, in_fair_set, n_c, n_a, sets_c, sets_a, pairs}
 use Rattle.machine.specs.Table.{table_room}
 use Rattle.machine.specs.WellFormed.{counts_ok, beyond, state_beyond, set_beyond, is_beyond_counts, stuck_state, content_validity, sets_validity, content_tests, machine_validity, pair_tests, pair_validity, is_valid, well_formed}
 use Rattle.machine.specs.FirstEmptyLaws.{none_is_empty}
+use Rattle.machine.specs.declared.Refusal.TheVariants.{BadCounts, BeyondCounts, NoStart, NoSuccessor}
 
 -- ---- validity
 pub is_valid_lem : (v : Tested) → is_valid v ≡ true → v ≡ valid
 unfolding is_valid
-is_valid_lem (answer u) t = refl
-is_valid_lem (refused r) t = absurd (clash refl t)
+is_valid_lem (Ok u) t = refl
+is_valid_lem (Err r) t = absurd (clash refl t)
 
 pub valid_is : (v : Tested) → v ≡ valid → is_valid v ≡ true
 unfolding is_valid
@@ -32,11 +33,11 @@ valid_is v e = rw e
 
 -- ---- a pair, test by test
 module _ (nonempty : Bool) (p : Pair) where
-  pub bad_concrete_counts : counts_ok 8 p.concrete.states p.concrete.sets ≡ false → pair_tests nonempty p ≡ refused (refusal bad_counts 0 0 0)
+  pub bad_concrete_counts : counts_ok 8 p.concrete.states p.concrete.sets ≡ false → pair_tests nonempty p ≡ Err BadCounts
   unfolding pair_tests
   bad_concrete_counts h = rw (and_false_l _ h)
 
-  pub bad_abstract_counts : counts_ok 7 p.abstraction.states p.abstraction.sets ≡ false → pair_tests nonempty p ≡ refused (refusal bad_counts 0 0 0)
+  pub bad_abstract_counts : counts_ok 7 p.abstraction.states p.abstraction.sets ≡ false → pair_tests nonempty p ≡ Err BadCounts
   unfolding pair_tests
   bad_abstract_counts h = rw (and_false_r _ h)
 
@@ -45,7 +46,7 @@ module _ (nonempty : Bool) (p : Pair) where
     unfolding pair_tests
     contents = rw (and_i c a)
 
-    pub bad_concrete : (r : Refusal) → content_tests nonempty 0 p.concrete ≡ refused r → pair_tests nonempty p ≡ refused r
+    pub bad_concrete : (r : Refusal) → content_tests nonempty 0 p.concrete ≡ Err r → pair_tests nonempty p ≡ Err r
     bad_concrete r e = contents ∙ then_refused _ _ r e
 
     pub good_concrete : content_tests nonempty 0 p.concrete ≡ valid → pair_tests nonempty p ≡ content_tests nonempty 1 p.abstraction
@@ -253,16 +254,16 @@ pub section_fits : (p : Pair) → WellPair p → (j : ℕ) → j < sets_a p → 
 section_fits p w j h = omega (arith, mul-le-mul_right (pairs p) h, entries_small p w)
 
 -- ---- the refusals of a pair: 5 where the counts are wrong, and 9 to 11
-module _ (F : Refusal → Type 0) (late : (number x y z : ℕ) → 9 ≤ number → number ≤ 11 → F (refusal number x y z)) where
+module _ (F : Refusal → Type 0) (late : (r : Refusal) → 9 ≤ number_of r → number_of r ≤ 11 → F r) where
   content_refuses : (i : ℕ) (m : Machine) → RefusesOnly F (content_validity i m)
   unfolding content_validity
   content_refuses i m =
       let s = stuck_state m.states m.successors in
-      refuses_cond F (is_beyond_counts m) _ _ (λ t. refuses_at F _ (late beyond_counts i 0 0 (omega arith) (omega arith)))
-      (λ t. refuses_cond F (eqb m.start 0) _ _ (λ u. refuses_at F _ (late no_start i 0 0 (omega arith) (omega arith)))
-      (λ u. refuses_cond F (ltb s 64) _ _ (λ x. refuses_at F _ (late no_successor i s 0 (omega arith) (omega arith))) (λ x. refuses_none F)))
+      refuses_cond F (is_beyond_counts m) _ _ (λ t. refuses_at F _ (late (BeyondCounts i) (omega arith) (omega arith)))
+      (λ t. refuses_cond F (eqb m.start 0) _ _ (λ u. refuses_at F _ (late (NoStart i) (omega arith) (omega arith)))
+      (λ u. refuses_cond F (ltb s 64) _ _ (λ x. refuses_at F _ (late (NoSuccessor i s) (omega arith) (omega arith))) (λ x. refuses_none F)))
 
-  pub pair_refuses : (p : Pair) → (and (counts_ok 8 (n_c p) (sets_c p)) (counts_ok 7 (n_a p) (sets_a p)) ≡ false → F (refusal bad_counts 0 0 0)) → RefusesOnly F (pair_validity p)
+  pub pair_refuses : (p : Pair) → (and (counts_ok 8 (n_c p) (sets_c p)) (counts_ok 7 (n_a p) (sets_a p)) ≡ false → F BadCounts) → RefusesOnly F (pair_validity p)
   unfolding pair_tests content_tests
   pair_refuses p wrong =
       refuses_cond F (and (counts_ok 8 (n_c p) (sets_c p)) (counts_ok 7 (n_a p) (sets_a p))) _ _

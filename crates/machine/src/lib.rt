@@ -6,7 +6,7 @@ ghost use Rattle.std.specs.Prelude.{◌≡◌, ℕ, get_or};
 ghost use Rattle.std.proofs.lemmas.List.Edits.{sets};
 ghost use Rattle.mask.specs.Bits.{has_bit};
 ghost use Rattle.machine.specs.Machines.{same_observation, next};
-ghost use Rattle.machine.specs.Refusals.{number_of, spot_of, four_numbers};
+ghost use Rattle.machine.specs.Refusals.{number_of, spot_of, four_numbers, answer_in, spot_after};
 ghost use Rattle.machine.specs.Step.{partner, present_of, single_step, found, alike, in_row};
 ghost use Rattle.machine.specs.Observed.{same_mask, matched_masks};
 ghost use Rattle.machine.specs.Table.{place_of};
@@ -36,6 +36,9 @@ pub const TABLE_ROOM: usize = 28672;
 
 // The entry of a pair that is not covered.
 pub const BLANK: u16 = 65535;
+
+// What C is told of a file without a table, where other numbers are refusals'.
+pub const NO_TABLE: u32 = 101;
 
 // Where a call was stopped: the condition of document 01's table, or one that document 02 adds, with what tells its spot. Sections and sets are
 // counted from 1, machines, states, blocks and positions from 0.
@@ -69,6 +72,13 @@ pub enum Verdict {
     Carried { covered: usize },
     // the lowest concrete start state without a partner too
     NotCarried { lacking: usize, covered: usize },
+}
+
+// What the check says of such a table, and whether a set of the concrete machine is empty, so that no play of it is fair.
+#[derive(Clone, Copy, Debug, PartialEq, Eq)]
+pub struct Checked {
+    pub verdict: Verdict,
+    pub empty_set: bool,
 }
 
 // The lengths of stem and loop of a run that the player wrote.
@@ -122,7 +132,16 @@ impl Refusal {
             Refusal::UnfairLasso { set } => [set, 0, 0],
             Refusal::Misplaced { block, found } => [block, found, 0],
             Refusal::EmptySet { machine, set } => [machine, set, 0],
-            _ => [0, 0, 0],
+            Refusal::ShortBuffer
+            | Refusal::BadLength
+            | Refusal::BadFirstBlock
+            | Refusal::BadHeader
+            | Refusal::BadCounts
+            | Refusal::WrongLength
+            | Refusal::BadPadding
+            | Refusal::BadLassoLength
+            | Refusal::NoStartPartner
+            | Refusal::OutOfRange => [0, 0, 0],
         }
     }
 }
@@ -138,6 +157,20 @@ pub fn put_refusal(spot: &mut [u64; 4], r: Refusal)
     spot[3] = place[2] as u64;
 }
 
+// The answer, for a call from C, if there is one: the four numbers of a refusal go to `spot`, which is unchanged beside an answer.
+pub fn told<T>(said: Result<T, Refusal>, spot: &mut [u64; 4]) -> Option<T>
+    ensures value { result ≡ answer_in said }
+    ensures numbers { spot.new ≡ spot_after said spot.old }
+{
+    match said {
+        Ok(answer) => Some(answer),
+        Err(refusal) => {
+            put_refusal(spot, refusal);
+            None
+        }
+    }
+}
+
 // ---- Matched pairs
 
 // Whether two observations are the same in the bits that are not hidden.
@@ -151,9 +184,8 @@ pub fn same_observation(hidden: u8, x: u8, y: u8) -> bool
 fn same_mask(hidden: u8, o: u8, n: usize, observations: &[u8; 64]) -> u64
     ensures { result ≡ same_mask hidden o n observations.now }
 {
-    let end = if n < 64 { n } else { 64 };
     let mut m: u64 = 0;
-    for a in 0..end {
+    for a in 0..n.min(64) {
         if same_observation(hidden, o, observations[a]) {
             m = mask::with(m, a);
         }

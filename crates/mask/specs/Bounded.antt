@@ -1,5 +1,5 @@
 -- "For every", "for some", "the first" and "how many" of the numbers below a bound, as tests; and over the states of a mask.
-use Rattle.std.specs.Prelude.{Bool, true, false, cond, ℕ, zero, suc, ◌+◌}
+use Rattle.std.specs.Prelude.{Bool, true, false, cond, ℕ, zero, suc, ◌+◌, ltb, Option, Some, None}
 use Rattle.mask.specs.Logic.{not, and, or}
 use Rattle.mask.specs.Bits.{has_bit}
 
@@ -17,6 +17,10 @@ some (suc n) p = let lower = some n p in or (p n) lower
 unfoldable pub first : ℕ → (ℕ → Bool) → ℕ
 first zero p = 0
 first (suc n) p = let later = suc (first n (λ i. p (suc i))) in cond (p 0) 0 later
+
+-- the number i, if it is below n
+unfoldable pub below : ℕ → ℕ → Option ℕ
+below n i = cond (ltb i n) (Some i) None
 
 -- the sum of f 0, .., f (n - 1)
 unfoldable pub sum : ℕ → (ℕ → ℕ) → ℕ

@@ -1,14 +1,15 @@
 -- Laws of the tests over the numbers below a bound.
-use Rattle.std.specs.Prelude.{Bool, true, false, cond, ◌⊎◌, ◌≡◌, refl, ℕ, zero, suc, ◌+◌, ◌*◌, ◌≤◌, ◌<◌, ◌^◌}
+use Rattle.std.specs.Prelude.{Bool, true, false, cond, Option, Some, None, ltb, ◌⊎◌, ◌≡◌, refl, ℕ, zero, suc, ◌+◌, ◌*◌, ◌≤◌, ◌<◌, ◌^◌}
 use Rattle.std.proofs.lemmas.Bool.{false≢true}
-use Rattle.std.proofs.Common.{inl, inr, ⊎_elim, sym, ap, ap₂, ◌∙◌, not-suc-le-zero, arith}
+use Rattle.std.proofs.Common.{inl, inr, ⊎_elim, sym, ap, ap₂, ◌∙◌, not-suc-le-zero, arith, ltb-true, ltb-false}
+use Rattle.std.proofs.lemmas.Option.{cond_some, none-some}
 use Rattle.std.proofs.Math.Logic.{by_cases}
 use Rattle.std.proofs.Math.Decide.{dec_lt, ℕ_discrete}
 use Rattle.mask.specs.Logic.{not, and, or}
 use Rattle.mask.specs.LogicLaws.{dec, clash, refute, both, cond_cases, below_suc, and_l, and_r, and_i, and_false_l, or_l, or_r, or_e, not_e, not_i, not_false, not_or, not_not}
 use Rattle.mask.specs.Bits.{has_bit}
 use Rattle.mask.specs.BitsLaws.{has_lt, has_none}
-use Rattle.mask.specs.Bounded.{every, some, first, sum, count, every_in, some_in}
+use Rattle.mask.specs.Bounded.{every, some, first, below, sum, count, every_in, some_in}
 
 -- ---- every
 pub every_at : (n : ℕ) (p : ℕ → Bool) → every n p ≡ true → (i : ℕ) → i < n → p i ≡ true
@@ -128,6 +129,19 @@ first_some n p h = every_not n p _ h (not_e _ (first_has n (λ i. not (p i)) h))
 
 pub first_all : (n : ℕ) (p : ℕ → Bool) → n ≤ first n (λ i. not (p i)) → every n p ≡ true
 first_all n p h = every_of n p (λ i l. not_false _ (first_before n (λ i. not (p i)) i (omega arith)))
+
+-- ---- a number below n, if it is below n
+pub below_at : (n i : ℕ) {k : ℕ} → below n i ≡ Some k → (k ≡ i) × (i < n)
+unfolding below
+below_at n i {k} e = let q = cond_some (ltb i n) i k e in (sym q.1, ltb-true i n q.0)
+
+pub below_past : (n i : ℕ) → below n i ≡ None → n ≤ i
+unfolding below
+below_past n i e = ltb-false i n (go (ltb i n) e)
+  where
+    go : (b : Bool) → cond b (Some i) None ≡ None → b ≡ false
+    go true z = absurd (none-some i (sym z))
+    go false z = refl
 
 -- ---- sums and counts
 pub sum_le : (n : ℕ) (f g : ℕ → ℕ) → ((i : ℕ) → i < n → f i ≤ g i) → sum n f ≤ sum n g

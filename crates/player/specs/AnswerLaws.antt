@@ -1,25 +1,26 @@
 -- Laws of the player's answer: which test of document 01's order tells it.
-use Rattle.std.specs.Prelude.{List, ◌≡◌, ℕ, ◌≤◌, ◌<◌, length}
+use Rattle.std.specs.Prelude.{List, ◌≡◌, ℕ, ◌≤◌, ◌<◌, length, Err, None, Ok, Some}
 use Rattle.std.proofs.Math.Logic.{⊎_elim, by_cases}
 use Rattle.std.proofs.Math.Path.{sym}
 use Rattle.std.proofs.Common.{◌∙◌, arith}
 use Rattle.std.proofs.Math.Decide.{dec_lt}
 use Rattle.machine.specs.declared.Pair.{Pair}
-use Rattle.machine.specs.declared.Partner.TheVariants.{State, Nobody}
 use Rattle.machine.specs.declared.Refusal.{Refusal}
-use Rattle.machine.specs.Refusals.{valid, answer, refused, refusal, short_buffer, no_start_partner}
+use Rattle.machine.specs.Refusals.{valid}
 use Rattle.machine.specs.RefusalsLaws.{then_of, then_refused, then_answer, then_cases, given_refused, buffer_valid, buffer_short, buffer_room, buffer_made, buffer_kept}
 use Rattle.machine.specs.WellFormed.{pair_validity}
 use Rattle.machine.specs.Lassos.{Lasso, moment}
 use Rattle.machine.specs.Table.{table_room}
 use Rattle.machine.specs.Lines.{lines_validity}
-use Rattle.machine.specs.Verdict.{Verdict, lines_verdict, check_verdict}
+use Rattle.machine.specs.Verdict.{lines_verdict, check_verdict}
 use Rattle.machine.specs.VerdictLaws.{lines_said}
 use Rattle.machine.specs.Player.{lasso_validity, start_partner, play_validity, run_room, all_validity, player_answer, player_buffer}
 use Rattle.machine.specs.PlayerLaws.{play_ill, play_fails, play_unfit, play_alone, play_valid}
 use Rattle.player.specs.declared.Played.TheVariants.{Refused as NotPlayed}
 use Rattle.player.specs.Answers.{played_of, run_of}
 use Rattle.player.specs.Places.{written}
+use Rattle.machine.specs.declared.Refusal.TheVariants.{NoStartPartner, ShortBuffer}
+use Rattle.machine.specs.declared.Verdict.{Verdict}
 
 module _ (p : Pair) (T : List ℕ) where
   -- the table is long enough, the pair well formed, and each line passes
@@ -29,7 +30,7 @@ module _ (p : Pair) (T : List ℕ) where
     pub lines : lines_validity p T ≡ valid
 
   -- where the check refuses nothing
-  pub check_tells : {v : Verdict} → check_verdict p T ≡ answer v → Passes
+  pub check_tells : {v : Verdict} → check_verdict p T ≡ Ok v → Passes
   unfolding check_verdict
   check_tells {v} e =
       let a = then_answer _ _ e in
@@ -38,12 +39,12 @@ module _ (p : Pair) (T : List ℕ) where
 
   module _ (l : Lasso) (buffer : List ℕ) where
     -- ---- where the call is stopped
-    pub stopped_by : (r : Refusal) → all_validity p T l buffer ≡ refused r
+    pub stopped_by : (r : Refusal) → all_validity p T l buffer ≡ Err r
         → (played_of (NotPlayed r) ≡ player_answer p T l buffer) × (buffer ≡ player_buffer p T l buffer)
     unfolding played_of player_answer player_buffer
     stopped_by r e = (sym (then_refused _ _ r e), sym (buffer_kept _ _ _ e))
 
-    pub short_run : length buffer < run_room → all_validity p T l buffer ≡ refused (refusal short_buffer 0 0 0)
+    pub short_run : length buffer < run_room → all_validity p T l buffer ≡ Err ShortBuffer
     unfolding all_validity
     short_run h = by_cases (dec_lt (length T) table_room)
         (λ b. then_refused _ _ _ (buffer_short table_room (length T) b))
@@ -55,7 +56,7 @@ module _ (p : Pair) (T : List ℕ) where
       unfolding all_validity
       left h = then_of _ _ (buffer_valid table_room (length T) h) ∙ then_of _ _ (buffer_valid run_room (length buffer) room)
 
-      pub check_stops : (r : Refusal) → check_verdict p T ≡ refused r → all_validity p T l buffer ≡ refused r
+      pub check_stops : (r : Refusal) → check_verdict p T ≡ Err r → all_validity p T l buffer ≡ Err r
       unfolding check_verdict lines_verdict all_validity
       check_stops r e = ⊎_elim
           (λ q. then_refused _ _ r q)
@@ -66,14 +67,14 @@ module _ (p : Pair) (T : List ℕ) where
           (then_cases _ (lines_verdict p T) r e)
 
       module _ (h : Passes) where
-        pub lasso_stops : (r : Refusal) → lasso_validity p.concrete l ≡ refused r → all_validity p T l buffer ≡ refused r
+        pub lasso_stops : (r : Refusal) → lasso_validity p.concrete l ≡ Err r → all_validity p T l buffer ≡ Err r
         lasso_stops r e = left h.long ∙ play_unfit p T l h.pair h.lines r e
 
         module _ (tested : lasso_validity p.concrete l ≡ valid) where
-          pub start_stops : start_partner p T (moment l 0) ≡ Nobody → all_validity p T l buffer ≡ refused (refusal no_start_partner 0 0 0)
+          pub start_stops : start_partner p T (moment l 0) ≡ None → all_validity p T l buffer ≡ Err NoStartPartner
           start_stops e = left h.long ∙ play_alone p T l h.pair h.lines tested e
 
-          module _ (a : ℕ) (e : start_partner p T (moment l 0) ≡ State a) where
+          module _ (a : ℕ) (e : start_partner p T (moment l 0) ≡ Some a) where
             all_valid : all_validity p T l buffer ≡ valid
             all_valid = left h.long ∙ play_valid p T l h.pair h.lines tested a e
 

@@ -1,6 +1,5 @@
 pub mod Statements
 -- definitions
-pub mod Answers
 pub mod Given
 pub mod Places
 -- laws

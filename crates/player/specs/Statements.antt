@@ -1,8 +1,7 @@
 -- What is shown of the player's answer. Each statement is a type; Theorems.antt gives a proof of each.
-use Rattle.std.specs.Prelude.{true, List, ◌≡◌, ℕ, ◌+◌, ◌≤◌, length, take, drop}
+use Rattle.std.specs.Prelude.{true, List, ◌≡◌, ℕ, ◌+◌, ◌≤◌, length, take, drop, Err, Ok}
 use Rattle.machine.specs.declared.Pair.{Pair}
 use Rattle.machine.specs.declared.Refusal.{Refusal}
-use Rattle.machine.specs.Refusals.{answer, refused}
 use Rattle.machine.specs.Lassos.{Lasso, is_play, SameObservations}
 use Rattle.machine.specs.Player.{run_room, played, player_answer, player_buffer}
 
@@ -24,8 +23,8 @@ pub record RunGiven (p : Pair) (T : List ℕ) (l : Lasso) (buffer : List ℕ) (s
   pub past : drop (s + q) (player_buffer p T l buffer) ≡ drop (s + q) buffer
 
 abbrev pub GivenRunIsRight : Type 0
-GivenRunIsRight = (p : Pair) (T : List ℕ) (l : Lasso) (buffer : List ℕ) (s q : ℕ) → player_answer p T l buffer ≡ answer (played s q) → RunGiven p T l buffer s q
+GivenRunIsRight = (p : Pair) (T : List ℕ) (l : Lasso) (buffer : List ℕ) (s q : ℕ) → player_answer p T l buffer ≡ Ok (played s q) → RunGiven p T l buffer s q
 
 -- a refusal changes no buffer
 abbrev pub RefusalKeepsBuffer : Type 0
-RefusalKeepsBuffer = (p : Pair) (T : List ℕ) (l : Lasso) (buffer : List ℕ) (r : Refusal) → player_answer p T l buffer ≡ refused r → player_buffer p T l buffer ≡ buffer
+RefusalKeepsBuffer = (p : Pair) (T : List ℕ) (l : Lasso) (buffer : List ℕ) (r : Refusal) → player_answer p T l buffer ≡ Err r → player_buffer p T l buffer ≡ buffer

@@ -4,31 +4,21 @@
 
 ghost use Rattle.std.specs.Prelude.{true, cond, ◌≡◌, ℕ, ◌+◌, ◌<◌, ◌≤◌, eqb, length, get_or};
 ghost use Rattle.mask.specs.Bits.{has_bit};
-ghost use Rattle.mask.specs.Bounded.{first};
+ghost use Rattle.mask.specs.Bounded.{first, below};
 ghost use Rattle.machine.specs.Machines.{moves, next, n_c, n_a, sets_a};
-ghost use Rattle.machine.specs.Refusals.{tested_of};
 ghost use Rattle.machine.specs.Lassos.{moment, given};
-ghost use Rattle.machine.specs.Step.{single_step, state_of};
+ghost use Rattle.machine.specs.Step.{present_of, single_step, state_of};
 ghost use Rattle.machine.specs.Table.{entry};
 ghost use Rattle.machine.specs.Lines.{non_blank};
-ghost use Rattle.machine.specs.Player.{has_bad_length, bad_step, lasso_validity, start_partner, run_room, player_answer, player_buffer};
+ghost use Rattle.machine.specs.Player.{has_bad_length, bad_step, lasso_validity, start_partner, run_room, run_lengths, player_answer, player_buffer};
 ghost use Rattle.soundness.specs.PlayerLaws.{Playable};
-ghost use Rattle.player.specs.Answers.{played_of, run_of};
 ghost use Rattle.player.specs.Given.{none_in};
 ghost use Rattle.player.specs.Places.{Tabled, OnPlay, Stepped, onward, number_of, written};
 
-use linecheck::Checked;
-use machine::{Machine, Pair, Partner, Refusal, Validity};
+use machine::{Machine, Pair, Refusal, Run};
 
 // The least length of the buffer that is lent for the run, in bytes: 448 rounds of at most 64 states.
 pub const RUN_ROOM: usize = 28672;
-
-// What the player says: the run's stem length and loop length, or where it was stopped.
-#[derive(Clone, Copy)]
-pub enum Played {
-    Run(usize, usize),
-    Refused(Refusal),
-}
 
 // Where the player is: at a position of the lasso, from 0 through stem and loop, after so many rounds, in the abstract state a and section j.
 #[derive(Clone, Copy)]
@@ -100,10 +90,10 @@ impl Place {
         let next = self.onward(stem.len(), stem.len() + cycle.len());
         let j = self.section_after(abstraction.sets, e);
         let d = state_at(stem, cycle, next.position);
-        let found = best_partner(p, matched, table, a, successors[a], j, d);
+        let found = best_partner(p, matched, table, Some(a), successors[a], j, d);
         Self {
             position: next.position,
-            a: machine::state_of(found),
+            a: found.unwrap_or(0),
             j: j,
             round: next.round,
         }
@@ -116,15 +106,15 @@ fn best_partner(
     p: Pair,
     matched: &[u64; 64],
     table: &[u16],
-    present: usize,
+    present: Option<usize>,
     moves: u64,
     j: usize,
     d: usize,
-) -> Partner
+) -> Option<usize>
     requires tabled { Tabled p matched.now table.now }
     requires j_bound { (j < sets_a p) × (d < n_c p) }
     requires appended { (i : ℕ) → i < 64 → has_bit moves i ≡ true → i < n_a p }
-    ensures { result ≡ single_step present moves (non_blank p table.now j d) (entry p table.now j d) }
+    ensures { result ≡ single_step (present_of present) moves (non_blank p table.now j d) (entry p table.now j d) }
 {
     let concrete = p.concrete;
     let abstraction = p.abstraction;
@@ -200,12 +190,7 @@ fn bad_step(m: Machine, stem: &[u8], cycle: &[u8], i: usize) -> bool
 fn misses(members: u64, cycle: &[u8]) -> bool
     ensures { result ≡ none_in members cycle.now }
 {
-    for i in 0..cycle.len() {
-        if mask::has(members, cycle[i] as usize) {
-            return false;
-        }
-    }
-    true
+    !cycle.iter().any(|s| mask::has(members, *s as usize))
 }
 
 // Whether refusal 13 holds.
@@ -224,52 +209,38 @@ fn bad_length(stem: &[u8], cycle: &[u8]) -> bool
     64 < stem.len() + cycle.len()
 }
 
-// The first position at which refusal 14 holds, the count of positions where there is none.
-fn first_bad_step(m: Machine, stem: &[u8], cycle: &[u8]) -> usize
+// The first position at which refusal 14 holds.
+fn first_bad_step(m: Machine, stem: &[u8], cycle: &[u8]) -> Option<usize>
     requires { (0 < length cycle.now) × (length stem.now + length cycle.now ≤ 64) }
-    ensures { result ≡ first (length stem.now + length cycle.now) (bad_step m (given stem.now cycle.now)) }
+    ensures { result ≡ below (length stem.now + length cycle.now) (first (length stem.now + length cycle.now) (bad_step m (given stem.now cycle.now))) }
 {
-    let whole = stem.len() + cycle.len();
-    for i in 0..whole {
-        if bad_step(m, stem, cycle, i) {
-            return i;
-        }
-    }
-    whole
+    (0..stem.len() + cycle.len()).find(|i| bad_step(m, stem, cycle, *i))
 }
 
-// The first set without a state of the loop, the count of sets where there is none.
-fn first_missed_set(m: Machine, cycle: &[u8]) -> usize
+// The first set without a state of the loop.
+fn first_missed_set(m: Machine, cycle: &[u8]) -> Option<usize>
     requires { m.sets ≤ 8 }
-    ensures { result ≡ first m.sets (λ k. none_in (get_or m.fairness k 0) cycle.now) }
+    ensures { result ≡ below m.sets (first m.sets (λ k. none_in (get_or m.fairness k 0) cycle.now)) }
 {
-    let sets = m.sets;
     let fairness = m.fairness;
-    for k in 0..sets {
-        if misses(fairness[k], cycle) {
-            return k;
-        }
-    }
-    sets
+    (0..m.sets).find(|k| misses(fairness[*k], cycle))
 }
 
 // Refusals 13 to 15.
-fn lasso_validity(m: Machine, stem: &[u8], cycle: &[u8]) -> Validity
+fn lasso_validity(m: Machine, stem: &[u8], cycle: &[u8]) -> Result<(), Refusal>
     requires { m.sets ≤ 8 }
-    ensures { tested_of result ≡ lasso_validity m (given stem.now cycle.now) }
+    ensures { result ≡ lasso_validity m (given stem.now cycle.now) }
 {
     if bad_length(stem, cycle) {
-        return Validity::Refused(machine::refuse(machine::BAD_LASSO_LENGTH, 0, 0, 0));
+        return Err(Refusal::BadLassoLength);
     }
-    let i = first_bad_step(m, stem, cycle);
-    if i < stem.len() + cycle.len() {
-        return Validity::Refused(machine::refuse(machine::BAD_LASSO_STEP, i, 0, 0));
+    if let Some(position) = first_bad_step(m, stem, cycle) {
+        return Err(Refusal::BadLassoStep { position });
     }
-    let k = first_missed_set(m, cycle);
-    if k < m.sets {
-        return Validity::Refused(machine::refuse(machine::UNFAIR_LASSO, k + 1, 0, 0));
+    match first_missed_set(m, cycle) {
+        Some(k) => Err(Refusal::UnfairLasso { set: k + 1 }),
+        None => Ok(()),
     }
-    Validity::Valid
 }
 
 // Writes the run, from the abstract start state `first` on, and ends at the first loop start whose a and j were seen at an earlier one.
@@ -281,12 +252,12 @@ fn write_run(
     cycle: &[u8],
     first: usize,
     run: &mut [u8],
-) -> Played
+) -> Run
     requires tabled { Tabled p matched.now table.now }
     requires playable { Playable p table.now (given stem.now cycle.now) }
     requires first_value { first ≡ state_of (start_partner p table.now (moment (given stem.now cycle.now) 0)) }
     requires run_room_in_bounds { run_room ≤ length run.old }
-    ensures answer { result ≡ run_of p table.now (given stem.now cycle.now) }
+    ensures answer { result ≡ run_lengths p table.now (given stem.now cycle.now) }
     ensures buffer { run.new ≡ written p table.now (given stem.now cycle.now) run.old }
 {
     let start = stem.len();
@@ -304,9 +275,10 @@ fn write_run(
             let seen = marks[number] as usize;
             if seen != 0 {
                 let earlier = seen - 1;
-                let stem_length = start + earlier * period;
-                let loop_length = (round - earlier) * period;
-                return Played::Run(stem_length, loop_length);
+                return Run {
+                    stem: start + earlier * period,
+                    cycle: (round - earlier) * period,
+                };
             }
             marks[number] = (round + 1) as u16;
         }
@@ -318,35 +290,26 @@ fn write_run(
 
 // Plays a lasso of the concrete machine by the table: the abstract run goes to the lent buffer `run`, and its stem length and loop length come
 // back, or where the call was stopped.
-pub fn play(p: Pair, table: &[u16], stem: &[u8], cycle: &[u8], run: &mut [u8]) -> Played
-    ensures answer { played_of result ≡ player_answer p table.now (given stem.now cycle.now) run.old }
+pub fn play(
+    p: Pair,
+    table: &[u16],
+    stem: &[u8],
+    cycle: &[u8],
+    run: &mut [u8],
+) -> Result<Run, Refusal>
+    ensures answer { result ≡ player_answer p table.now (given stem.now cycle.now) run.old }
     ensures buffer { run.new ≡ player_buffer p table.now (given stem.now cycle.now) run.old }
 {
     if run.len() < RUN_ROOM {
-        return Played::Refused(machine::refuse(machine::SHORT_BUFFER, 0, 0, 0));
+        return Err(Refusal::ShortBuffer);
     }
-    let checked = linecheck::check_table(p, table);
-    if let Checked::Refused(r) = checked {
-        return Played::Refused(r);
-    }
-    let tested = lasso_validity(p.concrete, stem, cycle);
-    if let Validity::Refused(r) = tested {
-        return Played::Refused(r);
-    }
+    linecheck::check_table(p, table)?;
+    lasso_validity(p.concrete, stem, cycle)?;
     let abstraction = p.abstraction;
     let matched = machine::matched_masks(p);
     let c = state_at(stem, cycle, 0);
-    let first = best_partner(
-        p,
-        &matched,
-        table,
-        machine::NO_STATE,
-        abstraction.start,
-        0,
-        c,
-    );
-    let Partner::State(a) = first else {
-        return Played::Refused(machine::refuse(machine::NO_START_PARTNER, 0, 0, 0));
+    let Some(first) = best_partner(p, &matched, table, None, abstraction.start, 0, c) else {
+        return Err(Refusal::NoStartPartner);
     };
-    write_run(p, &matched, table, stem, cycle, a, run)
+    Ok(write_run(p, &matched, table, stem, cycle, first, run))
 }

@@ -1,8 +1,8 @@
 -- The line that `play` writes, as ASCII: `run 0 1 / 4 5 6`, `no table`, `refused NUMBER P Q R`, or how to call it.
-use Rattle.std.specs.Prelude.{cond, List, [], ◌∷◌, ◌++◌, ℕ, take, drop, replicate}
-use Rattle.machine.specs.Refusals.{Result, answer, refused}
-use Rattle.machine.specs.Player.{Played, played, run_room}
-use Rattle.codec.specs.Outcomes.{Outcome, says, without_table}
+use Rattle.std.specs.Prelude.{cond, List, [], ◌∷◌, ◌++◌, ℕ, take, drop, replicate, Err, None, Ok, Option, Some}
+use Rattle.machine.specs.Refusals.{Answer}
+use Rattle.machine.specs.Player.{run_room}
+use Rattle.machine.specs.declared.Run.{Run}
 use Rattle.report.specs.Text.{no_table_text, refusal_line}
 use Rattle.playback.specs.Playing.{file_run, file_run_buffer}
 use Rattle.playline.specs.Lasso.{readable, lasso_in, lasso_text}
@@ -16,10 +16,10 @@ unfoldable pub run_line : List ℕ → List ℕ → List ℕ
 run_line stem loop = 114 ∷ 117 ∷ 110 ∷ (lasso_text stem loop ++ (10 ∷ []))
 
 -- what is said, and the buffer that holds the run
-unfoldable pub run_outcome_line : Result (Outcome Played) → List ℕ → List ℕ
-run_outcome_line (answer (says (played s q))) run = run_line (take s run) (take q (drop s run))
-run_outcome_line (answer without_table) run = no_table_text
-run_outcome_line (refused r) run = refusal_line r
+unfoldable pub run_outcome_line : Answer (Option Run) → List ℕ → List ℕ
+run_outcome_line (Ok (Some r)) run = run_line (take r.stem run) (take r.cycle (drop r.stem run))
+run_outcome_line (Ok None) run = no_table_text
+run_outcome_line (Err r) run = refusal_line r
 
 -- "usage: play 0 1 / 2 3 < show.dom" and a line feed
 abbrev pub usage_line : List ℕ

@@ -7,13 +7,11 @@ ghost use Rattle.mask.specs.Logic.{or};
 ghost use Rattle.text.specs.Decimal.{decimal, is_digit};
 ghost use Rattle.machine.specs.Player.{run_room};
 ghost use Rattle.report.specs.Text.{refusal_line};
-ghost use Rattle.playback.specs.declared.FileRun.TheVariants.{Run};
-ghost use Rattle.playback.specs.Playing.{run_outcome_of};
+ghost use Rattle.machine.specs.declared.Run.{Run};
 ghost use Rattle.playline.specs.Lasso.{grown, is_plain, numbers_in, stroke_at, readable, states_text};
 ghost use Rattle.playline.specs.Line.{line_room, run_line, run_outcome_line, play_line};
 
-use machine::Refusal;
-use playback::FileRun;
+use machine::{Refusal, Run};
 
 // The room that any line has: four bytes for each state of a run, and the words.
 pub const LINE_ROOM: usize = 114700;
@@ -210,16 +208,16 @@ fn put_refused(out: &mut [u8], r: Refusal) -> usize
 }
 
 // Writes the line of what is said, where the run stands in a buffer, and gives its length.
-fn put_outcome(out: &mut [u8], said: FileRun, run: &[u8]) -> usize
-    requires { (length run.now ≤ run_room) × ((line_room ≤ length out.old) × ((s q : ℕ) → said ≡ Run s q → s + q ≤ length run.now)) }
-    ensures length { result ≡ length (run_outcome_line (run_outcome_of said) run.now) }
+fn put_outcome(out: &mut [u8], said: Result<Option<Run>, Refusal>, run: &[u8]) -> usize
+    requires { (length run.now ≤ run_room) × ((line_room ≤ length out.old) × ((r : Run) → said ≡ Ok (Some r) → r.stem + r.cycle ≤ length run.now)) }
+    ensures length { result ≡ length (run_outcome_line said run.now) }
     ensures room { result ≤ line_room }
-    ensures bytes { out.new ≡ sets out.old 0 (run_outcome_line (run_outcome_of said) run.now) }
+    ensures bytes { out.new ≡ sets out.old 0 (run_outcome_line said run.now) }
 {
     match said {
-        FileRun::Run(s, q) => put_run_in(out, run, s, q),
-        FileRun::NoTable => put_line(out, b"no table\n"),
-        FileRun::Refused(r) => put_refused(out, r),
+        Ok(Some(lengths)) => put_run_in(out, run, lengths.stem, lengths.cycle),
+        Ok(None) => put_line(out, b"no table\n"),
+        Err(refusal) => put_refused(out, refusal),
     }
 }
 

@@ -1,6 +1,5 @@
 -- definitions
 pub mod Turns
-pub mod Answers
 pub mod Statements
 -- laws
 pub mod TurnsLaws

@@ -1,11 +1,10 @@
 -- What is shown of the solver by turns (document 02, No. 6), "of every list of turns from the first over the same machines", over the definitions
 -- that the contracts cite. Theorems.antt gives a proof of each statement, by name. What is said of lists of turns is for machines that the calls
 -- take: `well_formed p ≡ true` and `nonempty_sets p ≡ true`.
-use Rattle.std.specs.Prelude.{true, false, cond, List, [], ◌∷◌, ◌++◌, ◌↔◌, ◌≡◌, ℕ, zero, suc, ◌+◌, ◌-◌, ◌≤◌, ◌<◌, leb, length}
+use Rattle.std.specs.Prelude.{true, false, cond, List, [], ◌∷◌, ◌++◌, ◌↔◌, ◌≡◌, ℕ, zero, suc, ◌+◌, ◌-◌, ◌≤◌, ◌<◌, leb, length, Err, Ok}
 use Rattle.machine.specs.declared.Pair.{Pair}
 use Rattle.machine.specs.declared.Refusal.{Refusal}
 use Rattle.machine.specs.Machines.{matched, n_c, n_a, sets_a}
-use Rattle.machine.specs.Refusals.{answer, refused}
 use Rattle.machine.specs.WellFormed.{well_formed, nonempty_sets}
 use Rattle.machine.specs.Ranks.{solver_table}
 use Rattle.machine.specs.Table.{blank, table_room, entry, covers, entries}
@@ -36,14 +35,14 @@ module _ (p : Pair) where
   abbrev pub TurnsFinish : Type 0
   TurnsFinish = well_formed p ≡ true → nonempty_sets p ≡ true
       → (number : ℕ) × ((1 ≤ number) × (number ≤ entries p + 1))
-      × ((Ts : List (List ℕ)) (T : List ℕ) → table_room ≤ length T → turn_answer p (family_of_turns p Ts) (length T) ≡ answer (leb number (turns_in Ts + 1)))
+      × ((Ts : List (List ℕ)) (T : List ℕ) → table_room ≤ length T → turn_answer p (family_of_turns p Ts) (length T) ≡ Ok (leb number (turns_in Ts + 1)))
 
   -- "only such a turn writes the table": of any family, a call that does not say finished leaves the lent table as it was, and a refused one the
   -- family too
   abbrev pub OnlyFinishedWrites : Type 0
   OnlyFinishedWrites = (F T : List ℕ)
       → (says_finished (turn_answer p F (length T)) ≡ false → turn_table p F T ≡ T)
-      × ((r : Refusal) → turn_answer p F (length T) ≡ refused r → (turn_family p F (length T) ≡ F) × (turn_table p F T ≡ T))
+      × ((r : Refusal) → turn_answer p F (length T) ≡ Err r → (turn_family p F (length T) ≡ F) × (turn_table p F T ≡ T))
 
   -- "the solver's", and "A turn after that changes no set, writes the same table and says finished": Ts are the turns before one that was lent T and
   -- is finished, and Us the calls behind it, whatever tables they were lent
@@ -51,31 +50,31 @@ module _ (p : Pair) where
     pub writes_solver's : turn_table p (family_of_turns p Ts) T ≡ solved_table p T
     pub changes_none : family_of_turns p (Us ++ (T ∷ Ts)) ≡ family_of_turns p Ts
     pub then_writes : (U : List ℕ) → table_room ≤ length U → turn_table p (family_of_turns p (Us ++ (T ∷ Ts))) U ≡ solved_table p U
-    pub then_says : (U : List ℕ) → table_room ≤ length U → turn_answer p (family_of_turns p (Us ++ (T ∷ Ts))) (length U) ≡ answer true
+    pub then_says : (U : List ℕ) → table_room ≤ length U → turn_answer p (family_of_turns p (Us ++ (T ∷ Ts))) (length U) ≡ Ok true
 
   abbrev pub FinishedSettles : Type 0
-  FinishedSettles = well_formed p ≡ true → nonempty_sets p ≡ true → (Ts : List (List ℕ)) (T : List ℕ) → turn_answer p (family_of_turns p Ts) (length T) ≡ answer true
+  FinishedSettles = well_formed p ≡ true → nonempty_sets p ≡ true → (Ts : List (List ℕ)) (T : List ℕ) → turn_answer p (family_of_turns p Ts) (length T) ≡ Ok true
       → (Us : List (List ℕ)) → Settles Ts T Us
 
   -- "Struck out is final, whichever later turns follow", and the solver's table is blank there; the section j is counted from 1 at the look-up
   abbrev pub StruckOutIsFinal : Type 0
-  StruckOutIsFinal = well_formed p ≡ true → nonempty_sets p ≡ true → (Ts : List (List ℕ)) (j c a : ℕ) → look_up_answer p (family_of_turns p Ts) j c a ≡ answer false
-      → ((Us : List (List ℕ)) → look_up_answer p (family_of_turns p (Us ++ Ts)) j c a ≡ answer false) × (entry p (solver_table p) (j - 1) c a ≡ blank)
+  StruckOutIsFinal = well_formed p ≡ true → nonempty_sets p ≡ true → (Ts : List (List ℕ)) (j c a : ℕ) → look_up_answer p (family_of_turns p Ts) j c a ≡ Ok false
+      → ((Us : List (List ℕ)) → look_up_answer p (family_of_turns p (Us ++ Ts)) j c a ≡ Ok false) × (entry p (solver_table p) (j - 1) c a ≡ blank)
 
   -- "still in promises nothing until the finish": from there on it is that the solver's table is not blank
   abbrev pub FinishedTells : Type 0
-  FinishedTells = well_formed p ≡ true → nonempty_sets p ≡ true → (Ts : List (List ℕ)) (T : List ℕ) → turn_answer p (family_of_turns p Ts) (length T) ≡ answer true
+  FinishedTells = well_formed p ≡ true → nonempty_sets p ≡ true → (Ts : List (List ℕ)) (T : List ℕ) → turn_answer p (family_of_turns p Ts) (length T) ≡ Ok true
       → (Us : List (List ℕ)) (j c a : ℕ) → 1 ≤ j → j ≤ sets_a p → c < n_c p → a < n_a p
-      → look_up_answer p (family_of_turns p (Us ++ (T ∷ Ts))) j c a ≡ answer (covers p (solver_table p) (j - 1) c a)
+      → look_up_answer p (family_of_turns p (Us ++ (T ∷ Ts))) j c a ≡ Ok (covers p (solver_table p) (j - 1) c a)
 
   -- "the first being all matched pairs in every section"; a pair that is not matched is struck out of any family, from the first on
   abbrev pub FirstIsMatched : Type 0
   FirstIsMatched = well_formed p ≡ true → nonempty_sets p ≡ true → (j c a : ℕ) → 1 ≤ j → j ≤ sets_a p → c < n_c p → a < n_a p
-      → (look_up_answer p (first_given p) j c a ≡ answer (matched p c a)) × ((F : List ℕ) → matched p c a ≡ false → look_up_answer p F j c a ≡ answer false)
+      → (look_up_answer p (first_given p) j c a ≡ Ok (matched p c a)) × ((F : List ℕ) → matched p c a ≡ false → look_up_answer p F j c a ≡ Ok false)
 
   -- the solver is the same as turns from the first until one is finished, n × P + 1 turns at most: it says the same refusals, of any family, and
   -- leaves the same table; of any machines and any lent table
   abbrev pub SolverIsTurns : Type 0
   SolverIsTurns = (T : List ℕ)
       → (turns_until p (entries p + 1) (first_given p) T ≡ solved_table p T)
-      × ((F : List ℕ) (r : Refusal) → (turn_answer p F (length T) ≡ refused r) ↔ (solve_validity p (length T) ≡ refused r))
+      × ((F : List ℕ) (r : Refusal) → (turn_answer p F (length T) ≡ Err r) ↔ (solve_validity p (length T) ≡ Err r))

@@ -1,6 +1,6 @@
 -- A proof of each statement on the solver by turns. The rows of a family of matched pairs give it back, so that the families of a list of turns are
 -- document 01's families after so many turns; these shrink, and the first that a turn leaves as it was is the largest family.
-use Rattle.std.specs.Prelude.{Bool, false, ◌≡◌, leb}
+use Rattle.std.specs.Prelude.{Bool, false, ◌≡◌, leb, Err, Ok}
 use Rattle.std.proofs.Math.Bool.{true}
 use mathlib.Core.List.{List, [], ◌∷◌, ◌++◌}
 use Rattle.std.proofs.Common.{⊎_elim, ap₂, ◌∙◌}
@@ -20,7 +20,7 @@ use Rattle.machine.specs.declared.Pair.{Pair}
 use Rattle.machine.specs.declared.Refusal.{Refusal}
 use Rattle.machine.specs.Machines.{matched, n_c, n_a, sets_a}
 use Rattle.machine.specs.Iteration.{iterate}
-use Rattle.machine.specs.Refusals.{Result, Tested, answer, refused, valid, buffer_validity}
+use Rattle.machine.specs.Refusals.{Tested, valid, buffer_validity, Answer}
 use Rattle.machine.specs.RefusalsLaws.{then_of, then_answer, given_at, given_refused, buffer_short, buffer_room}
 use Rattle.machine.specs.WellFormed.{well_formed, nonempty_sets, nonempty_validity}
 use Rattle.machine.specs.WellFormedLaws.{WellPair, well_pair, valid_is_well}
@@ -57,7 +57,7 @@ unfolding turns_until
 until_none p F T = refl
 
 module _ (p : Pair) (n : ℕ) (F T : List ℕ) where
-  until_now : turn_answer p F (length T) ≡ answer true → turns_until p (suc n) F T ≡ turn_table p F T
+  until_now : turn_answer p F (length T) ≡ Ok true → turns_until p (suc n) F T ≡ turn_table p F T
   unfolding turns_until says_finished
   until_now e = rw e
 
@@ -66,27 +66,27 @@ module _ (p : Pair) (n : ℕ) (F T : List ℕ) where
   until_later e = rw e
 
 -- what an answer says
-says_unfinished : {v : Result Bool} → v ≡ answer false → says_finished v ≡ false
+says_unfinished : {v : Answer Bool} → v ≡ Ok false → says_finished v ≡ false
 unfolding says_finished
 says_unfinished e = rw e
 
-says_refused : {v : Result Bool} {r : Refusal} → v ≡ refused r → says_finished v ≡ false
+says_refused : {v : Answer Bool} {r : Refusal} → v ≡ Err r → says_finished v ≡ false
 unfolding says_finished
 says_refused e = rw e
 
 -- a list of refused calls changes nothing
-until_kept : (p : Pair) (n : ℕ) (F T : List ℕ) {r : Refusal} → solve_validity p (length T) ≡ refused r → turns_until p n F T ≡ T
+until_kept : (p : Pair) (n : ℕ) (F T : List ℕ) {r : Refusal} → solve_validity p (length T) ≡ Err r → turns_until p n F T ≡ T
 until_kept p zero F T e = until_none p F T
 until_kept p (suc n) F T e =
     let k = turn_refused p F T e in
     until_later p n F T (says_refused k.0) ∙ ap₂ (turns_until p n) k.1 k.2 ∙ until_kept p n F T e
 
 -- ---- what an answer tells of the lent table and the family
-answered : (p : Pair) (F : List ℕ) (n : ℕ) {b : Bool} → turn_answer p F n ≡ answer b → (table_room ≤ n) × (finishes p F ≡ b)
+answered : (p : Pair) (F : List ℕ) (n : ℕ) {b : Bool} → turn_answer p F n ≡ Ok b → (table_room ≤ n) × (finishes p F ≡ b)
 unfolding turn_answer solve_validity
 answered p F n e = let g = given_at _ (finishes p F) e in (buffer_room table_room n (then_answer _ _ g.0).0, g.1)
 
-looked : (p : Pair) (F : List ℕ) (j c a : ℕ) {b : Bool} → look_up_answer p F j c a ≡ answer b → (range_validity p j c a ≡ valid) × (still_in p F (j - 1) c a ≡ b)
+looked : (p : Pair) (F : List ℕ) (j c a : ℕ) {b : Bool} → look_up_answer p F j c a ≡ Ok b → (range_validity p j c a ≡ valid) × (still_in p F (j - 1) c a ≡ b)
 unfolding look_up_answer
 looked p F j c a e = given_at _ _ (then_answer _ _ e).1
 
@@ -234,8 +234,8 @@ module _ (p : Pair) (w : WellPair p) where
         ∙ until_done n (T ∷ Ts) T room (omega (arith, less f, turns_one T Ts room)) (omega (arith, turns_one T Ts room)))
         (dec (finishes p (family_of_turns p Ts)))
       where
-        says : (b : Bool) → finishes p (family_of_turns p Ts) ≡ b → turn_answer p (family_of_turns p Ts) (length T) ≡ answer b
-        says b f = (turn_taken p (family_of_turns p Ts) T (solves (length T) room)).0 ∙ ap answer f
+        says : (b : Bool) → finishes p (family_of_turns p Ts) ≡ b → turn_answer p (family_of_turns p Ts) (length T) ≡ Ok b
+        says b f = (turn_taken p (family_of_turns p Ts) T (solves (length T) room)).0 ∙ ap Ok f
 
         less : finishes p (family_of_turns p Ts) ≡ false → turns_in Ts < before
         less f = leb-false before (turns_in Ts) (sym (done_is (turns_in Ts)) ∙ sym (finishes_is Ts) ∙ f)
@@ -250,7 +250,7 @@ leb_up n t = by_cases (dec_le n t)
 
 module _ (p : Pair) where
   -- a look-up in range, and what it says of the first family
-  looked_is : well_formed p ≡ true → nonempty_sets p ≡ true → (F : List ℕ) (j c a : ℕ) → range_validity p j c a ≡ valid → look_up_answer p F j c a ≡ answer (still_in p F (j - 1) c a)
+  looked_is : well_formed p ≡ true → nonempty_sets p ≡ true → (F : List ℕ) (j c a : ℕ) → range_validity p j c a ≡ valid → look_up_answer p F j c a ≡ Ok (still_in p F (j - 1) c a)
   looked_is well nonempty F j c a e = looked_up p j c a F (then_of _ _ (nonempty_valid p well nonempty) ∙ e)
 
   first_still : WellPair p → well_formed p ≡ true → nonempty_sets p ≡ true → (j c a : ℕ) → j < sets_a p → c < n_c p → a < n_a p → still_in p (first_given p) j c a ≡ matched p c a
@@ -261,8 +261,8 @@ module _ (p : Pair) where
   -- turns until one is finished, by what the solver says
   until_solved : (T : List ℕ) (v : Tested) → solve_validity p (length T) ≡ v → turns_until p (entries p + 1) (first_given p) T ≡ solved_table p T
   unfolding family_of_turns turns_in solve_validity
-  until_solved T (refused r) e = until_kept p _ (first_given p) T e ∙ solved_refused p T r e
-  until_solved T (answer t) e =
+  until_solved T (Err r) e = until_kept p _ (first_given p) T e ∙ solved_refused p T r e
+  until_solved T (Ok t) e =
       let q = then_answer (buffer_validity table_room (length T)) (nonempty_validity p) e in
       let n = nonempty_at p q.1 in
       let well = valid_is_well p n.0 in
@@ -276,7 +276,7 @@ module _ (p : Pair) where
         (omega arith, omega (arith, before_small p w)),
         λ Ts T room.
             (turn_taken p (family_of_turns p Ts) T (solves p w well nonempty (length T) room)).0
-            ∙ ap answer (finishes_is p w well nonempty Ts ∙ done_is p w (turns_in Ts) ∙ leb_up (before p w) (turns_in Ts)),
+            ∙ ap Ok (finishes_is p w well nonempty Ts ∙ done_is p w (turns_in Ts) ∙ leb_up (before p w) (turns_in Ts)),
       )
 
   pub only_finished_writes : OnlyFinishedWrites p
@@ -294,7 +294,7 @@ module _ (p : Pair) where
         writes_solver's = writes p w well nonempty Ts T f.0 f.1;
         changes_none = later_family p w well nonempty Ts Vs more f.1;
         then_writes = λ U room. writes p w well nonempty Vs U room g;
-        then_says = λ U room. (turn_taken p (family_of_turns p Vs) U (solves p w well nonempty (length U) room)).0 ∙ ap answer g;
+        then_says = λ U room. (turn_taken p (family_of_turns p Vs) U (solves p w well nonempty (length U) room)).0 ∙ ap Ok g;
       }
 
   pub struck_out_is_final : StruckOutIsFinal p
@@ -304,7 +304,7 @@ module _ (p : Pair) where
       let r = range_at p j c a q.0 in
       let hj : j - 1 < sets_a p = omega (arith, r.0) in
       let out : mem p (get_or (family_after p (turns_in Ts)) (j - 1) []) c a ≡ false = sym (still_is p w well nonempty Ts (j - 1) c a) ∙ q.1 in (
-        λ Us. looked_is well nonempty (family_of_turns p (Us ++ Ts)) j c a q.0 ∙ ap answer (still_is p w well nonempty (Us ++ Ts) (j - 1) c a
+        λ Us. looked_is well nonempty (family_of_turns p (Us ++ Ts)) j c a q.0 ∙ ap Ok (still_is p w well nonempty (Us ++ Ts) (j - 1) c a
             ∙ refute _ (λ t. clash out (family_later p (turns_in Ts) (turns_in (Us ++ Ts)) (turns_more Us Ts) (j - 1) hj c a r.1.0 r.1.1 t))),
         table_rank p (j - 1) c a hj r.1.0 r.1.1
             ∙ (rank_blank p w (j - 1) c a hj r.1.0 r.1.1).1 (refute _ (λ t. clash out (family_within p (turns_in Ts) (j - 1) hj c a r.1.0 r.1.1 t))),
@@ -318,15 +318,15 @@ module _ (p : Pair) where
       let g = later_done p w well nonempty Ts Vs (later Ts T Us f.0) f.1 in
       let hj : j - 1 < sets_a p = omega arith in
       looked_is well nonempty (family_of_turns p Vs) j c a (in_range_lem p j c a lo hi hc ha)
-      ∙ ap answer (still_is p w well nonempty Vs (j - 1) c a ∙ ap (λ (Z : List (List ℕ)). mem p (get_or Z (j - 1) []) c a) (finished_family p w well nonempty Vs g)
+      ∙ ap Ok (still_is p w well nonempty Vs (j - 1) c a ∙ ap (λ (Z : List (List ℕ)). mem p (get_or Z (j - 1) []) c a) (finished_family p w well nonempty Vs g)
       ∙ both _ _ (family_covered p w (j - 1) c a hj hc ha) (λ t. (rank_covered p w (j - 1) c a hj hc ha).0 (λ z. covers_at p (solver_table p) (j - 1) c a t (table_rank p (j - 1) c a hj hc ha ∙ z))))
 
   pub first_is_matched : FirstIsMatched p
   first_is_matched well nonempty j c a lo hi hc ha =
       let w = well_pair p well in
       let hj : j - 1 < sets_a p = omega arith in (
-        looked_is well nonempty (first_given p) j c a (in_range_lem p j c a lo hi hc ha) ∙ ap answer (first_still w well nonempty (j - 1) c a hj hc ha),
-        λ F m. looked_is well nonempty F j c a (in_range_lem p j c a lo hi hc ha) ∙ ap answer (still_in_is p w F (j - 1) c a hj hc ha ∙ and_false_l _ m),
+        looked_is well nonempty (first_given p) j c a (in_range_lem p j c a lo hi hc ha) ∙ ap Ok (first_still w well nonempty (j - 1) c a hj hc ha),
+        λ F m. looked_is well nonempty F j c a (in_range_lem p j c a lo hi hc ha) ∙ ap Ok (still_in_is p w F (j - 1) c a hj hc ha ∙ and_false_l _ m),
       )
 
   pub solver_is_turns : SolverIsTurns p

@@ -1,5 +1,5 @@
 -- Laws of the solver by turns: the first family row by row, what a turn says and leaves by what the solver says, and the look-up.
-use Rattle.std.specs.Prelude.{Bool, true, false, ◌⊎◌, ◌≡◌, ℕ, ◌+◌, ◌-◌, ◌*◌, ◌/◌, ◌%◌, ◌≤◌, ◌<◌, ltb, leb, length, drop, replicate}
+use Rattle.std.specs.Prelude.{Bool, true, false, ◌⊎◌, ◌≡◌, ℕ, ◌+◌, ◌-◌, ◌*◌, ◌/◌, ◌%◌, ◌≤◌, ◌<◌, ltb, leb, length, drop, replicate, Err, Ok}
 use mathlib.Core.List.{List, [], ◌++◌}
 use Rattle.std.proofs.Math.Logic.{⊎_elim, by_cases}
 use Rattle.std.proofs.Math.Path.{sym, ap}
@@ -22,7 +22,7 @@ use Rattle.machine.specs.declared.Refusal.{Refusal}
 use Rattle.machine.specs.declared.Validity.{Validity}
 use Rattle.machine.specs.declared.Validity.TheVariants.{Valid, Refused}
 use Rattle.machine.specs.Machines.{observation, same_observation, matched, n_c, n_a, sets_a}
-use Rattle.machine.specs.Refusals.{answer, refused, valid, refusal, tested_of, and_then, out_of_range}
+use Rattle.machine.specs.Refusals.{valid, tested_of, and_then}
 use Rattle.machine.specs.RefusalsLaws.{then_of, then_refused, then_then, tested_valid, tested_refused, valid_if, state_made, state_kept}
 use Rattle.machine.specs.WellFormed.{well_formed, nonempty_validity}
 use Rattle.machine.specs.WellFormedLaws.{WellPair, well_pair, valid_is_well, entries_small}
@@ -40,6 +40,7 @@ use Rattle.solver.specs.FamilyRowsLaws.{family_at}
 use Rattle.solver.specs.Solver.{solve_validity, turned_family, turned_table}
 use Rattle.solver.specs.SolverLaws.{solve_long, turned_refused, turned_valid}
 use Rattle.progress.specs.Turns.{first_rows, first_given, finishes, turn_answer, turn_family, says_finished, turn_table, still_in, range_validity, look_up_answer}
+use Rattle.machine.specs.declared.Refusal.TheVariants.{OutOfRange}
 
 -- ---- the first family
 module _ (p : Pair) where
@@ -60,7 +61,7 @@ module _ (p : Pair) where
   unfolding first_given
   first_given_lem e = sym (state_made _ _ _ e)
 
-  pub first_refused : {r : Refusal} → nonempty_validity p ≡ refused r → replicate 448 0 ≡ first_given p
+  pub first_refused : {r : Refusal} → nonempty_validity p ≡ Err r → replicate 448 0 ≡ first_given p
   unfolding first_given
   first_refused e = sym (state_kept _ _ _ e)
 
@@ -77,14 +78,14 @@ solve_same p T room = solve_long p (length T) room ∙ sym (solve_long p _ (omeg
 
 -- ---- a turn, by what the solver says
 module _ (p : Pair) (F T : List ℕ) where
-  pub turn_refused : {r : Refusal} → solve_validity p (length T) ≡ refused r
-      → (turn_answer p F (length T) ≡ refused r) × (turn_family p F (length T) ≡ F) × (turn_table p F T ≡ T)
+  pub turn_refused : {r : Refusal} → solve_validity p (length T) ≡ Err r
+      → (turn_answer p F (length T) ≡ Err r) × (turn_family p F (length T) ≡ F) × (turn_table p F T ≡ T)
   unfolding turn_answer turn_family turn_table says_finished
-  turn_refused e = let a = then_refused _ (answer (finishes p F)) _ e in (a, state_kept _ _ F a, rw a)
+  turn_refused e = let a = then_refused _ (Ok (finishes p F)) _ e in (a, state_kept _ _ F a, rw a)
 
-  pub turn_taken : solve_validity p (length T) ≡ valid → (turn_answer p F (length T) ≡ answer (finishes p F)) × (turn_family p F (length T) ≡ turn_rows p F)
+  pub turn_taken : solve_validity p (length T) ≡ valid → (turn_answer p F (length T) ≡ Ok (finishes p F)) × (turn_family p F (length T) ≡ turn_rows p F)
   unfolding turn_answer turn_family
-  turn_taken e = let a = then_of _ (answer (finishes p F)) e in (a, state_made _ _ F a)
+  turn_taken e = let a = then_of _ (Ok (finishes p F)) e in (a, state_made _ _ F a)
 
   pub table_kept : solve_validity p (length T) ≡ valid → finishes p F ≡ false → turn_table p F T ≡ T
   unfolding turn_table says_finished
@@ -109,7 +110,7 @@ module _ (p : Pair) (F T : List ℕ) where
 -- ---- a turn, by what `solver::turn_family` says of the family and leaves in a table of exactly the room that it asks for
 module _ (p : Pair) (F T : List ℕ) (room : table_room ≤ length T) {v : Validity} {G : List ℕ}
     (told : tested_of v ≡ solve_validity p (length (replicate {A = ℕ} table_room 0))) (made : G ≡ turned_family p F (length (replicate {A = ℕ} table_room 0))) where
-  pub turn_stopped : {r : Refusal} → v ≡ Refused r → (refused r ≡ turn_answer p F (length T)) × ((G ≡ turn_family p F (length T)) × (T ≡ turn_table p F T))
+  pub turn_stopped : {r : Refusal} → v ≡ Refused r → (Err r ≡ turn_answer p F (length T)) × ((G ≡ turn_family p F (length T)) × (T ≡ turn_table p F T))
   turn_stopped q =
       let e = tested_refused told q in
       let k = turn_refused p F T (solve_same p T room ∙ e) in
@@ -128,12 +129,12 @@ module _ (p : Pair) (F T : List ℕ) (room : table_room ≤ length T) {v : Valid
     -- n entries are copied: all where the turn is finished, and else none
     pub turn_made : {U T' : List ℕ} {b : Bool} {n : ℕ} → U ≡ turned_table p F (replicate table_room 0) → b ≡ every 448 (λ e. eqb (get_or F e 0) (get_or G e 0))
         → ((b ≡ true) × (n ≡ entries p)) ⊎ ((b ≡ false) × (n ≡ 0)) → T' ≡ front n (λ e. get_or U e 0) T
-        → (answer b ≡ turn_answer p F (length T)) × ((G ≡ turn_family p F (length T)) × (T' ≡ turn_table p F T))
+        → (Ok b ≡ turn_answer p F (length T)) × ((G ≡ turn_family p F (length T)) × (T' ≡ turn_table p F T))
     unfolding finishes
     turn_made {U} {T'} {b} {n} eu eb en et =
         let k = turn_taken p F T solves in
         let f : b ≡ finishes p F = eb ∙ ap (λ (l : List ℕ). every 448 (λ e. eqb (get_or F e 0) (get_or l e 0))) next_is in (
-          ap answer f ∙ sym k.0,
+          ap Ok f ∙ sym k.0,
           (
             next_is ∙ sym k.1,
             et ∙ ⊎_elim
@@ -147,20 +148,20 @@ module _ (p : Pair) (F T : List ℕ) (room : table_room ≤ length T) {v : Valid
 
 -- ---- the look-up
 module _ (p : Pair) (j c a : ℕ) where
-  range_out : and (and (leb 1 j) (leb j (sets_a p))) (and (ltb c (n_c p)) (ltb a (n_a p))) ≡ false → range_validity p j c a ≡ refused (refusal out_of_range 0 0 0)
+  range_out : and (and (leb 1 j) (leb j (sets_a p))) (and (ltb c (n_c p)) (ltb a (n_a p))) ≡ false → range_validity p j c a ≡ Err OutOfRange
   unfolding range_validity
   range_out e = rw e
 
-  pub below_sections : j < 1 → range_validity p j c a ≡ refused (refusal out_of_range 0 0 0)
+  pub below_sections : j < 1 → range_validity p j c a ≡ Err OutOfRange
   below_sections h = range_out (and_false_l _ (and_false_l _ (lt-leb 1 j h)))
 
-  pub above_sections : sets_a p < j → range_validity p j c a ≡ refused (refusal out_of_range 0 0 0)
+  pub above_sections : sets_a p < j → range_validity p j c a ≡ Err OutOfRange
   above_sections h = range_out (and_false_l _ (and_false_r _ (lt-leb j (sets_a p) h)))
 
-  pub above_concrete : n_c p ≤ c → range_validity p j c a ≡ refused (refusal out_of_range 0 0 0)
+  pub above_concrete : n_c p ≤ c → range_validity p j c a ≡ Err OutOfRange
   above_concrete h = range_out (and_false_r _ (and_false_l _ (le-ltb c (n_c p) h)))
 
-  pub above_abstract : n_a p ≤ a → range_validity p j c a ≡ refused (refusal out_of_range 0 0 0)
+  pub above_abstract : n_a p ≤ a → range_validity p j c a ≡ Err OutOfRange
   above_abstract h = range_out (and_false_r _ (and_false_r _ (le-ltb a (n_a p) h)))
 
   pub in_range_lem : 1 ≤ j → j ≤ sets_a p → c < n_c p → a < n_a p → range_validity p j c a ≡ valid
@@ -177,11 +178,11 @@ module _ (p : Pair) (j c a : ℕ) where
 
   -- the tests in their order decide the answer
   module _ (F : List ℕ) where
-    pub looked_refused : {r : Refusal} → and_then (nonempty_validity p) (range_validity p j c a) ≡ refused r → look_up_answer p F j c a ≡ refused r
+    pub looked_refused : {r : Refusal} → and_then (nonempty_validity p) (range_validity p j c a) ≡ Err r → look_up_answer p F j c a ≡ Err r
     unfolding look_up_answer
     looked_refused e = sym (then_then (nonempty_validity p) (range_validity p j c a) _) ∙ then_refused _ _ _ e
 
-    pub looked_up : and_then (nonempty_validity p) (range_validity p j c a) ≡ valid → look_up_answer p F j c a ≡ answer (still_in p F (j - 1) c a)
+    pub looked_up : and_then (nonempty_validity p) (range_validity p j c a) ≡ valid → look_up_answer p F j c a ≡ Ok (still_in p F (j - 1) c a)
     unfolding look_up_answer
     looked_up e = sym (then_then (nonempty_validity p) (range_validity p j c a) _) ∙ then_of _ _ e
 

@@ -1,12 +1,12 @@
 -- Document 01, "Console and program": the line that `shelf` writes, as ASCII.
-use Rattle.std.specs.Prelude.{List, [], ◌∷◌, ◌++◌, ℕ, take}
+use Rattle.std.specs.Prelude.{List, [], ◌∷◌, ◌++◌, ℕ, take, get_or, Err, None, Ok, Option, Some}
 use Rattle.text.specs.Decimal.{decimal}
 use Rattle.machine.specs.declared.Refusal.{Refusal}
-use Rattle.machine.specs.Refusals.{Result, answer, refused}
-use Rattle.machine.specs.Verdict.{Verdict, carried, not_carried}
+use Rattle.machine.specs.Refusals.{Answer, number_of, spot_of}
 use Rattle.codec.specs.Reader.{input_room}
-use Rattle.codec.specs.Outcomes.{Outcome, says, without_table}
 use Rattle.verdict.specs.Outcomes.{file_outcome}
+use Rattle.machine.specs.declared.Verdict.{Verdict}
+use Rattle.machine.specs.declared.Verdict.TheVariants.{Carried, NotCarried}
 
 abbrev pub blank_space : List ℕ
 blank_space = 32 ∷ []
@@ -33,18 +33,19 @@ refused_text = 114 ∷ 101 ∷ 102 ∷ 117 ∷ 115 ∷ 101 ∷ 100 ∷ 32 ∷ []
 -- "refused NUMBER P Q R"
 unfoldable pub refusal_line : Refusal → List ℕ
 refusal_line r =
-    refused_text ++ (decimal r.number ++ (blank_space ++ (decimal r.first ++ (blank_space ++ (decimal r.second ++ (blank_space ++ (decimal r.third ++ line_feed)))))))
+    let place : ℕ → ℕ = λ i. get_or (spot_of r) i 0 in
+    refused_text ++ (decimal (number_of r) ++ (blank_space ++ (decimal (place 0) ++ (blank_space ++ (decimal (place 1) ++ (blank_space ++ (decimal (place 2) ++ line_feed)))))))
 
 -- "carried COUNT", "not carried C COUNT"
 unfoldable pub verdict_line : Verdict → List ℕ
-verdict_line (carried n) = carried_text ++ (decimal n ++ line_feed)
-verdict_line (not_carried c n) = not_carried_text ++ (decimal c ++ (blank_space ++ (decimal n ++ line_feed)))
+verdict_line (Carried n) = carried_text ++ (decimal n ++ line_feed)
+verdict_line (NotCarried c n) = not_carried_text ++ (decimal c ++ (blank_space ++ (decimal n ++ line_feed)))
 
 -- one of these, "no table", or a refusal's line
-unfoldable pub outcome_line : Result (Outcome Verdict) → List ℕ
-outcome_line (answer (says v)) = verdict_line v
-outcome_line (answer without_table) = no_table_text
-outcome_line (refused r) = refusal_line r
+unfoldable pub outcome_line : Answer (Option Verdict) → List ℕ
+outcome_line (Ok (Some v)) = verdict_line v
+outcome_line (Ok None) = no_table_text
+outcome_line (Err r) = refusal_line r
 
 -- "It takes the first 59,904 bytes of longer input as the file."
 unfoldable pub shelf_line : List ℕ → List ℕ

@@ -3,12 +3,10 @@
 
 ghost use Rattle.std.specs.Prelude.{List, [], ◌∷◌, ◌++◌, ◌≡◌, ℕ, ◌+◌, ◌≤◌, length};
 ghost use Rattle.text.specs.Decimal.{decimal};
-ghost use Rattle.verdict.specs.Outcomes.{outcome_of};
 ghost use Rattle.report.specs.Text.{refusal_line, outcome_line, shelf_line};
 ghost use Rattle.report.specs.Answers.{line_of};
 
-use machine::Refusal;
-use verdict::FileVerdict;
+use machine::{Refusal, Verdict};
 
 // A line of text with its line feed: the first `length` bytes of `text`, and zeros after them.
 #[derive(Clone, Copy)]
@@ -52,27 +50,28 @@ pub fn refusal_line(r: Refusal) -> Line
     ensures value { result ≡ line_of (refusal_line r) }
     ensures room { result.length ≤ 128 }
 {
+    let spot = r.spot();
     let word = started(b"refused ");
-    let number = numbered(word, r.number as usize, b' ');
-    let first = numbered(number, r.first, b' ');
-    let second = numbered(first, r.second, b' ');
-    numbered(second, r.third, b'\n')
+    let number = numbered(word, r.number() as usize, b' ');
+    let first = numbered(number, spot[0], b' ');
+    let second = numbered(first, spot[1], b' ');
+    numbered(second, spot[2], b'\n')
 }
 
 // The line of what is said of a file.
-pub fn verdict_line(v: FileVerdict) -> Line
-    ensures value { result ≡ line_of (outcome_line (outcome_of v)) }
+pub fn verdict_line(said: Result<Option<Verdict>, Refusal>) -> Line
+    ensures value { result ≡ line_of (outcome_line said) }
     ensures room { result.length ≤ 128 }
 {
-    match v {
-        FileVerdict::Carried(n) => numbered(started(b"carried "), n, b'\n'),
-        FileVerdict::NotCarried(c, n) => {
+    match said {
+        Ok(Some(Verdict::Carried { covered })) => numbered(started(b"carried "), covered, b'\n'),
+        Ok(Some(Verdict::NotCarried { lacking, covered })) => {
             let word = started(b"not carried ");
-            let state = numbered(word, c, b' ');
-            numbered(state, n, b'\n')
+            let state = numbered(word, lacking, b' ');
+            numbered(state, covered, b'\n')
         }
-        FileVerdict::NoTable => started(b"no table\n"),
-        FileVerdict::Refused(r) => refusal_line(r),
+        Ok(None) => started(b"no table\n"),
+        Err(refusal) => refusal_line(refusal),
     }
 }
 

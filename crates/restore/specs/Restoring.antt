@@ -1,6 +1,6 @@
 -- A file in, the same show with the solver's table out: what is said and what is left in the lent buffer.
-use Rattle.std.specs.Prelude.{true, List, ℕ, length}
-use Rattle.machine.specs.Refusals.{Result, answer, Tested, and_then, buffer_validity, buffer_after}
+use Rattle.std.specs.Prelude.{true, List, ℕ, length, Ok}
+use Rattle.machine.specs.Refusals.{Tested, and_then, buffer_validity, buffer_after, Answer}
 use Rattle.machine.specs.Ranks.{solver_table}
 use Rattle.machine.specs.Table.{table_room}
 use Rattle.codec.specs.Format.{file_of}
@@ -17,8 +17,8 @@ unfoldable pub restore_validity : List ℕ → ℕ → Tested
 restore_validity f room = and_then (buffer_validity file_room room) (and_then (read_validity f table_room) (solve_validity (pair_of f) table_room))
 
 -- the new file's length, or a refusal
-unfoldable pub restore_answer : List ℕ → List ℕ → Result ℕ
-restore_answer f buffer = and_then (restore_validity f (length buffer)) (answer (length (restored f)))
+unfoldable pub restore_answer : List ℕ → List ℕ → Answer ℕ
+restore_answer f buffer = and_then (restore_validity f (length buffer)) (Ok (length (restored f)))
 
 -- the lent buffer's final content
 unfoldable pub restore_buffer : List ℕ → List ℕ → List ℕ

@@ -1,5 +1,5 @@
 -- Laws of a show with the solver's table: by what reader and solver say, what is answered and what is left in the buffer.
-use Rattle.std.specs.Prelude.{Bool, ◌≡◌, ℕ, ◌≤◌, ◌<◌, replicate}
+use Rattle.std.specs.Prelude.{Bool, ◌≡◌, ℕ, ◌≤◌, ◌<◌, replicate, Err, Ok}
 use Rattle.std.proofs.Math.Bool.{true}
 use mathlib.Core.List.{List, ◌++◌}
 use Rattle.std.proofs.Math.Path.{sym, ap}
@@ -8,7 +8,7 @@ use Rattle.std.proofs.Math.ListN.{length, get_or, drop}
 use Rattle.std.proofs.lemmas.List.{length-replicate}
 use Rattle.machine.specs.declared.Pair.{Pair}
 use Rattle.machine.specs.declared.Refusal.{Refusal}
-use Rattle.machine.specs.Refusals.{answer, refused, valid, refusal, and_then, buffer_validity, short_buffer}
+use Rattle.machine.specs.Refusals.{valid, and_then, buffer_validity}
 use Rattle.machine.specs.RefusalsLaws.{then_of, then_refused, then_answer, given_at, given_refused, buffer_valid, buffer_short, buffer_room, buffer_made, buffer_kept}
 use Rattle.machine.specs.WellFormed.{nonempty_validity, nonempty_sets}
 use Rattle.machine.specs.EmptySetsLaws.{nonempty_valid, nonempty_at}
@@ -28,19 +28,20 @@ use Rattle.solver.specs.Solver.{solve_validity, solved_table}
 use Rattle.solver.specs.SolverLaws.{solve_long}
 use Rattle.solver.specs.SolvedLaws.{solved_same, solved_room}
 use Rattle.restore.specs.Restoring.{restored, restore_validity, restore_answer, restore_buffer}
+use Rattle.machine.specs.declared.Refusal.TheVariants.{ShortBuffer}
 
 -- ---- the tests decide the answer and the buffer
 module _ (f buffer : List ℕ) where
-  stopped : (r : Refusal) → restore_validity f (length buffer) ≡ refused r → (restore_answer f buffer ≡ refused r) × (restore_buffer f buffer ≡ buffer)
+  stopped : (r : Refusal) → restore_validity f (length buffer) ≡ Err r → (restore_answer f buffer ≡ Err r) × (restore_buffer f buffer ≡ buffer)
   unfolding restore_answer restore_buffer
   stopped r e = (then_refused _ _ r e, buffer_kept _ _ buffer e)
 
-  pub restore_short : length buffer < file_room → (restore_answer f buffer ≡ refused (refusal short_buffer 0 0 0)) × (restore_buffer f buffer ≡ buffer)
+  pub restore_short : length buffer < file_room → (restore_answer f buffer ≡ Err ShortBuffer) × (restore_buffer f buffer ≡ buffer)
   unfolding restore_validity
   restore_short h = stopped _ (then_refused _ _ _ (buffer_short file_room (length buffer) h))
 
   pub restore_made : restore_validity f (length buffer) ≡ valid
-      → (restore_answer f buffer ≡ answer (length (restored f))) × (restore_buffer f buffer ≡ restored f ++ drop (length (restored f)) buffer)
+      → (restore_answer f buffer ≡ Ok (length (restored f))) × (restore_buffer f buffer ≡ restored f ++ drop (length (restored f)) buffer)
   unfolding restore_answer restore_buffer
   restore_made e = (then_of _ _ e, buffer_made _ _ buffer e)
 
@@ -65,13 +66,13 @@ module _ (f buffer : List ℕ) where
     restore_valid {p = p} w nonempty = solve_tests w ∙ nonempty_valid p (was_well w) nonempty
 
     -- and what is refused of the machines is what the file solver says
-    pub restore_empty : {lent : List ℕ} {p : Pair} {note : Bool} {r : Refusal} → Was f lent p note → nonempty_validity p ≡ refused r
-        → (restore_answer f buffer ≡ refused r) × (restore_buffer f buffer ≡ buffer)
+    pub restore_empty : {lent : List ℕ} {p : Pair} {note : Bool} {r : Refusal} → Was f lent p note → nonempty_validity p ≡ Err r
+        → (restore_answer f buffer ≡ Err r) × (restore_buffer f buffer ≡ buffer)
     restore_empty w e = stopped _ (solve_tests w ∙ e)
 
     -- ---- by what was read
     module _ (s : Show) (T : List ℕ) (read : read_of s ≡ read_answer f (replicate table_room 0)) (left : T ≡ read_table f (replicate table_room 0)) where
-      pub restore_refused : (r : Refusal) → s.reading ≡ reading.Refused r → (restore_answer f buffer ≡ refused r) × (restore_buffer f buffer ≡ buffer)
+      pub restore_refused : (r : Refusal) → s.reading ≡ reading.Refused r → (restore_answer f buffer ≡ Err r) × (restore_buffer f buffer ≡ buffer)
       unfolding read_answer
       restore_refused r e = stopped r (read_tests ∙ then_refused _ _ r (given_refused _ _ (read_refused s read e)))
 
@@ -83,7 +84,7 @@ module _ (f buffer : List ℕ) where
         long : table_room ≤ length T
         long = rw left (was_long was)
 
-        pub restore_unsolved : (r : Refusal) → solve_validity s.pair (length T) ≡ refused r → (restore_answer f buffer ≡ refused r) × (restore_buffer f buffer ≡ buffer)
+        pub restore_unsolved : (r : Refusal) → solve_validity s.pair (length T) ≡ Err r → (restore_answer f buffer ≡ Err r) × (restore_buffer f buffer ≡ buffer)
         restore_unsolved r told = restore_empty was (sym (solve_long s.pair (length T) long) ∙ told)
 
         -- the writer, given the solver's table, writes what was promised
@@ -99,13 +100,13 @@ module _ (f buffer : List ℕ) where
             ap (λ (q : Pair). file_of q true (solver_table q)) was.pair_is
             ∙ file_cong p true (solver_table p) U (λ t k h. sym (ap (λ (l : List ℕ). get_or l k 0) solved ∙ solved_same p T well nonempty long k h)) in
             let both = restore_made (restore_valid was nonempty) in (
-              both.0 ∙ ap answer (ap length file ∙ file_length_lem p true U) ∙ sym (write_answers p true U buffer well nonempty room_U room),
+              both.0 ∙ ap Ok (ap length file ∙ file_length_lem p true U) ∙ sym (write_answers p true U buffer well nonempty room_U room),
               both.1 ∙ ap (λ (l : List ℕ). l ++ drop (length l) buffer) file
                   ∙ sym (buffer_made _ _ buffer (with_room p (length U) (length buffer) room_U room ∙ nonempty_valid p well nonempty)),
             )
 
 -- ---- the new file fits the room that the call asks for
-pub restore_small : (f buffer : List ℕ) {n : ℕ} → restore_answer f buffer ≡ answer n → n ≤ file_room
+pub restore_small : (f buffer : List ℕ) {n : ℕ} → restore_answer f buffer ≡ Ok n → n ≤ file_room
 unfolding restore_answer restore_validity read_answer restored
 restore_small f buffer e =
     let t = given_at (restore_validity f (length buffer)) (length (restored f)) e in

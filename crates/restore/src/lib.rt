@@ -3,32 +3,25 @@
 
 ghost use Rattle.std.specs.Prelude.{◌≡◌};
 ghost use Rattle.machine.specs.Refusals.{spot_after};
-ghost use Rattle.codec.specs.Answers.{sized_of, length_of};
+ghost use Rattle.codec.specs.Answers.{length_of};
 ghost use Rattle.restore.specs.Restoring.{restore_answer, restore_buffer};
 
-use codec::{Reading, Size};
-use machine::Validity;
+use machine::Refusal;
 
 // Writes the show of a file with the solver's table into the buffer, and gives the new file's length, or where it was stopped: by the reader, or
 // by the solver, which refuses an empty set.
-pub fn solve_bytes(bytes: &[u8], out: &mut [u8]) -> Size
-    ensures answer { sized_of result ≡ restore_answer bytes.now out.old }
+pub fn solve_bytes(bytes: &[u8], out: &mut [u8]) -> Result<usize, Refusal>
+    ensures answer { result ≡ restore_answer bytes.now out.old }
     ensures content { out.new ≡ restore_buffer bytes.now out.old }
 {
     if out.len() < codec::FILE_ROOM {
-        return Size::Refused(machine::refuse(machine::SHORT_BUFFER, 0, 0, 0));
+        return Err(Refusal::ShortBuffer);
     }
     let mut table = [0u16; machine::TABLE_ROOM];
     let show = codec::reader::read_file(bytes, &mut table);
-    let reading = show.reading;
-    let Reading::Taken(_) = reading else {
-        return Size::Refused(codec::reader::refusal_of(reading));
-    };
+    show.reading?;
     let pair = show.pair;
-    let solved = solver::solve(pair, &mut table);
-    if let Validity::Refused(r) = solved {
-        return Size::Refused(r);
-    }
+    solver::solve(pair, &mut table)?;
     codec::writer::write_file(pair, true, &table, out)
 }
 
@@ -38,11 +31,5 @@ pub fn solve_file(bytes: &[u8], out: &mut [u8], spot: &mut [u64; 4]) -> usize
     ensures content { out.new ≡ restore_buffer bytes.now out.old }
     ensures numbers { spot.new ≡ spot_after (restore_answer bytes.now out.old) spot.old }
 {
-    match solve_bytes(bytes, out) {
-        Size::Bytes(n) => n,
-        Size::Refused(r) => {
-            machine::put_refusal(spot, r);
-            0
-        }
-    }
+    machine::told(solve_bytes(bytes, out), spot).unwrap_or(0)
 }

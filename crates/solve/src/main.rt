@@ -2,7 +2,6 @@
 // nothing on standard output. A read that fails ends the input.
 #![tactic(auto)]
 
-use codec::Size;
 use std::io;
 
 fn main(rt: HostRuntime) -> io::Result<()> {
@@ -10,9 +9,9 @@ fn main(rt: HostRuntime) -> io::Result<()> {
     let count = stream::read_full(&mut rt.stdin(), &mut input);
     let mut out = [0u8; codec::FILE_ROOM];
     match restore::solve_bytes(&input[..count], &mut out) {
-        Size::Bytes(n) => rt.write_all(&out[..n]),
-        Size::Refused(r) => {
-            let line = report::refusal_line(r);
+        Ok(n) => rt.write_all(&out[..n]),
+        Err(refusal) => {
+            let line = report::refusal_line(refusal);
             let text = line.text;
             let length = line.length;
             rt.stderr().write_all(&text[..length])

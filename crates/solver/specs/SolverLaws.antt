@@ -1,9 +1,9 @@
 -- Laws of the solver's whole result, and of a turn's.
-use Rattle.std.specs.Prelude.{List, ◌++◌, ◌≡◌, ℕ, ◌≤◌, length, drop}
+use Rattle.std.specs.Prelude.{List, ◌++◌, ◌≡◌, ℕ, ◌≤◌, length, drop, Err}
 use Rattle.std.proofs.Math.Path.{sym}
 use Rattle.machine.specs.declared.Pair.{Pair}
 use Rattle.machine.specs.declared.Refusal.{Refusal}
-use Rattle.machine.specs.Refusals.{valid, refused, buffer_validity}
+use Rattle.machine.specs.Refusals.{valid, buffer_validity}
 use Rattle.machine.specs.RefusalsLaws.{then_of, then_refused, buffer_valid, buffer_made, buffer_kept, state_made, state_kept}
 use Rattle.machine.specs.WellFormed.{nonempty_validity}
 use Rattle.machine.specs.Table.{table_room}
@@ -13,7 +13,7 @@ use Rattle.solver.specs.Solver.{solve_validity, solved_table, turned_family, tur
 
 -- ---- the answer
 module _ (p : Pair) where
-  pub solve_short : (len : ℕ) {r : Refusal} → buffer_validity table_room len ≡ refused r → solve_validity p len ≡ refused r
+  pub solve_short : (len : ℕ) {r : Refusal} → buffer_validity table_room len ≡ Err r → solve_validity p len ≡ Err r
   unfolding solve_validity
   solve_short len e = then_refused _ _ _ e
 
@@ -21,7 +21,7 @@ module _ (p : Pair) where
   unfolding solve_validity
   solve_long len h = then_of _ _ (buffer_valid table_room len h)
 
-  pub solved_refused : (T : List ℕ) (r : Refusal) → solve_validity p (length T) ≡ refused r → T ≡ solved_table p T
+  pub solved_refused : (T : List ℕ) (r : Refusal) → solve_validity p (length T) ≡ Err r → T ≡ solved_table p T
   unfolding solved_table
   solved_refused T r e = sym (buffer_kept _ (solver_table p) T e)
 
@@ -30,7 +30,7 @@ module _ (p : Pair) where
   solved_valid T e = sym (buffer_made _ (solver_table p) T e)
 
   -- ---- a turn of a family
-  pub turned_refused : (F T : List ℕ) (r : Refusal) → solve_validity p (length T) ≡ refused r → (F ≡ turned_family p F (length T)) × (T ≡ turned_table p F T)
+  pub turned_refused : (F T : List ℕ) (r : Refusal) → solve_validity p (length T) ≡ Err r → (F ≡ turned_family p F (length T)) × (T ≡ turned_table p F T)
   unfolding turned_family turned_table
   turned_refused F T r e = (sym (state_kept _ (turn_rows p F) F e), sym (buffer_kept _ _ T e))
 

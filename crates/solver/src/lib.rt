@@ -8,7 +8,6 @@ ghost use Rattle.std.specs.Prelude.{◌≡◌, true, ◌++◌, ◌+◌, ◌-◌,
 ghost use Rattle.mask.specs.Bits.{full_mask};
 ghost use Rattle.mask.specs.Tables.{table};
 ghost use Rattle.machine.specs.Machines.{n_c, n_a, sets_c, sets_a, pairs, fair_set};
-ghost use Rattle.machine.specs.Refusals.{tested_of};
 ghost use Rattle.machine.specs.Table.{blank, table_room};
 ghost use Rattle.machine.specs.Ranks.{rank_table, solver_table};
 ghost use Rattle.machine.specs.Observed.{matched_masks};
@@ -21,14 +20,8 @@ ghost use Rattle.solver.specs.Ranking.{Prepared, Holds, Bounded, RankedTo, AreRa
 ghost use Rattle.solver.specs.Sweeps.{Begun, Renewable, Renewed, Sweeping};
 ghost use Rattle.solver.specs.Solver.{solve_validity, solved_table, turned_family, turned_table};
 
-use machine::{Pair, Validity};
-
-// Whether the tests of `turn_family` pass, and the family that it gives.
-#[derive(Clone, Copy)]
-pub struct TurnedFamily {
-    pub validity: Validity,
-    pub family: [u64; 448],
-}
+use machine::{Pair, Refusal};
+use validity::Sets;
 
 // ---- Entries
 
@@ -289,21 +282,16 @@ fn rank_all(p: Pair, table: &mut [u16])
 }
 
 // Writes the ranks of two machines into a lent table of 28,672 entries or more: exactly n x P entries, and none beside a refusal.
-pub fn solve(p: Pair, table: &mut [u16]) -> Validity
-    ensures answer { tested_of result ≡ solve_validity p (length table.old) }
+pub fn solve(p: Pair, table: &mut [u16]) -> Result<(), Refusal>
+    ensures answer { result ≡ solve_validity p (length table.old) }
     ensures content { table.new ≡ solved_table p table.old }
 {
     if table.len() < machine::TABLE_ROOM {
-        return Validity::Refused(machine::refuse(machine::SHORT_BUFFER, 0, 0, 0));
+        return Err(Refusal::ShortBuffer);
     }
-    let valid = validity::pair_validity(p, validity::NONEMPTY_SETS);
-    match valid {
-        Validity::Refused(r) => Validity::Refused(r),
-        Validity::Valid => {
-            rank_all(p, table);
-            Validity::Valid
-        }
-    }
+    validity::pair_validity(p, Sets::Nonempty)?;
+    rank_all(p, table);
+    Ok(())
 }
 
 // ---- Turns
@@ -428,32 +416,21 @@ fn turn_all(p: Pair, family: [u64; 448], table: &mut [u16]) -> [u64; 448]
     turn(p, &matched, &dependents, &predecessors, family, table)
 }
 
-// Of a family of any rows: the family that a turn makes of it, and the ranks over it in a lent table of 28,672 entries or more, exactly n x P of
-// them. Beside a refusal the family comes back as it was, and nothing is written.
-pub fn turn_family(p: Pair, family: [u64; 448], table: &mut [u16]) -> TurnedFamily
-    ensures validity { tested_of result.validity ≡ solve_validity p (length table.old) }
-    ensures family { result.family ≡ turned_family p family (length table.old) }
-    ensures content { table.new ≡ turned_table p family table.old }
+// Makes of a family of any rows the family of the turn after it, and the ranks over it in a lent table of 28,672 entries or more, exactly n x P of
+// them. Beside a refusal both stay as they were.
+pub fn turn_family(
+    p: Pair,
+    family: &mut [u64; 448],
+    table: &mut [u16],
+) -> Result<(), Refusal>
+    ensures answer { result ≡ solve_validity p (length table.old) }
+    ensures family { family.new ≡ turned_family p family.old (length table.old) }
+    ensures content { table.new ≡ turned_table p family.old table.old }
 {
-    let room = table.len();
-    if room < machine::TABLE_ROOM {
-        return TurnedFamily {
-            validity: Validity::Refused(machine::refuse(machine::SHORT_BUFFER, 0, 0, 0)),
-            family,
-        };
+    if table.len() < machine::TABLE_ROOM {
+        return Err(Refusal::ShortBuffer);
     }
-    let valid = validity::pair_validity(p, validity::NONEMPTY_SETS);
-    match valid {
-        Validity::Refused(r) => TurnedFamily {
-            validity: Validity::Refused(r),
-            family,
-        },
-        Validity::Valid => {
-            let next = turn_all(p, family, table);
-            TurnedFamily {
-                validity: Validity::Valid,
-                family: next,
-            }
-        }
-    }
+    validity::pair_validity(p, Sets::Nonempty)?;
+    *family = turn_all(p, *family, table);
+    Ok(())
 }

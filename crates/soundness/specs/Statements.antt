@@ -1,16 +1,17 @@
 -- What is shown, over the definitions of document 01, of a table that passes each line and of the player. Each statement is a type that holds
 -- all its hypotheses; Theorems.antt gives a proof of each.
-use Rattle.std.specs.Prelude.{true, List, ◌≡◌, ℕ, suc, ◌+◌, ◌≤◌, ◌<◌, length, get_or, take, drop}
+use Rattle.std.specs.Prelude.{true, List, ◌≡◌, ℕ, suc, ◌+◌, ◌≤◌, ◌<◌, length, get_or, take, drop, Ok}
 use Rattle.machine.specs.declared.Pair.{Pair}
-use Rattle.machine.specs.Refusals.{answer, valid}
+use Rattle.machine.specs.Refusals.{valid}
 use Rattle.machine.specs.WellFormed.{well_formed}
 use Rattle.machine.specs.Machines.{successors}
 use Rattle.machine.specs.Lassos.{Lasso, moment, is_play, SameObservations}
 use Rattle.machine.specs.SingleStep.{Best, Chosen}
 use Rattle.machine.specs.Table.{table_room, entry, SameEntries}
 use Rattle.machine.specs.Lines.{non_blank, passes_each}
-use Rattle.machine.specs.Verdict.{HasStarts, carried, lines_verdict, check_verdict}
+use Rattle.machine.specs.Verdict.{HasStarts, lines_verdict, check_verdict}
 use Rattle.machine.specs.Player.{place_at, same_place, last_round, earlier_round, stem_length, loop_length, run, run_room, play_validity, player_answer, player_buffer}
+use Rattle.machine.specs.declared.Verdict.TheVariants.{Carried}
 
 -- the concrete lasso l has a fair lasso of the abstract machine, from a start state, with the same observation at every moment, in the bits that
 -- are not hidden
@@ -25,7 +26,7 @@ PassingIsSound = (p : Pair) (T : List ℕ) → well_formed p ≡ true → passes
 
 -- the same of what the check says
 abbrev pub CarriedIsSound : Type 0
-CarriedIsSound = (p : Pair) (T : List ℕ) (n : ℕ) → lines_verdict p T ≡ answer (carried n) → (l : Lasso) → is_play p.concrete l ≡ true → Matched p l
+CarriedIsSound = (p : Pair) (T : List ℕ) (n : ℕ) → lines_verdict p T ≡ Ok (Carried n) → (l : Lasso) → is_play p.concrete l ≡ true → Matched p l
 
 -- the player's run
 pub record IsRun (p : Pair) (T : List ℕ) (l : Lasso) : Type 0 where

@@ -1,5 +1,5 @@
 -- Entries past n × P are not looked at: for each pair, lasso and buffer, the player says the same of two tables with the same n × P entries.
-use Rattle.std.specs.Prelude.{List, ◌≡◌}
+use Rattle.std.specs.Prelude.{List, ◌≡◌, Ok}
 use Rattle.std.proofs.Math.Path.{refl, sym, ap}
 use Rattle.std.proofs.Common.{◌∙◌}
 use Prim.Native.Nat.{ℕ, zero, suc, ◌+◌, ◌*◌, ◌≤◌, ◌<◌}
@@ -8,7 +8,7 @@ use Rattle.mask.specs.Logic.{and}
 use Rattle.mask.specs.BoundedLaws.{first_cong, some_cong}
 use Rattle.mask.specs.TablesLaws.{table_cong}
 use Rattle.machine.specs.declared.Pair.{Pair}
-use Rattle.machine.specs.Refusals.{answer, valid}
+use Rattle.machine.specs.Refusals.{valid}
 use Rattle.machine.specs.RefusalsLaws.{then_answer, buffer_valid, then_same, after_same}
 use Rattle.machine.specs.Machines.{matched, moves, starts, successors, n_c, n_a, sets_a}
 use Rattle.machine.specs.WellFormedLaws.{WellPair, well_valid}
@@ -105,7 +105,7 @@ module _ (p : Pair) (T U : List ℕ) (same : SameEntries p T U) where
 
     pub answer_same : player_answer p T l buffer ≡ player_answer p U l buffer
     unfolding player_answer
-    answer_same = then_same _ _ _ _ all_same (λ e. ap answer (lengths_unread l (tested e)))
+    answer_same = then_same _ _ _ _ all_same (λ e. ap Ok (lengths_unread l (tested e)))
 
     pub buffer_same : player_buffer p T l buffer ≡ player_buffer p U l buffer
     unfolding player_buffer

@@ -1,17 +1,17 @@
 -- What is shown of the game over the definitions of document 01, and of document 000's figure 2. Each statement is a type with its hypotheses in it,
 -- and FixpointTheorems.antt and RankTheorems.antt of proofs/ give a proof of each: what is shown of well-formed machines only has `well_formed p ≡ true`, and
 -- the others hold for machines of any content.
-use Rattle.std.specs.Prelude.{true, false, List, [], ◌⊎◌, ◌↔◌, ◌≡◌, ℕ, suc, ◌+◌, ◌-◌, ◌*◌, ◌≤◌, ◌<◌, get_or}
+use Rattle.std.specs.Prelude.{true, false, List, [], ◌⊎◌, ◌↔◌, ◌≡◌, ℕ, suc, ◌+◌, ◌-◌, ◌*◌, ◌≤◌, ◌<◌, get_or, Ok}
 use Rattle.machine.specs.declared.Pair.{Pair}
 use Rattle.machine.specs.Machines.{n_c, n_a, sets_c, sets_a, pairs, starts, matched}
 use Rattle.machine.specs.WellFormed.{well_formed}
 use Rattle.machine.specs.Game.{mem, goals, in_x, x_after, x_over, level, x_set, levels, turn, family_after, family}
 use Rattle.machine.specs.Ranks.{level_of, set_of, rank, solver_table}
-use Rattle.machine.specs.Refusals.{answer}
 use Rattle.machine.specs.Table.{blank, entry, covers, IsTable}
 use Rattle.machine.specs.Lines.{passes_each}
-use Rattle.machine.specs.Verdict.{HasStarts, carried, not_carried, start_covered, lines_verdict}
+use Rattle.machine.specs.Verdict.{HasStarts, start_covered, lines_verdict}
 use Rattle.theory.specs.Figure2.{Set, Cor, approx, UnderX, Innermost, row, figure2, IterateY, FigureGoal, FigureX}
+use Rattle.machine.specs.declared.Verdict.TheVariants.{Carried, NotCarried}
 
 module _ (p : Pair) where
   -- every pair of S is one of R
@@ -136,7 +136,7 @@ module _ (p : Pair) where
   -- 5. the check says Carried of the solver's table exactly when some table passes each line and has the start pairs
   abbrev pub CarriedExactly : Type 0
   CarriedExactly = well_formed p ≡ true
-      → ((n : ℕ) × (lines_verdict p (solver_table p) ≡ answer (carried n))) ↔ ((T : List ℕ) × IsTable p T × (passes_each p T ≡ true) × HasStarts p T)
+      → ((n : ℕ) × (lines_verdict p (solver_table p) ≡ Ok (Carried n))) ↔ ((T : List ℕ) × IsTable p T × (passes_each p T ≡ true) × HasStarts p T)
 
 -- NotCarried's c is the lowest start state that lacks a partner
 pub record IsLowest (p : Pair) (T : List ℕ) (c : ℕ) : Type 0 where
@@ -146,7 +146,7 @@ pub record IsLowest (p : Pair) (T : List ℕ) (c : ℕ) : Type 0 where
   pub lower : (d : ℕ) → d < c → starts p.concrete d ≡ true → start_covered p T d ≡ true
 
 abbrev pub NotCarriedIsLowest : Type 0
-NotCarriedIsLowest = (p : Pair) (T : List ℕ) (c n : ℕ) → lines_verdict p T ≡ answer (not_carried c n) → IsLowest p T c
+NotCarriedIsLowest = (p : Pair) (T : List ℕ) (c n : ℕ) → lines_verdict p T ≡ Ok (NotCarried c n) → IsLowest p T c
 
 -- l and k come back from r
 abbrev pub PlaceComesBack : Type 0

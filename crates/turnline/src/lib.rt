@@ -10,13 +10,6 @@ ghost use Rattle.turnline.specs.Lines.{rows_count, turn_line, finished_line};
 use machine::Pair;
 use report::Line;
 
-// How many of n sections a family holds: it has rows for 7.
-fn held(n: usize) -> usize
-    ensures { result ≡ min n 7 }
-{
-    if n < 7 { n } else { 7 }
-}
-
 // How many bits of a section's rows are matched pairs: of section j, counted from 0.
 fn section_count(matched: [u64; 64], family: [u64; 448], j: usize) -> usize
     requires { j < 7 }
@@ -46,7 +39,8 @@ pub fn turn_line(p: Pair, t: usize, family: [u64; 448]) -> Line
     ensures room { result.length ≤ 128 }
 {
     let abstraction = p.abstraction;
-    let n = held(abstraction.sets);
+    // a family has rows for 7 sections
+    let n = abstraction.sets.min(7);
     let matched = machine::matched_masks(p);
     let mut out = [0u8; 128];
     text::put(&mut out, 0, b"turn ");

@@ -4,9 +4,7 @@
 
 ghost use Rattle.std.specs.Prelude.{◌≤◌};
 
-use codec::Reading;
-use machine::{Pair, Validity};
-use progress::Turned;
+use machine::Pair;
 use report::Line;
 use std::io;
 
@@ -25,15 +23,14 @@ fn write_line(rt: &impl Print, line: Line) -> io::Result<()>
 fn take_turns(rt: &impl Print, pair: Pair, first: [u64; 448], table: &mut [u16]) -> io::Result<()> {
     let mut family = first;
     for t in 1..=MOST_TURNS {
-        let made = progress::turn(pair, family, table);
-        family = made.family;
-        let said = made.said;
-        if let Turned::Refused(r) = said {
-            return write_line(rt, report::refusal_line(r));
-        }
-        write_line(rt, turnline::turn_line(pair, t, family))?;
-        if let Turned::Finished = said {
-            return write_line(rt, turnline::finished_line(t));
+        match progress::turn(pair, &mut family, table) {
+            Err(refusal) => return write_line(rt, report::refusal_line(refusal)),
+            Ok(finished) => {
+                write_line(rt, turnline::turn_line(pair, t, family))?;
+                if finished {
+                    return write_line(rt, turnline::finished_line(t));
+                }
+            }
         }
     }
     Ok(())
@@ -44,19 +41,9 @@ fn main(rt: HostRuntime) -> io::Result<()> {
     let count = stream::read_full(&mut rt.stdin(), &mut input);
     let mut table = [0u16; machine::TABLE_ROOM];
     let show = codec::reader::read_file(&input[..count], &mut table);
-    let reading = show.reading;
-    let Reading::Taken(_) = reading else {
-        return write_line(
-            &rt,
-            report::refusal_line(codec::reader::refusal_of(reading)),
-        );
-    };
     let pair = show.pair;
-    let first = progress::first_family(pair);
-    let valid = first.validity;
-    let rows = first.family;
-    match valid {
-        Validity::Refused(r) => write_line(&rt, report::refusal_line(r)),
-        Validity::Valid => take_turns(&rt, pair, rows, &mut table),
+    match show.reading.and_then(|_| progress::first_family(pair)) {
+        Err(refusal) => write_line(&rt, report::refusal_line(refusal)),
+        Ok(first) => take_turns(&rt, pair, first, &mut table),
     }
 }

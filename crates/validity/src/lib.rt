@@ -4,11 +4,18 @@
 
 ghost use Rattle.std.specs.Prelude.{◌≡◌, cond, ltb, eqb, length};
 ghost use Rattle.mask.specs.Logic.{not, or};
-ghost use Rattle.mask.specs.Bounded.{some};
-ghost use Rattle.machine.specs.Refusals.{tested_of};
-ghost use Rattle.machine.specs.WellFormed.{counts_ok, beyond, state_beyond, set_beyond, is_beyond_counts, first_empty, lowest_empty_set, has_empty_set, content_validity, content_tests, machine_validity, pair_tests};
+ghost use Rattle.mask.specs.Bounded.{some, below};
+ghost use Rattle.validity.specs.Asked.{asks_states};
+ghost use Rattle.machine.specs.WellFormed.{counts_ok, beyond, state_beyond, set_beyond, is_beyond_counts, first_empty, lowest_empty_set, has_empty_set, content_validity, sets_validity, content_tests, machine_validity, pair_tests};
 
-use machine::{Machine, Pair, Validity};
+use machine::{Machine, Pair, Refusal};
+
+// What is asked of the fairness sets: nothing, or that each has a state.
+#[derive(Clone, Copy, Debug, PartialEq, Eq)]
+pub enum Sets {
+    Any,
+    Nonempty,
+}
 
 // Whether a machine has 1 to 64 states and 1 to `limit` sets.
 pub fn counts_ok(limit: usize, states: usize, sets: usize) -> bool
@@ -50,12 +57,7 @@ fn state_beyond(states: usize, observation: u8, successors: u64, s: usize) -> bo
 fn states_beyond(states: usize, observations: &[u8; 64], successors: &[u64; 64]) -> bool
     ensures { result ≡ some 64 (state_beyond states observations.now successors.now) }
 {
-    for s in 0..64 {
-        if state_beyond(states, observations[s], successors[s], s) {
-            return true;
-        }
-    }
-    false
+    (0..64).any(|s| state_beyond(states, observations[s], successors[s], s))
 }
 
 // Whether the entry of set k, or a state of that set, lies beyond the counts.
@@ -72,26 +74,14 @@ fn set_beyond(states: usize, sets: usize, members: u64, k: usize) -> bool
 fn sets_beyond(states: usize, sets: usize, fairness: &[u64; 8]) -> bool
     ensures { result ≡ some 8 (set_beyond states sets fairness.now) }
 {
-    for k in 0..8 {
-        if set_beyond(states, sets, fairness[k], k) {
-            return true;
-        }
-    }
-    false
+    (0..8).any(|k| set_beyond(states, sets, fairness[k], k))
 }
 
-// The lowest of the first `count` masks that has no state; the number of masks where there is none.
-fn first_empty(count: usize, masks: &[u64]) -> usize
-    ensures { result ≡ first_empty (length masks.now) count masks.now }
+// The lowest of the first `count` masks that has no state.
+fn first_empty(count: usize, masks: &[u64]) -> Option<usize>
+    ensures { result ≡ below (length masks.now) (first_empty (length masks.now) count masks.now) }
 {
-    for i in 0..masks.len() {
-        if i < count {
-            if masks[i] == 0 {
-                return i;
-            }
-        }
-    }
-    masks.len()
+    (0..masks.len()).find(|i| *i < count && masks[*i] == 0)
 }
 
 // Whether a bit or an entry of a machine lies beyond its counts.
@@ -111,26 +101,28 @@ fn beyond_counts(m: Machine) -> bool
 }
 
 // Refusals 9, 10 and 11 of one machine, which is number `index` of a pair.
-fn content_validity(index: usize, m: Machine) -> Validity
-    ensures { tested_of result ≡ content_validity index m }
+fn content_validity(index: usize, m: Machine) -> Result<(), Refusal>
+    ensures { result ≡ content_validity index m }
 {
     if beyond_counts(m) {
-        return Validity::Refused(machine::refuse(machine::BEYOND_COUNTS, index, 0, 0));
+        return Err(Refusal::BeyondCounts { machine: index });
     }
     if m.start == 0 {
-        return Validity::Refused(machine::refuse(machine::NO_START, index, 0, 0));
+        return Err(Refusal::NoStart { machine: index });
     }
     let successors = m.successors;
-    let s = first_empty(m.states, &successors);
-    if s < 64 {
-        return Validity::Refused(machine::refuse(machine::NO_SUCCESSOR, index, s, 0));
+    match first_empty(m.states, &successors) {
+        Some(state) => Err(Refusal::NoSuccessor {
+            machine: index,
+            state,
+        }),
+        None => Ok(()),
     }
-    Validity::Valid
 }
 
-// The lowest set without a state, counted from 0; 8 where there is none.
-fn empty_set(m: Machine) -> usize
-    ensures { result ≡ lowest_empty_set m.sets m.fairness }
+// The lowest set without a state, counted from 0.
+fn empty_set(m: Machine) -> Option<usize>
+    ensures { result ≡ below 8 (lowest_empty_set m.sets m.fairness) }
 {
     let fairness = m.fairness;
     first_empty(m.sets, &fairness)
@@ -140,57 +132,56 @@ fn empty_set(m: Machine) -> usize
 pub fn has_empty_set(m: Machine) -> bool
     ensures { result ≡ has_empty_set m }
 {
-    empty_set(m) < 8
+    empty_set(m).is_some()
+}
+
+// Refusal 21 of machine number `index`.
+fn sets_validity(index: usize, m: Machine) -> Result<(), Refusal>
+    ensures { result ≡ sets_validity index m }
+{
+    match empty_set(m) {
+        Some(k) => Err(Refusal::EmptySet {
+            machine: index,
+            set: k + 1,
+        }),
+        None => Ok(()),
+    }
 }
 
 // Refusals 9 to 11 of machine number `index`, and 21 behind them where its sets shall be nonempty.
-fn content_tests(nonempty: bool, index: usize, m: Machine) -> Validity
-    ensures { tested_of result ≡ content_tests nonempty index m }
+fn content_tests(sets: Sets, index: usize, m: Machine) -> Result<(), Refusal>
+    ensures { result ≡ content_tests (asks_states sets) index m }
 {
-    let content = content_validity(index, m);
-    if let Validity::Refused(r) = content {
-        return Validity::Refused(r);
+    content_validity(index, m)?;
+    match sets {
+        Sets::Any => Ok(()),
+        Sets::Nonempty => sets_validity(index, m),
     }
-    if nonempty {
-        let k = empty_set(m);
-        if k < 8 {
-            return Validity::Refused(machine::refuse(machine::EMPTY_SET, index, k + 1, 0));
-        }
-    }
-    Validity::Valid
 }
 
 // Whether one machine, which has at most `limit` sets, is well formed; it is machine 0.
-pub fn machine_validity(limit: usize, m: Machine) -> Validity
-    ensures { tested_of result ≡ machine_validity limit m }
+pub fn machine_validity(limit: usize, m: Machine) -> Result<(), Refusal>
+    ensures { result ≡ machine_validity limit m }
 {
     if !counts_ok(limit, m.states, m.sets) {
-        return Validity::Refused(machine::refuse(machine::BAD_COUNTS, 0, 0, 0));
+        return Err(Refusal::BadCounts);
     }
     content_validity(0, m)
 }
 
-// What `pair_validity` asks of the fairness sets: any, or that each has a state.
-pub const ANY_SETS: bool = false;
-
-pub const NONEMPTY_SETS: bool = true;
-
 // Whether a pair is well formed, and every set nonempty if that is asked: the counts of both, then the whole concrete machine, then the whole
 // abstract one.
-pub fn pair_validity(p: Pair, nonempty: bool) -> Validity
-    ensures { tested_of result ≡ pair_tests nonempty p }
+pub fn pair_validity(p: Pair, sets: Sets) -> Result<(), Refusal>
+    ensures { result ≡ pair_tests (asks_states sets) p }
 {
     let c = p.concrete;
     let a = p.abstraction;
     if !counts_ok(8, c.states, c.sets) {
-        return Validity::Refused(machine::refuse(machine::BAD_COUNTS, 0, 0, 0));
+        return Err(Refusal::BadCounts);
     }
     if !counts_ok(7, a.states, a.sets) {
-        return Validity::Refused(machine::refuse(machine::BAD_COUNTS, 0, 0, 0));
+        return Err(Refusal::BadCounts);
     }
-    let concrete = content_tests(nonempty, 0, c);
-    match concrete {
-        Validity::Refused(r) => Validity::Refused(r),
-        Validity::Valid => content_tests(nonempty, 1, a),
-    }
+    content_tests(sets, 0, c)?;
+    content_tests(sets, 1, a)
 }

@@ -1,7 +1,7 @@
 -- What is shown of the solver by turns on a file's bytes. Each statement is a type; Theorems.antt gives its proof, by name.
-use Rattle.std.specs.Prelude.{true, List, ◌≡◌, ℕ, length}
+use Rattle.std.specs.Prelude.{true, List, ◌≡◌, ℕ, length, Err}
 use Rattle.machine.specs.declared.Refusal.{Refusal}
-use Rattle.machine.specs.Refusals.{valid, refused}
+use Rattle.machine.specs.Refusals.{valid}
 use Rattle.machine.specs.WellFormed.{well_formed, nonempty_sets}
 use Rattle.codec.specs.Reader.{pair_of}
 use Rattle.progress.specs.Turns.{first_given, turn_answer, turn_family, turn_table, look_up_answer}
@@ -25,4 +25,4 @@ module _ (f : List ℕ) where
   -- a refusal "changes no lent buffer", and "a state handed in comes back unchanged"
   abbrev pub RefusalsLeave : Type 0
   RefusalsLeave = (r : Refusal) (F T : List ℕ)
-      → (first_file f ≡ refused r → first_file_rows f F ≡ F) × (turn_file f F (length T) ≡ refused r → (turn_file_rows f F (length T) ≡ F) × (turn_file_table f F T ≡ T))
+      → (first_file f ≡ Err r → first_file_rows f F ≡ F) × (turn_file f F (length T) ≡ Err r → (turn_file_rows f F (length T) ≡ F) × (turn_file_table f F T ≡ T))

@@ -1,11 +1,11 @@
 -- Each return is what the definitions say of the reading, and of the machine asked for, that led there.
 use mathlib.Core.Path.{sym, ap, ◌∙◌}
 use native.Mathlib.Omega.{arith}
-use Rattle.machine.specs.Refusals.{refused}
 use Rattle.codec.specs.Answers.{sized_of}
 use Rattle.codec.specs.AnswersLaws.{refusal_of_lem}
 use Rattle.codec.proofs.FileLaws.{machines_taken, machines_pair, machines_refused}
 use Rattle.export.specs.ExportingLaws.{first_machine, second_machine, export_short, export_unread, export_neither, export_written}
+use Rattle.std.specs.Prelude.{Err}
 use Rattle.export.proofs.text_bytes.Goals as goal
 
 pub returns-then-out-lt-TEXT_ROOM : goal.returns-then-out-lt-TEXT_ROOM
@@ -13,7 +13,7 @@ unfolding sized_of
 returns-then-out-lt-TEXT_ROOM c =
     let x = c.args in
     let both = export_short x.bytes.now x.which x.out.now c.if-out-lt-TEXT_ROOM.true in
-    record { answer = ap refused c.refuse.ensures ∙ sym both.0; content = sym both.1 }
+    record { answer = ap Err c.refuse.ensures ∙ sym both.0; content = sym both.1 }
 
 pub returns-in_default : goal.returns-in_default
 unfolding sized_of
@@ -21,7 +21,7 @@ returns-in_default c =
     let x = c.args in
     let told = c.in_default.is in
     let both = export_unread x.bytes.now x.which x.out.now (omega (arith, c.if-out-lt-TEXT_ROOM.false)) (machines_refused _ _ c.read_file-show.ensures.answer told) in
-    record { answer = ap refused (c.refusal_of.ensures ∙ refusal_of_lem told) ∙ sym both.0; content = sym both.1 }
+    record { answer = ap Err (c.refusal_of.ensures ∙ refusal_of_lem told) ∙ sym both.0; content = sym both.1 }
 
 pub returns-in-0 : goal.returns-in-0
 returns-in-0 c =
@@ -48,4 +48,4 @@ unfolding sized_of
 returns-in_default-which c =
     let x = c.args in
     let both = export_neither x.bytes.now x.which x.out.now (omega (arith, c.if-out-lt-TEXT_ROOM.false)) (machines_taken _ _ c.read_file-show.ensures.answer c.in-Taken.is) (omega arith) in
-    record { answer = ap refused c.refuse-in_default-which.ensures ∙ sym both.0; content = sym both.1 }
+    record { answer = ap Err c.refuse-in_default-which.ensures ∙ sym both.0; content = sym both.1 }

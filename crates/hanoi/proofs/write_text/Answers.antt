@@ -1,11 +1,11 @@
 -- The buffer, then the machine; then the text, which is at the front.
 use mathlib.Core.Path.{sym, ap, ◌∙◌}
 use native.Mathlib.Omega.{arith}
-use Rattle.machine.specs.Refusals.{refused}
 use Rattle.machine.specs.RefusalsLaws.{tested_valid, tested_refused}
 use Rattle.machine.specs.WellFormedLaws.{valid_machine}
 use Rattle.codec.specs.Answers.{sized_of}
 use Rattle.hanoi.proofs.CallLaws.{text_short, text_stopped, text_placed}
+use Rattle.std.specs.Prelude.{Err}
 use Rattle.hanoi.proofs.write_text.Goals as goal
 
 pub returns-then-out-lt-TEXT_ROOM : goal.returns-then-out-lt-TEXT_ROOM
@@ -13,7 +13,7 @@ unfolding sized_of
 returns-then-out-lt-TEXT_ROOM c =
     let x = c.args in
     let both = text_short x.m x.out.now c.if-out-lt-TEXT_ROOM.true in
-    record { answer = ap refused c.refuse.ensures ∙ sym both.0; content = sym both.1 }
+    record { answer = ap Err c.refuse.ensures ∙ sym both.0; content = sym both.1 }
 
 pub returns-in-Refused : goal.returns-in-Refused
 unfolding sized_of

@@ -1,11 +1,11 @@
 -- The tests are made in the order of the definition, and each return is the first that refuses, or the answer.
 use mathlib.Core.Path.{sym, ap, ◌∙◌}
 use native.Mathlib.Omega.{arith}
-use Rattle.machine.specs.Refusals.{refused}
 use Rattle.machine.specs.RefusalsLaws.{tested_valid, tested_refused}
 use Rattle.machine.specs.VerdictLaws.{check_short, check_invalid, check_fails, check_passes, empty_told_refused, empty_told_beside}
 use Rattle.machine.specs.WellFormedLaws.{valid_is_well}
 use Rattle.linecheck.specs.Answers.{verdict_of, empty_set_of}
+use Rattle.std.specs.Prelude.{Err}
 use Rattle.linecheck.proofs.check_table.Goals as goal
 
 pub returns-then-table-lt-TABLE_ROOM : goal.returns-then-table-lt-TABLE_ROOM
@@ -13,7 +13,7 @@ unfolding verdict_of empty_set_of
 returns-then-table-lt-TABLE_ROOM c =
     let x = c.args in
     let said = check_short x.p x.table.now c.if-table-lt-TABLE_ROOM.true in
-    record { verdict = ap refused c.refuse.ensures ∙ sym said; empty = sym (empty_told_refused x.p x.table.now said) }
+    record { verdict = ap Err c.refuse.ensures ∙ sym said; empty = sym (empty_told_refused x.p x.table.now said) }
 
 pub returns-in-Refused : goal.returns-in-Refused
 unfolding verdict_of empty_set_of

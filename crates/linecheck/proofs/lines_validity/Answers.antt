@@ -17,7 +17,7 @@ use Rattle.mask.specs.Bounded.{every_in}
 use Rattle.mask.specs.BoundedLaws.{every_at, every_of, every_in_zero}
 use Rattle.mask.specs.WalkLaws.{every_in_hit, every_in_miss}
 use Rattle.machine.specs.declared.Pair.{Pair}
-use Rattle.machine.specs.Refusals.{refused, tested_of}
+use Rattle.machine.specs.Refusals.{tested_of}
 use Rattle.machine.specs.Machines.{n_c, n_a, sets_a}
 use Rattle.machine.specs.WellFormedLaws.{WellPair, well_pair, pairs_small, ranks_small}
 use Rattle.machine.specs.Step.{single_step, in_row, found}
@@ -29,6 +29,7 @@ use Rattle.machine.specs.LinesLaws.{lines_fail, lines_valid, each_of}
 use Rattle.linecheck.specs.BoundsLaws.{place_at_lem, serves, line_section, moves_small, passes_if_blank, passes_if, fails_if, taken_lt, step_found}
 use Rattle.linecheck.proofs.lines_validity.Goals as goal
 use Rattle.linecheck.proofs.lines_validity.Goals.{After-entry_index-at, After-entry_index-from, After-line_of-line, else-e, then-e+else-not-line+else-loop-rest-test}
+use Rattle.std.specs.Prelude.{Err}
 
 -- the entry's place
 place_of_lem : (c : After-entry_index-at)
@@ -107,10 +108,10 @@ told c present entries =
 -- the first entry that fails is where the loops are left, with its spot
 stopped : (c : After-line_of-line)
     → let x = c.args in
-    passes x.p x.table.now c.lines.j c.loop-c.c c.loop-a.a ≡ false → refused c.refuse-spot.result ≡ lines_validity x.p x.table.now
+    passes x.p x.table.now c.lines.j c.loop-c.c c.loop-a.a ≡ false → Err c.refuse-spot.result ≡ lines_validity x.p x.table.now
 stopped c e =
     let x = c.args in
-    ap refused c.refuse-spot.ensures ∙ rw add-one (sym (lines_fail x.p x.table.now c.lines.j c.loop-c.c c.loop-a.a c.lines-test.true c.loop-c-test.true c.loop-a-test.true e
+    ap Err c.refuse-spot.ensures ∙ rw add-one (sym (lines_fail x.p x.table.now c.lines.j c.loop-c.c c.loop-a.a c.lines-test.true c.loop-c-test.true c.loop-a-test.true e
     c.lines.invariant.0 c.loop-c.invariant.0 c.loop-a.invariant.0))
 
 pub overflow_mul-most : goal.overflow_mul-most

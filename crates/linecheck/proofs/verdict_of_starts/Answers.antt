@@ -3,10 +3,10 @@
 use mathlib.Core.Path.{sym, ap}
 use native.Mathlib.Omega.{arith}
 use Rattle.machine.specs.WellFormedLaws.{well_pair, pairs_small, entries_small}
-use Rattle.machine.specs.Refusals.{answer}
 use Rattle.machine.specs.Table.{covered_count}
 use Rattle.machine.specs.VerdictLaws.{start_lacking, start_carried}
 use Rattle.linecheck.specs.Answers.{verdict_of, empty_set_of}
+use Rattle.std.specs.Prelude.{Ok}
 use Rattle.linecheck.proofs.verdict_of_starts.Goals as goal
 
 pub overflow_mul-nc : goal.overflow_mul-nc
@@ -23,7 +23,7 @@ unfolding verdict_of empty_set_of covered_count
 returns-then-c-nc c =
     let x = c.args in
     record {
-      verdict = sym (ap answer (start_lacking x.p x.table.now _ _ c.covered_count-found.ensures c.lacking_start-c.ensures (omega arith)));
+      verdict = sym (ap Ok (start_lacking x.p x.table.now _ _ c.covered_count-found.ensures c.lacking_start-c.ensures (omega arith)));
       empty = c.has_empty_set-empty.ensures;
     }
 
@@ -32,6 +32,6 @@ unfolding verdict_of empty_set_of covered_count
 returns-else-c-nc c =
     let x = c.args in
     record {
-      verdict = sym (ap answer (start_carried x.p x.table.now _ _ c.covered_count-found.ensures c.lacking_start-c.ensures (omega arith)));
+      verdict = sym (ap Ok (start_carried x.p x.table.now _ _ c.covered_count-found.ensures c.lacking_start-c.ensures (omega arith)));
       empty = c.has_empty_set-empty.ensures;
     }

@@ -7,10 +7,10 @@ use Rattle.mask.specs.Bits.{with_bit}
 use Rattle.machine.specs.Observed.{same_mask}
 use Rattle.machine.specs.ObservedLaws.{same_none, same_hit, same_miss, same_min}
 use Rattle.machine.proofs.same_mask.Goals as goal
-use Rattle.machine.proofs.same_mask.Goals.{else-n-lt64, else-same_observation, then-n-lt64, then-same_observation}
+use Rattle.machine.proofs.same_mask.Goals.{else-same_observation, then-same_observation}
 
 pub loop-a-init : goal.loop-a-init
-loop-a-init c = (search rules, elim c.if-n-lt64.branch [ then-n-lt64 w ↦ omega arith | else-n-lt64 w ↦ omega arith ], sym (same_none c.args.hidden c.args.o c.args.observations.now))
+loop-a-init c = (search rules, c.min-a-end.ensures, sym (same_none c.args.hidden c.args.o c.args.observations.now))
 
 pub loop-a-preserved : goal.loop-a-preserved
 loop-a-preserved c =

@@ -5,13 +5,13 @@ use Prim.Native.Nat.{ℕ}
 use native.Mathlib.Omega.{arith}
 use Rattle.machine.specs.declared.Pair.{Pair}
 use Rattle.machine.specs.declared.Refusal.{Refusal}
-use Rattle.machine.specs.Refusals.{valid, answer, refused}
+use Rattle.machine.specs.Refusals.{valid}
 use Rattle.machine.specs.RefusalsLaws.{tested_valid, tested_refused}
 use Rattle.machine.specs.Machines.{starts}
 use Rattle.machine.specs.WellFormedLaws.{well_valid}
 use Rattle.machine.specs.Lassos.{moment, given}
 use Rattle.machine.specs.Step.{state_of}
-use Rattle.machine.specs.Verdict.{Verdict, check_verdict, carried, not_carried}
+use Rattle.machine.specs.Verdict.{check_verdict}
 use Rattle.machine.specs.Player.{lasso_validity, start_partner}
 use Rattle.machine.specs.PlayerLaws.{start_single, play_valid}
 use Rattle.linecheck.specs.declared.Checked.{Checked}
@@ -22,12 +22,15 @@ use Rattle.player.specs.Answers.{played_of}
 use Rattle.player.specs.AnswerLaws.{Passes, check_tells, stopped_by, short_run, check_stops, lasso_stops, start_stops, run_answer, run_buffer}
 use Rattle.player.proofs.play.Goals as goal
 use Rattle.player.proofs.play.Goals.{After-best_partner-first}
+use Rattle.machine.specs.declared.Verdict.{Verdict}
+use Rattle.machine.specs.declared.Verdict.TheVariants.{Carried, NotCarried}
+use Rattle.std.specs.Prelude.{Err, Ok}
 
 -- the check has refused nothing
-taken : (a : Checked) → ((r : Refusal) → a ≡ Refused r → ⊥) → (v : Verdict) × (verdict_of a ≡ answer v)
+taken : (a : Checked) → ((r : Refusal) → a ≡ Refused r → ⊥) → (v : Verdict) × (verdict_of a ≡ Ok v)
 unfolding verdict_of
-taken (Carried n empty) k = (carried n, refl)
-taken (NotCarried c n empty) k = (not_carried c n, refl)
+taken (Carried n empty) k = (Carried n, refl)
+taken (NotCarried c n empty) k = (NotCarried c n, refl)
 taken (Refused s) k = absurd (k s refl)
 
 passes : (p : Pair) (T : List ℕ) (a : Checked) → verdict_of a ≡ check_verdict p T → ((r : Refusal) → a ≡ Refused r → ⊥) → Passes p T
@@ -38,7 +41,7 @@ returns-then-run-lt-RUN_ROOM c =
     let x = c.args in
     let l = given x.stem.now x.cycle.now in
     let s = stopped_by x.p x.table.now l x.run.now c.refuse.result
-    (short_run x.p x.table.now l x.run.now c.if-run-lt-RUN_ROOM.true ∙ ap refused (sym c.refuse.ensures)) in
+    (short_run x.p x.table.now l x.run.now c.if-run-lt-RUN_ROOM.true ∙ ap Err (sym c.refuse.ensures)) in
     record { answer = s.0; buffer = s.1 }
 
 pub returns-in-Refused : goal.returns-in-Refused
@@ -104,12 +107,11 @@ returns-in_default-first c =
     let l = given x.stem.now x.cycle.now in
     let s = stopped_by x.p x.table.now l x.run.now c.refuse-in_default-first.result
     (start_stops x.p x.table.now l x.run.now c.if-run-lt-RUN_ROOM.false (passing b) (tested b) (sym (first_is b) ∙ c.in_default-first.is)
-    ∙ ap refused (sym c.refuse-in_default-first.ensures)) in
+    ∙ ap Err (sym c.refuse-in_default-first.ensures)) in
     record { answer = s.0; buffer = s.1 }
 
 -- nothing is refused
 pub write_run-requires : goal.write_run-requires
-unfolding state_of
 write_run-requires c =
     let b : After-best_partner-first = (goal.at.write_run-requires c).After-best_partner-first in
     let x = c.args in

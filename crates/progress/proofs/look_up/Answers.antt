@@ -4,7 +4,7 @@ use mathlib.Core.Path.{◌≡◌, sym, ap, ap₂, ◌∙◌}
 use Prim.Native.Nat.{◌-◌, ◌≤◌, ◌<◌}
 use native.Mathlib.Omega.{arith}
 use Rattle.machine.specs.Machines.{n_c, n_a, sets_a}
-use Rattle.machine.specs.Refusals.{Tested, tested_of, and_then, answer}
+use Rattle.machine.specs.Refusals.{Tested, tested_of, and_then}
 use Rattle.machine.specs.RefusalsLaws.{then_answer}
 use Rattle.machine.specs.WellFormed.{well_formed}
 use Rattle.machine.specs.WellFormedLaws.{valid_is_well}
@@ -14,6 +14,7 @@ use Rattle.progress.specs.Turns.{still_in, look_up_answer}
 use Rattle.progress.specs.TurnsLaws.{range_at, looked_refused, looked_up}
 use Rattle.progress.proofs.look_up.Goals as goal
 use Rattle.progress.proofs.look_up.Goals.{After-still_in, In_default}
+use Rattle.std.specs.Prelude.{Ok}
 
 tests_told : {a b t x y : Tested} → a ≡ x → b ≡ y → t ≡ and_then a b → and_then x y ≡ t
 tests_told e f g = ap₂ and_then (sym e) (sym f) ∙ sym g
@@ -43,16 +44,16 @@ still_in-requires c = let q = passed (goal.at.still_in-requires c).In_default in
 found : (c : After-still_in) → let x = c.args in c.still_in.result ≡ still_in x.p x.family (x.section - 1) x.c x.a
 found c = c.still_in.ensures
 
-told : (c : After-still_in) → let x = c.args in answer c.still_in.result ≡ look_up_answer x.p x.family x.section x.c x.a
+told : (c : After-still_in) → let x = c.args in Ok c.still_in.result ≡ look_up_answer x.p x.family x.section x.c x.a
 unfolding tested_of
 told c =
     let x = c.args in
-    ap answer (found c) ∙ sym (looked_up x.p x.section x.c x.a x.family (tests_told c.pair_validity-machines.ensures c.range_validity-range.ensures c.first_refusal-tests.ensures ∙ rw c.in_default.is))
+    ap Ok (found c) ∙ sym (looked_up x.p x.section x.c x.a x.family (tests_told c.pair_validity-machines.ensures c.range_validity-range.ensures c.first_refusal-tests.ensures ∙ rw c.in_default.is))
 
 pub returns-then-still_in : goal.returns-then-still_in
 unfolding looked_up_of
-returns-then-still_in c = ap answer (sym c.if-still_in.true) ∙ told (goal.at.returns-then-still_in c).After-still_in
+returns-then-still_in c = ap Ok (sym c.if-still_in.true) ∙ told (goal.at.returns-then-still_in c).After-still_in
 
 pub returns-else-still_in : goal.returns-else-still_in
 unfolding looked_up_of
-returns-else-still_in c = ap answer (sym c.if-still_in.false) ∙ told (goal.at.returns-else-still_in c).After-still_in
+returns-else-still_in c = ap Ok (sym c.if-still_in.false) ∙ told (goal.at.returns-else-still_in c).After-still_in

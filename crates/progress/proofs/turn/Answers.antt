@@ -6,7 +6,6 @@ use mathlib.Core.Path.{◌≡◌, sym, ap, ◌∙◌}
 use Prim.Native.Nat.{ℕ, ◌≤◌}
 use native.Mathlib.Omega.{arith}
 use lib.ListN.{length, length-replicate}
-use Rattle.machine.specs.Refusals.{refused, answer}
 use Rattle.machine.specs.RefusalsLaws.{buffer_short}
 use Rattle.machine.specs.Table.{table_room, entries}
 use Rattle.solver.specs.SolverLaws.{solve_short}
@@ -15,6 +14,7 @@ use Rattle.progress.specs.Turns.{turn_answer, turn_family, turn_table}
 use Rattle.progress.specs.TurnsLaws.{turn_refused, turn_stopped, turn_well, turn_made, copied_small}
 use Rattle.progress.proofs.turn.Goals as goal
 use Rattle.progress.proofs.turn.Goals.{After-copy_entries, else-finished, then-finished}
+use Rattle.std.specs.Prelude.{Err, Ok}
 
 pub returns-then-table-lt-TABLE_ROOM : goal.returns-then-table-lt-TABLE_ROOM
 unfolding turned_of
@@ -22,7 +22,7 @@ returns-then-table-lt-TABLE_ROOM c =
     let x = c.args in
     let short = buffer_short _ (length x.table.now) c.if-table-lt-TABLE_ROOM.true in
     let k = turn_refused x.p x.family x.table.now (solve_short x.p (length x.table.now) short) in
-    record { answer = ap refused c.refuse.ensures ∙ sym k.0; family = sym k.1; content = sym k.2 }
+    record { answer = ap Err c.refuse.ensures ∙ sym k.0; family = sym k.1; content = sym k.2 }
 
 pub returns-in-Refused : goal.returns-in-Refused
 unfolding turned_of
@@ -34,7 +34,7 @@ returns-in-Refused c =
 -- all that a turn says and leaves; it copies all entries or none
 made : (c : After-copy_entries) →
     let x = c.args in
-    (answer c.same_family-finished.result ≡ turn_answer x.p x.family (length x.table.now)) × ((c.turn_family-made.result.family ≡ turn_family x.p x.family (length x.table.now)) × (c.copy_entries.new.to ≡ turn_table x.p x.family x.table.now))
+    (Ok c.same_family-finished.result ≡ turn_answer x.p x.family (length x.table.now)) × ((c.turn_family-made.result.family ≡ turn_family x.p x.family (length x.table.now)) × (c.copy_entries.new.to ≡ turn_table x.p x.family x.table.now))
 made c =
     let x = c.args in
     let due : ((c.same_family-finished.result ≡ true) × (c.if-finished.written ≡ entries x.p)) ⊎ ((c.same_family-finished.result ≡ false) × (c.if-finished.written ≡ 0)) =
@@ -63,10 +63,10 @@ pub returns-then-finished-2 : goal.returns-then-finished-2
 unfolding turned_of
 returns-then-finished-2 c =
     let m = made (goal.at.returns-then-finished-2 c).After-copy_entries in
-    record { answer = ap answer (sym c.if-finished-2.true) ∙ m.0; family = m.1.0; content = m.1.1 }
+    record { answer = ap Ok (sym c.if-finished-2.true) ∙ m.0; family = m.1.0; content = m.1.1 }
 
 pub returns-else-finished-2 : goal.returns-else-finished-2
 unfolding turned_of
 returns-else-finished-2 c =
     let m = made (goal.at.returns-else-finished-2 c).After-copy_entries in
-    record { answer = ap answer (sym c.if-finished-2.false) ∙ m.0; family = m.1.0; content = m.1.1 }
+    record { answer = ap Ok (sym c.if-finished-2.false) ∙ m.0; family = m.1.0; content = m.1.1 }

@@ -1,10 +1,10 @@
 -- Each return is what the definitions say of the reading, and of the solver's answer, that led there.
 use Rattle.std.proofs.Common.{sym, ap, ◌∙◌}
-use Rattle.machine.specs.Refusals.{refused}
 use Rattle.machine.specs.RefusalsLaws.{tested_valid, tested_refused}
 use Rattle.codec.specs.Answers.{sized_of}
 use Rattle.codec.specs.AnswersLaws.{refusal_of_lem}
 use Rattle.restore.specs.RestoringLaws.{restore_short, restore_refused, restore_unsolved, restore_taken}
+use Rattle.std.specs.Prelude.{Err}
 use Rattle.restore.proofs.solve_bytes.Goals as goal
 
 pub returns-then-out-lt-FILE_ROOM : goal.returns-then-out-lt-FILE_ROOM
@@ -12,7 +12,7 @@ unfolding sized_of
 returns-then-out-lt-FILE_ROOM c =
     let x = c.args in
     let both = restore_short x.bytes.now x.out.now c.if-out-lt-FILE_ROOM.true in
-    record { answer = ap refused c.refuse.ensures ∙ sym both.0; content = sym both.1 }
+    record { answer = ap Err c.refuse.ensures ∙ sym both.0; content = sym both.1 }
 
 pub returns-in_default : goal.returns-in_default
 unfolding sized_of
@@ -21,7 +21,7 @@ returns-in_default c =
     let told = c.in_default.is in
     let x = c.args in
     let both = restore_refused x.bytes.now x.out.now c.if-out-lt-FILE_ROOM.false _ _ read.answer read.content _ told in
-    record { answer = ap refused (c.refusal_of.ensures ∙ refusal_of_lem told) ∙ sym both.0; content = sym both.1 }
+    record { answer = ap Err (c.refusal_of.ensures ∙ refusal_of_lem told) ∙ sym both.0; content = sym both.1 }
 
 pub returns-in-Refused : goal.returns-in-Refused
 unfolding sized_of

@@ -1,11 +1,12 @@
 -- The lent table is tested, then the pair: a refusal leaves the table as it was, and otherwise its front is the solver's table.
 use mathlib.Core.Path.{sym, ap, ◌∙◌}
 use lib.ListN.{length}
-use Rattle.machine.specs.Refusals.{refused, tested_of}
+use Rattle.machine.specs.Refusals.{tested_of}
 use Rattle.machine.specs.RefusalsLaws.{buffer_short, tested_valid, tested_refused}
 use Rattle.machine.specs.WellFormedLaws.{valid_is_well}
 use Rattle.machine.specs.EmptySetsLaws.{nonempty_at}
 use Rattle.solver.specs.SolverLaws.{solve_short, solve_long, solved_refused, solved_valid}
+use Rattle.std.specs.Prelude.{Err}
 use Rattle.solver.proofs.solve.Goals as goal
 
 pub returns-then-table-lt-TABLE_ROOM : goal.returns-then-table-lt-TABLE_ROOM
@@ -14,7 +15,7 @@ returns-then-table-lt-TABLE_ROOM c =
     let s = c.args in
     let short = buffer_short _ (length s.table.now) c.if-table-lt-TABLE_ROOM.true in
     let e = solve_short s.p (length s.table.now) short in
-    record { answer = ap refused c.refuse.ensures ∙ sym e; content = solved_refused s.p s.table.now _ e }
+    record { answer = ap Err c.refuse.ensures ∙ sym e; content = solved_refused s.p s.table.now _ e }
 
 pub rank_all-requires : goal.rank_all-requires
 rank_all-requires c =

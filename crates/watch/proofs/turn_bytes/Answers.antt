@@ -1,9 +1,9 @@
 -- A lent table that is too short, the reader's refusal, or a turn over the machines: each return is what the definitions say of it.
 use mathlib.Core.Path.{sym, ap, ◌∙◌}
-use Rattle.machine.specs.Refusals.{refused}
 use Rattle.machine.specs.RefusalsLaws.{tested_valid, tested_refused}
 use Rattle.progress.specs.Answers.{turned_of}
 use Rattle.watch.specs.WatchingLaws.{turn_short, turn_unread, turn_read}
+use Rattle.std.specs.Prelude.{Err}
 use Rattle.watch.proofs.turn_bytes.Goals as goal
 
 pub returns-then-table-lt-TABLE_ROOM : goal.returns-then-table-lt-TABLE_ROOM
@@ -12,7 +12,7 @@ returns-then-table-lt-TABLE_ROOM c =
     let x = c.args in
     let all = turn_short x.bytes.now x.family x.table.now c.if-table-lt-TABLE_ROOM.true in
     record {
-      answer = ap refused c.refuse.ensures ∙ sym all.0;
+      answer = ap Err c.refuse.ensures ∙ sym all.0;
       family = sym all.1;
       content = sym all.2;
     }

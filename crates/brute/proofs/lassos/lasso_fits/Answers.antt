@@ -5,11 +5,12 @@ use borrow.Author.Tests.{le-ltb}
 use Rattle.machine.specs.Lassos.{given}
 use Rattle.mask.specs.Bounded.{first}
 use Rattle.machine.specs.Player.{has_bad_length, missed_set}
-use Rattle.machine.specs.Refusals.{refused, tested_of}
+use Rattle.machine.specs.Refusals.{tested_of}
 use Rattle.machine.specs.PlayerLaws.{length_empty, length_over, length_whole, not_refused, refused_length, refused_set, refused_step}
 use Rattle.brute.specs.RunLaws.{missed_loop}
 use Rattle.brute.proofs.lassos.lasso_fits.Goals as goal
 use Rattle.brute.proofs.lassos.lasso_fits.Goals.{After-first_missed-k, Else-stem-cycle-gt64}
+use Rattle.std.specs.Prelude.{Err}
 
 -- 13 is not refused
 fit : (c : Else-stem-cycle-gt64) → has_bad_length (given c.args.stem.now c.args.cycle.now) ≡ false
@@ -22,26 +23,26 @@ pub returns-then-cycle-eq0 : goal.returns-then-cycle-eq0
 unfolding tested_of
 returns-then-cycle-eq0 c =
     let l = given c.args.stem.now c.args.cycle.now in
-    ap refused c.refuse.ensures ∙ sym (refused_length c.args.m.now l (length_empty l c.if-cycle-eq0.true))
+    ap Err c.refuse.ensures ∙ sym (refused_length c.args.m.now l (length_empty l c.if-cycle-eq0.true))
 
 pub returns-then-stem-cycle-gt64 : goal.returns-then-stem-cycle-gt64
 unfolding tested_of
 returns-then-stem-cycle-gt64 c =
     let l = given c.args.stem.now c.args.cycle.now in
-    ap refused c.refuse-then-stem-cycle-gt64.ensures ∙ sym (refused_length c.args.m.now l (length_over l c.if-stem-cycle-gt64.true))
+    ap Err c.refuse-then-stem-cycle-gt64.ensures ∙ sym (refused_length c.args.m.now l (length_over l c.if-stem-cycle-gt64.true))
 
 pub returns-then-i-stem : goal.returns-then-i-stem
 unfolding tested_of
 returns-then-i-stem c =
     let l = given c.args.stem.now c.args.cycle.now in
-    ap refused c.refuse-then-i-stem.ensures ∙ sym (refused_step c.args.m.now l (fit (goal.at.returns-then-i-stem c).Else-stem-cycle-gt64) _ c.first_bad-i.ensures c.if-i-stem.true)
+    ap Err c.refuse-then-i-stem.ensures ∙ sym (refused_step c.args.m.now l (fit (goal.at.returns-then-i-stem c).Else-stem-cycle-gt64) _ c.first_bad-i.ensures c.if-i-stem.true)
 
 pub returns-then-k-m : goal.returns-then-k-m
 unfolding tested_of
 returns-then-k-m c =
     let l = given c.args.stem.now c.args.cycle.now in
     let f = fit (goal.at.returns-then-k-m c).Else-stem-cycle-gt64 in
-    ap refused c.refuse-then-k-m.ensures
+    ap Err c.refuse-then-k-m.ensures
     ∙ sym (refused_set c.args.m.now l f _ c.first_bad-i.ensures c.if-i-stem.false _ (missed (goal.at.returns-then-k-m c).After-first_missed-k) c.if-k-m.true)
 
 pub returns : goal.returns

@@ -2,11 +2,12 @@
 use mathlib.Core.Path.{◌∙◌, ap, sym}
 use native.Mathlib.Nat.{le_trans}
 use Rattle.mask.specs.BoundedLaws.{first_le}
-use Rattle.machine.specs.Refusals.{refused, tested_of}
+use Rattle.machine.specs.Refusals.{tested_of}
 use Rattle.machine.specs.WellFormedLaws.{WellPair, well_pair}
 use Rattle.brute.specs.TargetLaws.{lines_at_lem, lines_none}
 use Rattle.brute.proofs.lines.lines.Goals as goal
 use Rattle.brute.proofs.lines.lines.Goals.{Start}
+use Rattle.std.specs.Prelude.{Err}
 
 well : (c : Start) → WellPair c.args.p.now
 well c = well_pair c.args.p.now c.requires
@@ -24,7 +25,7 @@ pub returns-then-j-abstraction : goal.returns-then-j-abstraction
 unfolding tested_of
 returns-then-j-abstraction c =
     let x = c.args in
-    ap refused c.refuse.ensures
+    ap Err c.refuse.ensures
     ∙ sym (lines_at_lem x.p.now x.table.now _ c.failing_section-j.ensures _ _ c.failing_row-c.ensures c.failing_state-a.ensures c.if-j-abstraction.true)
 
 pub returns : goal.returns

@@ -1,10 +1,10 @@
 -- The tests are made in the order of the definition, and each return is the first that fails.
 use mathlib.Core.Path.{◌∙◌, ap, sym}
-use Rattle.machine.specs.Refusals.{refused}
 use Rattle.machine.specs.RefusalsLaws.{tested_refused, tested_valid}
 use Rattle.machine.specs.VerdictLaws.{check_fails, check_invalid, check_passes, check_short, empty_told_beside, empty_told_refused}
 use Rattle.machine.specs.WellFormedLaws.{valid_is_well}
 use Rattle.brute.specs.Lines.{verdict_of, empty_set_of}
+use Rattle.std.specs.Prelude.{Err}
 use Rattle.brute.proofs.lines.plain_verdict.Goals as goal
 
 pub returns-then-table-lt-TABLE_ROOM : goal.returns-then-table-lt-TABLE_ROOM
@@ -12,7 +12,7 @@ unfolding verdict_of empty_set_of
 returns-then-table-lt-TABLE_ROOM c =
     let x = c.args in
     let said = check_short x.p x.table.now c.if-table-lt-TABLE_ROOM.true in
-    record { verdict = ap refused c.refuse.ensures ∙ sym said; empty = sym (empty_told_refused x.p x.table.now said) }
+    record { verdict = ap Err c.refuse.ensures ∙ sym said; empty = sym (empty_told_refused x.p x.table.now said) }
 
 pub returns-in-Refused : goal.returns-in-Refused
 unfolding verdict_of empty_set_of

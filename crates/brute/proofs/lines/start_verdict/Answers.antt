@@ -1,8 +1,8 @@
 -- The lowest start state that lacks a partner tells which answer it is; both have the count, and whether a concrete set is empty.
 use mathlib.Core.Path.{ap, sym}
-use Rattle.machine.specs.Refusals.{answer}
 use Rattle.machine.specs.VerdictLaws.{start_carried, start_lacking}
 use Rattle.brute.specs.Lines.{verdict_of, empty_set_of}
+use Rattle.std.specs.Prelude.{Ok}
 use Rattle.brute.proofs.lines.start_verdict.Goals as goal
 
 pub lacking_start-c-requires : goal.lacking_start-c-requires
@@ -19,7 +19,7 @@ unfolding verdict_of empty_set_of
 returns-then-c-concrete c =
     let x = c.args in
     record {
-      verdict = sym (ap answer (start_lacking x.p.now x.table.now _ _ c.covered.ensures c.lacking_start-c.ensures c.if-c-concrete.true));
+      verdict = sym (ap Ok (start_lacking x.p.now x.table.now _ _ c.covered.ensures c.lacking_start-c.ensures c.if-c-concrete.true));
       empty = c.has_empty_set-empty.ensures;
     }
 
@@ -28,6 +28,6 @@ unfolding verdict_of empty_set_of
 returns-else-c-concrete c =
     let x = c.args in
     record {
-      verdict = sym (ap answer (start_carried x.p.now x.table.now _ _ c.covered-else-c-concrete.ensures c.lacking_start-c.ensures c.if-c-concrete.false));
+      verdict = sym (ap Ok (start_carried x.p.now x.table.now _ _ c.covered-else-c-concrete.ensures c.lacking_start-c.ensures c.if-c-concrete.false));
       empty = c.has_empty_set-empty.ensures;
     }

@@ -7,7 +7,7 @@ use Rattle.mask.specs.BoundedLaws.{first_le}
 use Rattle.machine.specs.Lassos.{moment, given}
 use Rattle.machine.specs.Lines.{lines_validity}
 use Rattle.machine.specs.Player.{lasso_validity, last_round, start_partner}
-use Rattle.machine.specs.Refusals.{refused, valid}
+use Rattle.machine.specs.Refusals.{valid}
 use Rattle.machine.specs.RefusalsLaws.{tested_refused, tested_valid}
 use Rattle.machine.specs.WellFormed.{pair_validity}
 use Rattle.machine.specs.WellFormedLaws.{mul_bound, valid_is_well}
@@ -16,6 +16,7 @@ use Rattle.machine.specs.PlayerLaws.{lasso_length_lem, play_alone, play_fails, p
 use Rattle.brute.specs.ScanLaws.{played_refused, played_run}
 use Rattle.brute.proofs.runs.plain_play.Goals as goal
 use Rattle.brute.proofs.runs.plain_play.Goals.{After-earlier_round-x, In_default, In_default-passed, In_default-fits, After-least_partner-found}
+use Rattle.std.specs.Prelude.{Err}
 
 formed : (c : In_default) → pair_validity c.args.p ≡ valid
 formed c = tested_valid c.validity-valid.ensures c.in_default.is
@@ -74,7 +75,7 @@ pub returns-in-Nobody : goal.returns-in-Nobody
 unfolding played_of
 returns-in-Nobody c =
     let x = c.args in
-    ap refused c.refuse.ensures
+    ap Err c.refuse.ensures
     ∙ sym (played_refused x.p x.table.now (given x.stem.now x.cycle.now) _ (play_alone x.p x.table.now (given x.stem.now x.cycle.now) (formed (goal.at.returns-in-Nobody c).In_default) (passed (goal.at.returns-in-Nobody c).In_default-passed) (fits (goal.at.returns-in-Nobody c).In_default-fits) (sym (start (goal.at.returns-in-Nobody c).After-least_partner-found) ∙ c.in-Nobody.is)))
 
 pub last_round-y-requires : goal.last_round-y-requires

@@ -2,8 +2,9 @@
 -- a number is not looked at is refused, with a number that is not the block's place.
 use mathlib.Core.Path.{sym, ap, ◌∙◌}
 use native.Mathlib.Omega.{arith}
-use Rattle.machine.specs.Refusals.{refused, tested_of}
+use Rattle.machine.specs.Refusals.{tested_of}
 use Rattle.codec.proofs.ReaderLaws.{block_damaged, block_misplaced, block_valid}
+use Rattle.std.specs.Prelude.{Err}
 use Rattle.codec.proofs.reader.block_validity.Goals as goal
 
 pub returns : goal.returns
@@ -14,11 +15,11 @@ returns c =
 pub returns-then-not-check_holds : goal.returns-then-not-check_holds
 unfolding tested_of
 returns-then-not-check_holds c =
-    ap refused c.refuse.ensures
+    ap Err c.refuse.ensures
     ∙ rw c.damaged_number.ensures (sym (block_damaged _ _ (sym c.check_holds.ensures ∙ c.if-not-check_holds.true)))
 
 pub returns-then-number-i : goal.returns-then-number-i
 unfolding tested_of
 returns-then-number-i c =
     let found = c.number_found-number.ensures in
-    ap refused c.refuse-then-number-i.ensures ∙ rw found (sym (block_misplaced _ _ (sym c.check_holds.ensures ∙ c.if-not-check_holds.false) (λ e. omega (arith, found, e))))
+    ap Err c.refuse-then-number-i.ensures ∙ rw found (sym (block_misplaced _ _ (sym c.check_holds.ensures ∙ c.if-not-check_holds.false) (λ e. omega (arith, found, e))))

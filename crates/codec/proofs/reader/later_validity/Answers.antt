@@ -2,9 +2,10 @@
 use mathlib.Core.Path.{sym, ap, ◌∙◌}
 use native.Mathlib.Omega.{arith}
 use Rattle.mask.specs.LogicLaws.{not_i, not_f}
-use Rattle.machine.specs.Refusals.{refused, tested_of}
+use Rattle.machine.specs.Refusals.{tested_of}
 use Rattle.machine.specs.RefusalsLaws.{tested_valid, tested_refused, then_of, then_refused}
 use Rattle.codec.proofs.ReaderLaws.{fitting, blocks_then}
+use Rattle.std.specs.Prelude.{Err}
 use Rattle.codec.proofs.reader.later_validity.Goals as goal
 
 pub later_blocks-blocks-requires : goal.later_blocks-blocks-requires
@@ -18,7 +19,7 @@ returns-in-Refused c =
 pub returns-then-not-padding_holds : goal.returns-then-not-padding_holds
 unfolding tested_of
 returns-then-not-padding_holds c =
-    ap refused c.refuse.ensures
+    ap Err c.refuse.ensures
     ∙ sym (blocks_then _ c.requires ∙ then_of _ _ (tested_valid c.later_blocks-blocks.ensures c.in_default.is)
     ∙ rw (not_i (sym c.padding_holds.ensures ∙ c.if-not-padding_holds.true)))
 

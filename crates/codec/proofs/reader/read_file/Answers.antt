@@ -1,12 +1,13 @@
 -- The tests are made in the order of the definition; where none of them refuses, what is taken is what is said.
 use mathlib.Core.Path.{◌≡◌, sym, ap, ◌∙◌}
-use Rattle.machine.specs.Refusals.{and_then, refused, valid}
+use Rattle.machine.specs.Refusals.{and_then, valid}
 use Rattle.machine.specs.RefusalsLaws.{then_refused, tested_valid, tested_refused, buffer_kept}
 use Rattle.codec.specs.Reader.{first_validity, blocks_validity, read_answer, read_table}
 use Rattle.codec.proofs.ReaderLaws.{read_short, tests_refused, read_pair}
 use Rattle.codec.specs.AnswersLaws.{shown_refused}
 use Rattle.codec.proofs.reader.read_file.Goals as goal
 use Rattle.codec.proofs.reader.read_file.Goals.{In-Valid}
+use Rattle.std.specs.Prelude.{Err}
 
 -- the tests of the whole file say that it is right
 right : (c : In-Valid) → let f = c.args.bytes.now in and_then (first_validity f) (blocks_validity f) ≡ valid
@@ -16,7 +17,7 @@ pub returns-then-table-lt-TABLE_ROOM : goal.returns-then-table-lt-TABLE_ROOM
 unfolding read_answer read_table
 returns-then-table-lt-TABLE_ROOM c =
     let e = read_short c.args.bytes.now _ c.if-table-lt-TABLE_ROOM.true in
-    let shown = shown_refused c.refused_show.result (then_refused _ _ _ e) (c.refused_show.ensures.answer ∙ ap refused c.refuse.ensures) c.refused_show.ensures.machines in
+    let shown = shown_refused c.refused_show.result (then_refused _ _ _ e) (c.refused_show.ensures.answer ∙ ap Err c.refuse.ensures) c.refused_show.ensures.machines in
     record { answer = shown.0; machines = shown.1; content = sym (buffer_kept _ _ _ e) }
 
 pub take_show-requires : goal.take_show-requires
