@@ -1,5 +1,5 @@
 -- Laws of the tests over the numbers below a bound.
-use Rattle.std.specs.Prelude.{Bool, true, false, cond, Option, Some, None, ltb, ◌⊎◌, ◌≡◌, refl, ℕ, zero, suc, ◌+◌, ◌*◌, ◌≤◌, ◌<◌, ◌^◌}
+use Rattle.std.specs.Prelude.{Bool, true, false, cond, Option, Some, None, is_some, ltb, ◌⊎◌, ◌≡◌, refl, ℕ, zero, suc, ◌+◌, ◌*◌, ◌≤◌, ◌<◌, ◌^◌}
 use Rattle.std.proofs.lemmas.Bool.{false≢true}
 use Rattle.std.proofs.Common.{inl, inr, ⊎_elim, sym, ap, ap₂, ◌∙◌, not-suc-le-zero, arith, ltb-true, ltb-false}
 use Rattle.std.proofs.lemmas.Option.{cond_some, none-some}
@@ -142,6 +142,14 @@ below_past n i e = ltb-false i n (go (ltb i n) e)
     go : (b : Bool) → cond b (Some i) None ≡ None → b ≡ false
     go true z = absurd (none-some i (sym z))
     go false z = refl
+
+pub is_below : (n i : ℕ) → is_some (below n i) ≡ ltb i n
+unfolding below
+is_below n i = go (ltb i n)
+  where
+    go : (b : Bool) → is_some (cond b (Some i) None) ≡ b
+    go true = refl
+    go false = refl
 
 -- ---- sums and counts
 pub sum_le : (n : ℕ) (f g : ℕ → ℕ) → ((i : ℕ) → i < n → f i ≤ g i) → sum n f ≤ sum n g
