@@ -1,6 +1,5 @@
 -- definitions
 pub mod Decimal
-pub mod Answers
 -- laws
 pub mod DecimalLaws
 pub mod DigitsLaws

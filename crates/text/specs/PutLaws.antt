@@ -1,35 +1,38 @@
 -- Laws of a loop that puts bytes at a place.
-use Rattle.std.specs.Prelude.{List, [], ◌∷◌, ◌≡◌, refl, ℕ, suc, ◌+◌, ◌≤◌, ◌<◌, length, get_or, drop, set}
-use Rattle.std.proofs.Common.{sym, ap, ◌∙◌, add-one, arith, length-set, drop_of_length-le, drop-cons}
-use Rattle.std.proofs.lemmas.List.Edits.{sets}
+use Rattle.std.specs.Prelude.{List, [], ◌∷◌, ◌++◌, ◌≡◌, refl, ℕ, suc, ◌+◌, ◌-◌, ◌≤◌, min, length, take, drop, set}
+use Rattle.std.proofs.Common.{sym, ap, ◌∙◌, add-one, arith, length-set, length-take-le, drop_of_length-le}
+use Rattle.std.proofs.lemmas.List.Edits.{sets, sets-eq}
+use Rattle.std.proofs.lemmas.List.{append-nil, append_assoc, take-append-drop}
+use Rattle.std.proofs.Math.Logic.{by_cases}
+use Rattle.std.proofs.Math.Decide.{dec_lt}
 use Rattle.std.proofs.Math.Seq.{set_out}
-
--- what is left of the word, put at `to`, gives the answer; a place is left for each byte that was put
-pub record Put (out₀ : List ℕ) (at : ℕ) (word out : List ℕ) (to i : ℕ) : Type 0 where
-  pub answer : sets out to (drop i word) ≡ sets out₀ at word
-  pub same : length out ≡ length out₀
 
 -- where there is no room nothing is put
 sets_out : (vs l : List ℕ) (i : ℕ) → length l ≤ i → sets l i vs ≡ l
 sets_out [] l i h = refl
 sets_out (a ∷ vs) l i h = ap (λ (k : List ℕ). sets k (suc i) vs) (set_out l i a h) ∙ sets_out vs l (suc i) (omega arith)
 
-module _ {out₀ : List ℕ} {at : ℕ} {word out : List ℕ} {to i : ℕ} (p : Put out₀ at word out to i) where
-  pub put_more : i < length word → Put out₀ at word (set out to (get_or word i 0)) (to + 1) (i + 1)
-  put_more l = record {
-    answer =
-        ap (λ (t : ℕ). sets (set out to (get_or word i 0)) t (drop (i + 1) word)) (add-one to)
-        ∙ ap (λ (k : ℕ). sets (set out to (get_or word i 0)) (suc to) (drop k word)) (add-one i)
-        ∙ ap (sets out to) (sym (drop-cons word i 0 l))
-        ∙ p.answer;
-    same = length-set out to (get_or word i 0) ∙ p.same;
-  }
+-- bytes past the room change nothing
+sets_cut : (vs ws l : List ℕ) (i : ℕ) → length l ≤ i + length vs → sets l i (vs ++ ws) ≡ sets l i vs
+sets_cut [] ws l i h = sets_out ws l i (omega arith)
+sets_cut (a ∷ vs) ws l i h = sets_cut vs ws (set l i a) (suc i) (omega (arith, length-set l i a))
 
-  pub put_full : length out ≤ to → out ≡ sets out₀ at word
-  put_full h = sym (sets_out (drop i word) out to h) ∙ p.answer
+-- what is put from a place within the buffer on is the part of the word that there is room for
+pub put_part : (word out : List ℕ) (at n : ℕ) → at ≤ length out → n ≡ min (length word) (length out - at)
+    → sets out at word ≡ take at out ++ (take n word ++ drop (at + n) out)
+put_part word out at n h e =
+    let front : length (take n word) ≡ n = length-take-le n word (omega arith) in
+    let cut : sets out at (take n word ++ drop n word) ≡ sets out at (take n word) =
+    by_cases (dec_lt n (length word))
+    (λ l. sets_cut (take n word) (drop n word) out at (omega arith))
+    (λ l. ap (λ (z : List ℕ). sets out at (take n word ++ z)) (drop_of_length-le word (omega arith)) ∙ ap (sets out at) (append-nil (take n word))) in
+    ap (sets out at) (sym (take-append-drop n word)) ∙ cut ∙ sets-eq (take n word) out at (omega arith)
+    ∙ append_assoc (take at out) (take n word) (drop (at + length (take n word)) out)
+    ∙ ap (λ (k : ℕ). take at out ++ (take n word ++ drop (at + k) out)) front
 
-  pub put_done : length word ≤ i → out ≡ sets out₀ at word
-  put_done h = ap (sets out to) (sym (drop_of_length-le word h)) ∙ p.answer
+-- and nothing where there is no room
+pub put_none : (word out : List ℕ) (at : ℕ) → length out ≤ at → out ≡ sets out at word
+put_none word out at h = sym (sets_out word out at h)
 
 -- a byte, and a word put behind it
 pub byte_word : (out after word : List ℕ) (at b : ℕ) → after ≡ sets (set out at b) (at + 1) word → after ≡ sets out at (b ∷ word)

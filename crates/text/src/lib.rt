@@ -4,45 +4,33 @@
 ghost use Rattle.std.specs.Prelude.{◌≡◌, length};
 ghost use Rattle.std.proofs.lemmas.List.Edits.{sets};
 ghost use Rattle.text.specs.Decimal.{decimal};
-ghost use Rattle.text.specs.Answers.{digits_for};
 
-// The decimal digits of a number, which stand at the end of `bytes`, from `start` on; before them are zeros.
-#[derive(Clone, Copy)]
-pub struct Digits {
-    pub bytes: [u8; 20],
-    pub start: usize,
-}
+use arrayvec::ArrayVec;
 
-// The decimal digits of n in ASCII.
-pub fn digits_of(n: usize) -> Digits
-    ensures { result ≡ digits_for n }
+// The decimal digits of n in ASCII: at most 20.
+pub fn digits_of(n: usize) -> ArrayVec<u8, 20>
+    ensures { result.items ≡ decimal n }
 {
-    let mut bytes = [0u8; 20];
-    let mut start = 19;
+    let mut digits = ArrayVec::new();
     let mut rest = n;
     while 10 <= rest {
-        bytes[start] = 48 + (rest % 10) as u8;
+        digits.push(48 + (rest % 10) as u8);
         rest /= 10;
-        start -= 1;
     }
-    bytes[start] = 48 + rest as u8;
-    Digits { bytes, start }
+    digits.push(48 + rest as u8);
+    digits.reverse();
+    digits
 }
 
 // Puts a word's bytes into the buffer from index `at` on, as many as there is room for.
 pub fn put(out: &mut [u8], at: usize, word: &[u8])
     ensures { out.new ≡ sets out.old at word.now }
 {
-    let mut to = at;
-    let mut i = 0;
-    while i < word.len() {
-        if out.len() <= to {
-            return;
-        }
-        out[to] = word[i];
-        to += 1;
-        i += 1;
+    if out.len() <= at {
+        return;
     }
+    let end = word.len().min(out.len() - at);
+    out[at..at + end].copy_from_slice(&word[..end]);
 }
 
 // Puts the decimal digits of n in the same way, and gives how many they are.
@@ -51,8 +39,6 @@ pub fn put_number(out: &mut [u8], at: usize, n: usize) -> usize
     ensures bytes { out.new ≡ sets out.old at (decimal n) }
 {
     let digits = digits_of(n);
-    let bytes = digits.bytes;
-    let start = digits.start;
-    put(out, at, &bytes[start..]);
-    20 - start
+    put(out, at, &digits);
+    digits.len()
 }

@@ -1,26 +1,18 @@
--- The invariant: what is left of the word, put at `to`, gives the answer.
-use mathlib.Core.Path.{refl}
-use native.Mathlib.Omega.{arith}
-use Rattle.text.specs.PutLaws.{put_more, put_full, put_done}
+-- What is copied is the part of the word that there is room for.
+use Rattle.std.specs.Prelude.{List, ℕ, ◌≡◌, ◌++◌, ◌+◌, ◌-◌, take}
+use Rattle.std.proofs.Common.{sym, ap, ◌∙◌, arith}
+use borrow.Rule.Slice.PartMut.{post_of, Post-is}
+use Rattle.text.specs.PutLaws.{put_part, put_none}
 use Rattle.text.proofs.put.Goals as goal
 
-pub loop-i-init : goal.loop-i-init
-loop-i-init c = record { answer = refl; same = refl }
-
-pub shape_of-out-then-out-to : goal.shape_of-out-then-out-to
-shape_of-out-then-out-to c = c.loop-i.invariant.same
-
-pub returns-then-out-to : goal.returns-then-out-to
-returns-then-out-to c = put_full c.loop-i.invariant c.if-out-to.true
-
-pub overflow_add-to : goal.overflow_add-to
-overflow_add-to c = omega (arith, c.loop-i.invariant.same)
-
-pub loop-i-preserved : goal.loop-i-preserved
-loop-i-preserved c = put_more c.loop-i.invariant (omega arith)
-
-pub shape_of-out : goal.shape_of-out
-shape_of-out c = c.loop-i.invariant.same
+pub returns-then-out-at : goal.returns-then-out-at
+returns-then-out-at c = put_none c.args.word.now c.args.out.now c.args.at c.if-out-at.true
 
 pub returns : goal.returns
-returns c = put_done c.loop-i.invariant (omega arith)
+returns c =
+    let x = c.args in
+    let m = c.min-end.result in
+    let copied : c.copy_from_slice.new.self ≡ take m x.word.now = c.copy_from_slice.ensures.after in
+    ap (λ (z : List ℕ). take x.at x.out.now ++ (z ++ post_of x.at (x.at + m - x.at) x.out.now)) copied
+    ∙ ap (λ (z : List ℕ). take x.at x.out.now ++ (take m x.word.now ++ z)) (Post-is x.at (x.at + m) x.out.now (omega arith))
+    ∙ sym (put_part x.word.now x.out.now x.at m (omega (arith, c.if-out-at.false)) c.min-end.ensures)
