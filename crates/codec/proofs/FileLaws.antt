@@ -12,7 +12,8 @@ use Rattle.mask.specs.BoundedLaws.{every_cong}
 use Rattle.mask.specs.TablesLaws.{table_length}
 use Rattle.machine.specs.declared.Pair.{Pair}
 use Rattle.machine.specs.declared.Refusal.{Refusal}
-use Rattle.machine.specs.Refusals.{Tested, valid, refusal, and_then, buffer_after, bad_block, bad_padding, misplaced, buffer_validity}
+use Rattle.machine.specs.declared.Refusal.TheVariants.{BadBlock, BadPadding, Misplaced}
+use Rattle.machine.specs.Refusals.{Tested, valid, number_of, and_then, buffer_after, buffer_validity}
 use Rattle.machine.specs.RefusalsLaws.{then_of, then_refused, then_answer, then_cases, given_at, given_refused, RefusesOnly, refuses_none, refuses_at, refuses_cond, refuses_then, refuses_each, buffer_room, buffer_made}
 use Rattle.machine.specs.Machines.{n_c, n_a, sets_c, sets_a}
 use Rattle.machine.specs.Table.{entries, table_room}
@@ -20,10 +21,9 @@ use Rattle.machine.specs.WellFormed.{well_formed, pair_validity}
 use Rattle.machine.specs.WellFormedLaws.{valid_is_well, pair_refuses}
 use Rattle.machine.specs.EmptySetsLaws.{nonempty_valid, nonempty_at}
 use Rattle.machine.specs.HiddenLaws.{matched_zero}
-use Rattle.codec.specs.declared.Reading.TheVariants as reading
 use Rattle.codec.specs.declared.Show.{Show}
 use Rattle.codec.specs.Format.{letters, file_length, file_of}
-use Rattle.codec.specs.Reader.{input_room, taken, number_found, damaged_number, block_validity, header_byte, note_of, header_holds, counts_hold, header_validity, first_validity, demanded, later_blocks, padding_holds, blocks_validity, payload_of, machine_at, pair_of, entries_of, read_validity, read_answer, read_table, size_of}
+use Rattle.codec.specs.Reader.{input_room, taken, number_found, damaged, block_validity, header_byte, note_of, header_holds, counts_hold, header_validity, first_validity, demanded, later_blocks, padding_holds, blocks_validity, payload_of, machine_at, pair_of, entries_of, read_validity, read_answer, read_table, size_of}
 use Rattle.codec.specs.Writer.{file_room, write_validity, write_answer, write_buffer}
 use Rattle.codec.specs.Answers.{read_of}
 use Rattle.codec.specs.AnswersLaws.{read_taken, read_refused}
@@ -128,11 +128,11 @@ module _ (f : List ℕ) (s : Show) (read : read_of s ≡ read_answer f (replicat
   room : length (replicate {A = ℕ} table_room 0) ≡ table_room
   room = length-replicate {A = ℕ} table_room 0
 
-  pub machines_refused : {r : Refusal} → s.reading ≡ reading.Refused r → read_validity f table_room ≡ Err r
+  pub machines_refused : {r : Refusal} → s.reading ≡ Err r → read_validity f table_room ≡ Err r
   unfolding read_answer
   machines_refused e = ap (read_validity f) (sym room) ∙ given_refused _ _ (read_refused s read e)
 
-  module _ {note : Bool} (e : s.reading ≡ reading.Taken note) where
+  module _ {note : Bool} (e : s.reading ≡ Ok note) where
     pub machines_taken : read_validity f table_room ≡ valid
     unfolding read_answer
     machines_taken = ap (read_validity f) (sym room) ∙ (given_at _ _ (read_taken s read e)).0
@@ -251,23 +251,26 @@ module _ (f g : List ℕ) (same : (i : ℕ) → i < 512 → get_or f i 0 ≡ get
 abbrev IsLate : Refusal → Type 0
 IsLate r = IsEarly r → ⊥
 
-late_at : (number x y z : ℕ) → 7 ≤ number → (number ≡ misplaced → 0 < x) → IsLate (refusal number x y z)
-late_at number x y z h m early = ⊎_elim (λ q. omega arith) (λ q. omega (arith, m q.0, q.1)) early
+late_at : (r : Refusal) → 7 ≤ number_of r → (number_of r ≡ 19 → ⊥) → IsLate r
+late_at r h m early = ⊎_elim (λ q. omega arith) (λ q. m (ap number_of q.1)) early
+
+later_misplaced : (i n : ℕ) → IsLate (Misplaced (suc i) n)
+later_misplaced i n early = ⊎_elim (λ q. omega arith) (λ q. cc) early
 
 -- the counts were tested before
 pair_late : (f : List ℕ) → counts_hold f ≡ true → RefusesOnly IsLate (pair_validity (pair_of f))
 unfolding pair_of machine_at counts_hold
-pair_late f t = pair_refuses IsLate (λ number x y z l h. late_at number x y z (omega arith) (λ e. absurd (omega arith))) (pair_of f) (λ e. absurd (clash e t))
+pair_late f t = pair_refuses IsLate (λ r l h. late_at r (omega arith) (λ e. omega arith)) (pair_of f) (λ e. absurd (clash e t))
 
 -- and so was the length
 blocks_late : (f : List ℕ) → length f ≡ demanded f → RefusesOnly IsLate (blocks_validity f)
-unfolding later_blocks damaged_number
+unfolding later_blocks damaged
 blocks_late f e = subst (RefusesOnly IsLate) (sym (blocks_then f e))
     (refuses_then IsLate (later_blocks f) _
     (refuses_each IsLate _ _ (λ i l v. block_refuses f (suc i) IsLate
-    (λ t. late_at bad_block (suc i) 0 0 (omega arith) (λ q. omega arith))
-    (λ t n. late_at misplaced (suc i) (number_found f (suc i)) 0 (omega arith) (λ q. omega arith))))
-    (λ v. refuses_cond IsLate (not (padding_holds f)) _ _ (λ t. refuses_at IsLate _ (late_at bad_padding 0 0 0 (omega arith) (λ q. absurd (omega arith)))) (λ t. refuses_none IsLate)))
+    (λ t. late_at (BadBlock (suc i)) (omega arith) (λ q. omega arith))
+    (λ t n. later_misplaced i (number_found f (suc i)))))
+    (λ v. refuses_cond IsLate (not (padding_holds f)) _ _ (λ t. refuses_at IsLate _ (late_at BadPadding (omega arith) (λ q. omega arith))) (λ t. refuses_none IsLate)))
 
 early_same : (f g : List ℕ) (len : ℕ) → length f ≡ length g → take 512 f ≡ take 512 g → (r : Refusal) → IsEarly r
     → read_validity f len ≡ Err r → read_validity g len ≡ Err r

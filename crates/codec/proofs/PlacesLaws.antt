@@ -7,24 +7,24 @@ use Rattle.mask.specs.Logic.{not}
 use Rattle.mask.specs.TablesLaws.{table_length, table_at}
 use Rattle.machine.specs.declared.Pair.{Pair}
 use Rattle.machine.specs.declared.Refusal.{Refusal}
-use Rattle.machine.specs.Refusals.{valid, and_then, refusal, each, short_buffer, bad_length, bad_first_block, bad_header, bad_counts, wrong_length, bad_block, bad_padding, misplaced, buffer_validity}
+use Rattle.machine.specs.Refusals.{valid, number_of, and_then, each, buffer_validity}
 use Rattle.machine.specs.RefusalsLaws.{then_of, then_refused, given_refused, each_valid, each_refused, RefusesOnly, refuses_none, refuses_at, refuses_cond, refuses_then, refuses_each}
 use Rattle.machine.specs.Table.{table_room}
 use Rattle.machine.specs.WellFormedLaws.{pair_refuses}
-use Rattle.codec.specs.Reader.{taken, number_found, damaged_number, BlockHolds, block_validity, first_validity, demanded, later_blocks, padding_holds, blocks_validity, pair_of, read_validity, read_answer}
+use Rattle.codec.specs.Reader.{taken, number_found, damaged, BlockHolds, block_validity, first_validity, demanded, later_blocks, padding_holds, blocks_validity, pair_of, read_validity, read_answer}
 use Rattle.codec.specs.Statements.{Told, BlocksTold, FirstTold, LowestTold, AlikeBefore, MisplacedTold, DamagedTold, joined, JoinedTold, exchanged, ExchangedTold, overwritten, OverwrittenTold}
 use Rattle.codec.proofs.ReaderLaws.{block_damaged, block_misplaced, block_valid, block_refuses, check_same, found_same, first_valid, first_refuses, blocks_then, later_hold, tests_refused}
 use Rattle.codec.proofs.ReadWriteLaws.{Whole, whole, all_blocks}
 use Rattle.codec.proofs.FileLaws.{Was, was_taken, ragged, not_ragged, first_same, demanded_same}
-use Rattle.machine.specs.declared.Refusal.TheVariants.{Misplaced}
+use Rattle.machine.specs.declared.Refusal.TheVariants.{ShortBuffer, BadLength, BadHeader, BadCounts, WrongLength, BadPadding, Misplaced}
 
 -- ---- what 3, 7 and 19 mean
 -- the other numbers tell nothing here
-told_other : (f : List ℕ) (number x y z : ℕ) → (number ≡ bad_first_block → ⊥) → (number ≡ bad_block → ⊥) → (number ≡ misplaced → ⊥) → Told f (refusal number x y z)
-told_other f number x y z a b c = record { first_damaged = λ e. absurd (a e); later_damaged = λ e. absurd (b e); found_misplaced = λ e. absurd (c e) }
+told_other : (f : List ℕ) (r : Refusal) → (number_of r ≡ 3 → ⊥) → (number_of r ≡ 7 → ⊥) → (number_of r ≡ 19 → ⊥) → Told f r
+told_other f r a b c = record { first_damaged = λ e. absurd (a e); later_damaged = λ e. absurd (b e); found_misplaced = λ e. absurd (c e) }
 
 first_block_told : (f : List ℕ) → 512 ≤ length f → RefusesOnly (Told f) (block_validity f 0)
-unfolding damaged_number
+unfolding damaged
 first_block_told f long = block_refuses f 0 (Told f)
     (λ t. record { first_damaged = λ e. (refl, t); later_damaged = λ e. absurd (omega arith); found_misplaced = λ e. absurd (omega arith) })
     (λ t n. record {
@@ -35,7 +35,7 @@ first_block_told f long = block_refuses f 0 (Told f)
 
 -- the blocks before a later one that is looked at hold
 later_told : (f : List ℕ) → BlockHolds f 0 → RefusesOnly (Told f) (later_blocks f)
-unfolding later_blocks damaged_number
+unfolding later_blocks damaged
 later_told f first = refuses_each (Told f) _ _ (λ i l v. block_refuses f (suc i) (Told f)
     (λ t. record {
       first_damaged = λ e. absurd (omega arith);
@@ -55,26 +55,23 @@ later_told f first = refuses_each (Told f) _ _ (λ i l v. block_refuses f (suc i
 later_blocks_told : (f : List ℕ) → BlockHolds f 0 → RefusesOnly (Told f) (blocks_validity f)
 unfolding blocks_validity
 later_blocks_told f first =
-    refuses_cond (Told f) (not (eqb (length f) (demanded f))) _ _ (λ t. refuses_at (Told f) _ (told_other f wrong_length 0 0 0 (λ e. omega arith) (λ e. omega arith) (λ e. omega arith)))
+    refuses_cond (Told f) (not (eqb (length f) (demanded f))) _ _ (λ t. refuses_at (Told f) _ (told_other f WrongLength (λ e. omega arith) (λ e. omega arith) (λ e. omega arith)))
     (λ t. refuses_then (Told f) (later_blocks f) _ (later_told f first)
-    (λ v. refuses_cond (Told f) (not (padding_holds f)) _ _ (λ u. refuses_at (Told f) _ (told_other f bad_padding 0 0 0 (λ e. omega arith) (λ e. omega arith) (λ e. omega arith)))
+    (λ v. refuses_cond (Told f) (not (padding_holds f)) _ _ (λ u. refuses_at (Told f) _ (told_other f BadPadding (λ e. omega arith) (λ e. omega arith) (λ e. omega arith)))
     (λ u. refuses_none (Told f))))
 
 pub blocks_told : BlocksTold
 unfolding read_answer read_validity buffer_validity
 blocks_told f lent r e =
     refuses_then (Told f) (buffer_validity table_room (length lent)) _
-    (refuses_cond (Told f) (ltb (length lent) table_room) _ _ (λ t. refuses_at (Told f) _ (other short_buffer (λ e. omega arith) (λ e. omega arith) (λ e. omega arith))) (λ t. refuses_none (Told f)))
+    (refuses_cond (Told f) (ltb (length lent) table_room) _ _ (λ t. refuses_at (Told f) _ (told_other f ShortBuffer (λ e. omega arith) (λ e. omega arith) (λ e. omega arith))) (λ t. refuses_none (Told f)))
     (λ t. refuses_then (Told f) (first_validity f) _
-    (first_refuses (Told f) f (other bad_length (λ e. omega arith) (λ e. omega arith) (λ e. omega arith)) (first_block_told f)
-    (other bad_header (λ e. omega arith) (λ e. omega arith) (λ e. omega arith)) (other bad_counts (λ e. omega arith) (λ e. omega arith) (λ e. omega arith)))
+    (first_refuses (Told f) f (told_other f BadLength (λ e. omega arith) (λ e. omega arith) (λ e. omega arith)) (first_block_told f)
+    (told_other f BadHeader (λ e. omega arith) (λ e. omega arith) (λ e. omega arith)) (told_other f BadCounts (λ e. omega arith) (λ e. omega arith) (λ e. omega arith)))
     (λ v. refuses_then (Told f) (blocks_validity f) _ (later_blocks_told f (first_valid f v).block)
-    (λ u. pair_refuses (Told f) (λ number x y z low high. told_other f number x y z (λ e. omega arith) (λ e. omega arith) (λ e. omega arith)) (pair_of f)
-    (λ w. other bad_counts (λ e. omega arith) (λ e. omega arith) (λ e. omega arith)))))
+    (λ u. pair_refuses (Told f) (λ r low high. told_other f r (λ e. omega arith) (λ e. omega arith) (λ e. omega arith)) (pair_of f)
+    (λ w. told_other f BadCounts (λ e. omega arith) (λ e. omega arith) (λ e. omega arith)))))
     r (given_refused _ _ e)
-  where
-    other : (number : ℕ) → (number ≡ bad_first_block → ⊥) → (number ≡ bad_block → ⊥) → (number ≡ misplaced → ⊥) → Told f (refusal number 0 0 0)
-    other number = told_other f number 0 0 0
 
 -- ---- and back
 reads : (f lent : List ℕ) {r : Refusal} → table_room ≤ length lent → and_then (first_validity f) (blocks_validity f) ≡ Err r → read_answer f lent ≡ Err r

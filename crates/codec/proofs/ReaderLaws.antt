@@ -15,7 +15,7 @@ use Rattle.mask.specs.BoundedLaws.{every_at, every_of, every_cong}
 use Rattle.mask.specs.Tables.{table}
 use Rattle.mask.specs.TablesLaws.{table_length, table_cong}
 use Rattle.machine.specs.Machines.{pair_under}
-use Rattle.machine.specs.Refusals.{Tested, valid, and_then, each, buffer_after, refusal}
+use Rattle.machine.specs.Refusals.{Tested, valid, and_then, each, buffer_after}
 use Rattle.machine.specs.RefusalsLaws.{valid_next, then_of, then_refused, then_answer, then_then, each_valid, each_at, RefusesOnly, refuses_none, refuses_at, refuses_cond, refuses_then, buffer_valid, buffer_short, buffer_made}
 use Rattle.machine.specs.declared.Machine.{Machine}
 use Rattle.machine.specs.declared.Refusal.{Refusal}
@@ -23,7 +23,7 @@ use Rattle.machine.specs.WellFormed.{pair_validity}
 use Rattle.machine.specs.WellFormedLaws.{counts_at, mul_bound}
 use Rattle.machine.specs.Table.{table_room}
 use Rattle.codec.specs.Format.{number_at, payload_most, payload_length, file_length, blocks_for}
-use Rattle.codec.specs.Reader.{check_holds, number_found, damaged_number, block_validity, BlockHolds, header_byte, note_of, header_holds, counts_hold, header_validity, first_validity, payload_demanded, demanded, later_blocks, padding_holds, blocks_validity, payload_byte, payload_of, machine_at, pair_of, entries_of, read_validity, table_of}
+use Rattle.codec.specs.Reader.{check_holds, number_found, damaged, block_validity, BlockHolds, header_byte, note_of, header_holds, counts_hold, header_validity, first_validity, payload_demanded, demanded, later_blocks, padding_holds, blocks_validity, payload_byte, payload_of, machine_at, pair_of, entries_of, read_validity, table_of}
 use Rattle.codec.specs.Loading.{entries_place, entries_count, Loaded}
 use Rattle.mask.specs.Tables.{front}
 use Rattle.codec.specs.NumberLaws.{number_cong}
@@ -33,7 +33,7 @@ use Rattle.machine.specs.declared.Refusal.TheVariants.{BadCounts, BadHeader, Bad
 
 -- ---- a block
 module _ (f : List ℕ) (i : ℕ) where
-  pub block_damaged : check_holds f i ≡ false → block_validity f i ≡ Err (refusal (damaged_number i) i 0 0)
+  pub block_damaged : check_holds f i ≡ false → block_validity f i ≡ Err (damaged i)
   unfolding block_validity
   block_damaged e = rw (not_i e)
 
@@ -52,7 +52,7 @@ module _ (f : List ℕ) (i : ℕ) where
       let b = valid_next _ _ _ a.1 in
       (not_false _ a.0, eqb-true (number_found f i) i (not_false _ b.0))
 
-  pub block_refuses : (F : Refusal → Type 0) → (check_holds f i ≡ false → F (refusal (damaged_number i) i 0 0))
+  pub block_refuses : (F : Refusal → Type 0) → (check_holds f i ≡ false → F (damaged i))
       → (check_holds f i ≡ true → (number_found f i ≡ i → ⊥) → F (Misplaced i (number_found f i))) → RefusesOnly F (block_validity f i)
   unfolding block_validity
   block_refuses F d m =

@@ -1,38 +1,21 @@
--- Laws of the calls' answers: what document 01 says where the code has a case.
-use Rattle.std.specs.Prelude.{Bool, ◌≡◌, ℕ, Err, Ok}
+-- Laws of the reader's answer: what document 01 says where the code has a case.
+use Rattle.std.specs.Prelude.{Bool, ◌≡◌, Err, Ok}
 use Rattle.std.proofs.Common.{sym, ap, ap₂, ◌∙◌}
 use Rattle.machine.specs.declared.Pair.{Pair}
 use Rattle.machine.specs.declared.Refusal.{Refusal}
 use Rattle.machine.specs.Refusals.{Answer}
-use Rattle.codec.specs.declared.Reading.{Reading}
-use Rattle.codec.specs.declared.Reading.TheVariants as reading
 use Rattle.codec.specs.declared.Show.{Show}
-use Rattle.codec.specs.declared.Size.{Size}
-use Rattle.codec.specs.declared.Size.TheVariants as size
 use Rattle.codec.specs.Reader.{Taken, taken, zero_pair}
-use Rattle.codec.specs.Answers.{read_beside, read_of, pair_given, sized_of, refusal_of}
+use Rattle.codec.specs.Answers.{read_beside, read_of, pair_given}
 
 -- ---- of a contract `read_of s ≡ a`
-pub read_taken : (s : Show) {a : Answer Taken} {note : Bool} → read_of s ≡ a → s.reading ≡ reading.Taken note → a ≡ Ok (taken s.pair note)
+pub read_taken : (s : Show) {a : Answer Taken} {note : Bool} → read_of s ≡ a → s.reading ≡ Ok note → a ≡ Ok (taken s.pair note)
 unfolding read_of read_beside
 read_taken s e z = sym e ∙ ap (read_beside s.pair) z
 
-pub read_refused : (s : Show) {a : Answer Taken} {r : Refusal} → read_of s ≡ a → s.reading ≡ reading.Refused r → a ≡ Err r
+pub read_refused : (s : Show) {a : Answer Taken} {r : Refusal} → read_of s ≡ a → s.reading ≡ Err r → a ≡ Err r
 unfolding read_of read_beside
 read_refused s e z = sym e ∙ ap (read_beside s.pair) z
-
-pub refusal_of_lem : {x : Reading} {r : Refusal} → x ≡ reading.Refused r → refusal_of x ≡ r
-unfolding refusal_of
-refusal_of_lem z = ap refusal_of z
-
--- ---- of a contract `sized_of z ≡ a`
-pub sized_bytes : {z : Size} {a : Answer ℕ} {n : ℕ} → sized_of z ≡ a → z ≡ size.Bytes n → a ≡ Ok n
-unfolding sized_of
-sized_bytes e z = sym e ∙ ap sized_of z
-
-pub sized_refused : {z : Size} {a : Answer ℕ} {r : Refusal} → sized_of z ≡ a → z ≡ size.Refused r → a ≡ Err r
-unfolding sized_of
-sized_refused e z = sym e ∙ ap sized_of z
 
 -- ---- the machines beside an answer
 pub pair_taken : {a : Answer Taken} {p : Pair} {note : Bool} → a ≡ Ok (taken p note) → pair_given a ≡ p
@@ -45,7 +28,7 @@ pair_refused e = ap pair_given e
 
 -- ---- both contracts of the reader at once, where it takes a file and where it refuses one
 pub shown_taken : (p : Pair) {q : Pair} {m n : Bool} {a : Answer Taken} → a ≡ Ok (taken q n) → p ≡ q → m ≡ n
-    → (read_beside p (reading.Taken m) ≡ a) × (p ≡ pair_given a)
+    → (read_beside p (Ok m) ≡ a) × (p ≡ pair_given a)
 unfolding read_beside
 shown_taken p e f g = (ap₂ (λ (x : Pair) (y : Bool). Ok (taken x y)) f g ∙ sym e, f ∙ sym (pair_taken e))
 

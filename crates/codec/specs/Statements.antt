@@ -12,7 +12,7 @@ use Rattle.machine.specs.WellFormed.{well_formed, nonempty_sets}
 use Rattle.machine.specs.Machines.{observation, matched, n_c, n_a, sets_c, sets_a}
 use Rattle.machine.specs.Refusals.{valid, number_of}
 use Rattle.codec.specs.Format.{letters, file_length, file_of}
-use Rattle.codec.specs.Reader.{input_room, taken, check_holds, number_found, BlockHolds, block_validity, header_byte, header_holds, first_validity, demanded, entries_of, read_answer, read_table, size_of}
+use Rattle.codec.specs.Reader.{input_room, taken, check_holds, number_found, damaged, BlockHolds, block_validity, header_byte, header_holds, first_validity, demanded, entries_of, read_answer, read_table, size_of}
 use Rattle.codec.specs.Writer.{file_room, write_answer, write_buffer}
 use Rattle.machine.specs.declared.Refusal.TheVariants.{BadBlock, BadFirstBlock, Misplaced}
 
@@ -104,7 +104,7 @@ MisplacedTold = (f g lent : List ℕ) (p : Pair) (note : Bool) (i : ℕ) → rea
 -- and a block whose check is wrong is 3 or 7
 abbrev pub DamagedTold : Type 0
 DamagedTold = (f g lent : List ℕ) (p : Pair) (note : Bool) (i : ℕ) → read_answer f lent ≡ Ok (taken p note) → AlikeBefore i f g
-    → check_holds g i ≡ false → read_answer g lent ≡ Err (refusal (damaged_number i) i 0 0)
+    → check_holds g i ≡ false → read_answer g lent ≡ Err (damaged i)
 
 -- the blocks of a file joined anew: at place i the block that stood at place `from i`
 unfoldable pub joined : (ℕ → ℕ) → List ℕ → List ℕ

@@ -19,9 +19,7 @@ use Rattle.machine.specs.RefusalsLaws.{then_of, then_refused, then_answer, given
 use Rattle.machine.specs.WellFormed.{nonempty_validity, nonempty_sets, well_formed}
 use Rattle.machine.specs.WellFormedLaws.{WellPair, well_valid}
 use Rattle.machine.specs.EmptySetsLaws.{nonempty_valid, nonempty_at}
-use Rattle.codec.specs.declared.Size.TheVariants as size
 use Rattle.codec.specs.Writer.{file_room, write_validity, write_answer, write_buffer}
-use Rattle.codec.specs.Answers.{sized_of}
 use Rattle.codec.specs.Format.{byte_of, bytes_of, numbers, letters, header, machine_bytes, table_bytes, payload, payload_most, payload_room, payload_length, blocks_for, file_length, check_at, block_front, block, blocked, file_of}
 use Rattle.codec.specs.NumberLaws.{bytes_length, numbers_length}
 use Rattle.codec.specs.ListLaws.{table_of_lem, rows_more, sets_then, sets_none, sets_snoc, sets_at, sets_front, sets_zeros, pasted}
@@ -205,14 +203,14 @@ pub same_tests : (p : Pair) (m n buffer_len : ℕ) → table_room ≤ m → tabl
 same_tests p m n buffer_len h k = with_table p m buffer_len h ∙ sym (with_table p n buffer_len k)
 
 module _ (p : Pair) (note : Bool) (T buffer : List ℕ) where
-  pub write_refused : {r q : Refusal} → write_validity p (length T) (length buffer) ≡ Err r → q ≡ r
-      → (sized_of (size.Refused q) ≡ write_answer p note T buffer) × (buffer ≡ write_buffer p note T buffer)
-  unfolding write_answer write_buffer sized_of
-  write_refused e z = (ap Err z ∙ sym (then_refused _ _ _ e), sym (buffer_kept _ _ buffer e))
+  pub write_refused : {r : Refusal} → write_validity p (length T) (length buffer) ≡ Err r
+      → (Err r ≡ write_answer p note T buffer) × (buffer ≡ write_buffer p note T buffer)
+  unfolding write_answer write_buffer
+  write_refused e = (sym (then_refused _ _ _ e), sym (buffer_kept _ _ buffer e))
 
   pub write_valid : {n : ℕ} → write_validity p (length T) (length buffer) ≡ valid → n ≡ file_length (n_c p) (n_a p) (sets_c p) (sets_a p) note
-      → (sized_of (size.Bytes n) ≡ write_answer p note T buffer) × (file_of p note T ++ drop (length (file_of p note T)) buffer ≡ write_buffer p note T buffer)
-  unfolding write_answer write_buffer sized_of
+      → (Ok n ≡ write_answer p note T buffer) × (file_of p note T ++ drop (length (file_of p note T)) buffer ≡ write_buffer p note T buffer)
+  unfolding write_answer write_buffer
   write_valid e z = (ap Ok z ∙ sym (then_of _ _ e), sym (buffer_made _ _ buffer e))
 
   -- the writer answers where machines are well formed, each set has a state and both buffers have room

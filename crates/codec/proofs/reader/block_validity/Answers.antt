@@ -2,24 +2,19 @@
 -- a number is not looked at is refused, with a number that is not the block's place.
 use mathlib.Core.Path.{sym, ap, ◌∙◌}
 use native.Mathlib.Omega.{arith}
-use Rattle.machine.specs.Refusals.{tested_of}
 use Rattle.codec.proofs.ReaderLaws.{block_damaged, block_misplaced, block_valid}
 use Rattle.std.specs.Prelude.{Err}
 use Rattle.codec.proofs.reader.block_validity.Goals as goal
 
 pub returns : goal.returns
-unfolding tested_of
 returns c =
     sym (block_valid _ _ (sym c.check_holds.ensures ∙ c.if-not-check_holds.false, omega (arith, c.number_found-number.ensures)))
 
 pub returns-then-not-check_holds : goal.returns-then-not-check_holds
-unfolding tested_of
 returns-then-not-check_holds c =
-    ap Err c.refuse.ensures
-    ∙ rw c.damaged_number.ensures (sym (block_damaged _ _ (sym c.check_holds.ensures ∙ c.if-not-check_holds.true)))
+    ap Err c.damaged.ensures ∙ sym (block_damaged _ _ (sym c.check_holds.ensures ∙ c.if-not-check_holds.true))
 
 pub returns-then-number-i : goal.returns-then-number-i
-unfolding tested_of
 returns-then-number-i c =
     let found = c.number_found-number.ensures in
-    ap Err c.refuse-then-number-i.ensures ∙ rw found (sym (block_misplaced _ _ (sym c.check_holds.ensures ∙ c.if-not-check_holds.false) (λ e. omega (arith, found, e))))
+    rw found (sym (block_misplaced _ _ (sym c.check_holds.ensures ∙ c.if-not-check_holds.false) (λ e. omega (arith, found, e))))

@@ -4,8 +4,9 @@ use mathlib.Core.List.{List}
 use mathlib.Core.Path.{◌≡◌, sym, ap, subst, ◌∙◌}
 use native.Mathlib.Omega.{arith}
 use lib.ListN.{length}
-use Rattle.machine.specs.Refusals.{valid, tested_of}
-use Rattle.machine.specs.RefusalsLaws.{tested_valid, tested_refused, each_none, each_next, each_refused}
+use Rattle.machine.specs.Refusals.{valid}
+use Rattle.machine.specs.RefusalsLaws.{each_none, each_next, each_refused}
+use Rattle.machine.proofs.Passing.{passed_on}
 use Rattle.codec.specs.Reader.{block_validity, later_blocks}
 use Rattle.codec.proofs.reader.later_blocks.Invariants.{passed}
 use Rattle.codec.proofs.reader.later_blocks.Goals as goal
@@ -19,19 +20,20 @@ one_more f i e h = let step : suc i ≡ i + 1 = omega arith in subst (passed f) 
 pub loop-i-init : goal.loop-i-init
 loop-i-init c = (omega arith, each_none _)
 
-pub returns-in-Refused : goal.returns-in-Refused
-unfolding tested_of later_blocks
-returns-in-Refused c =
+pub returns-in_err-block_validity : goal.returns-in_err-block_validity
+unfolding later_blocks
+returns-in_err-block_validity c =
     let l = c.loop-i in
-    sym (each_refused _ _ l.i (omega arith) l.invariant.1 (next _ l.i ∙ tested_refused c.block_validity-block.ensures c.in-Refused.is))
+    passed_on c.from_residual.ensures
+    ∙ sym (each_refused _ _ l.i (omega arith) l.invariant.1 (next _ l.i ∙ sym c.block_validity.ensures ∙ c.in_err-block_validity.was))
 
 pub loop-i-preserved : goal.loop-i-preserved
 loop-i-preserved c =
     let l = c.loop-i in
-    (omega arith, one_more _ l.i l.invariant.1 (tested_valid c.block_validity-block.ensures c.in_default.is))
+    (omega arith, one_more _ l.i l.invariant.1 (sym c.block_validity.ensures ∙ c.in_ok-block_validity.was))
 
 pub returns : goal.returns
-unfolding tested_of later_blocks
+unfolding later_blocks
 returns c =
     let l = c.loop-i in
     let f = c.args.bytes.now in

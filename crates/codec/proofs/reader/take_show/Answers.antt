@@ -5,8 +5,8 @@ use mathlib.Core.List.{List}
 use mathlib.Core.Path.{◌≡◌, sym, ap, ◌∙◌}
 use native.Mathlib.Omega.{arith}
 use lib.ListN.{length, length-replicate}
-use Rattle.machine.specs.Refusals.{and_then, valid, tested_of}
-use Rattle.machine.specs.RefusalsLaws.{then_answer, then_refused, then_of, tested_valid, tested_refused, buffer_kept}
+use Rattle.machine.specs.Refusals.{and_then, valid}
+use Rattle.machine.specs.RefusalsLaws.{then_answer, then_refused, then_of, buffer_kept}
 use Rattle.machine.specs.WellFormed.{pair_validity}
 use Rattle.codec.specs.Format.{payload_room}
 use Rattle.codec.specs.Reader.{first_validity, blocks_validity, demanded, pair_of}
@@ -15,7 +15,7 @@ use Rattle.codec.specs.Loading.{Loaded}
 use Rattle.codec.proofs.ReaderLaws.{FirstValid, first_valid, blocks_valid, few_blocks, loaded, table_after}
 use Rattle.codec.specs.AnswersLaws.{shown_taken, shown_refused}
 use Rattle.codec.proofs.reader.take_show.Goals as goal
-use Rattle.codec.proofs.reader.take_show.Goals.{In-Valid, After-join, After-pair_validity}
+use Rattle.codec.proofs.reader.take_show.Goals.{In-Ok, After-join, After-pair_validity}
 
 first : (f : List ℕ) → and_then (first_validity f) (blocks_validity f) ≡ valid → FirstValid f
 first f e = first_valid f (then_answer _ _ e).0
@@ -35,11 +35,11 @@ there c =
     loaded f _ payload_room (first f e) (long f e) (room f e) c.join.ensures
 
 -- the pair that was read, and what its tests say
-read : (c : After-pair_validity) → tested_of c.pair_validity.result ≡ pair_validity (pair_of c.args.bytes.now)
+read : (c : After-pair_validity) → c.pair_validity.result ≡ pair_validity (pair_of c.args.bytes.now)
 read c = c.pair_validity.ensures ∙ ap pair_validity c.pair_at-pair.ensures
 
-right : (c : In-Valid) → pair_validity (pair_of c.args.bytes.now) ≡ valid
-right c = tested_valid (c.pair_validity.ensures ∙ ap pair_validity c.pair_at-pair.ensures) c.in-Valid.is
+right : (c : In-Ok) → pair_validity (pair_of c.args.bytes.now) ≡ valid
+right c = sym (c.pair_validity.ensures ∙ ap pair_validity c.pair_at-pair.ensures) ∙ c.in-Ok.is
 
 pub join-requires : goal.join-requires
 join-requires c = rw (length-replicate {A = ℕ} payload_room 0) (room _ c.requires.bytes_value)
@@ -58,16 +58,16 @@ table_at-requires c =
       table_room_in_bounds = c.requires.table_room_in_bounds;
     }
 
-pub returns-in-Refused : goal.returns-in-Refused
-returns-in-Refused c =
-    let e = tested_refused (read (goal.at.returns-in-Refused c).After-pair_validity) c.in-Refused.is in
+pub returns-in-Err : goal.returns-in-Err
+returns-in-Err c =
+    let e = sym (read (goal.at.returns-in-Err c).After-pair_validity) ∙ c.in-Err.is in
     let shown = shown_refused c.refused_show.result (then_refused _ _ _ e) c.refused_show.ensures.answer c.refused_show.ensures.machines in
     record { answer = shown.0; machines = shown.1; content = sym (buffer_kept _ _ _ e) }
 
 pub returns-then-note : goal.returns-then-note
 unfolding read_of
 returns-then-note c =
-    let e = right (goal.at.returns-then-note c).In-Valid in
+    let e = right (goal.at.returns-then-note c).In-Ok in
     let shown = shown_taken _ (then_of _ _ e) c.pair_at-pair.ensures c.note_of-note.ensures in
     record {
       answer = shown.0;
@@ -78,6 +78,6 @@ returns-then-note c =
 pub returns-else-note : goal.returns-else-note
 unfolding read_of
 returns-else-note c =
-    let e = right (goal.at.returns-else-note c).In-Valid in
+    let e = right (goal.at.returns-else-note c).In-Ok in
     let shown = shown_taken _ (then_of _ _ e) c.pair_at-pair.ensures c.note_of-note.ensures in
     record { answer = shown.0; machines = shown.1; content = sym (table_after _ _ _ false e (sym c.note_of-note.ensures ∙ c.if-note.false)) }
