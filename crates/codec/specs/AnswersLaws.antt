@@ -1,12 +1,12 @@
 -- Laws of the reader's answer: what document 01 says where the code has a case.
-use Rattle.std.specs.Prelude.{Bool, ◌≡◌, Err, Ok}
+use Rattle.std.specs.Prelude.{Bool, ℕ, ◌≡◌, refl, Err, Ok, unwrap_or}
 use Rattle.std.proofs.Common.{sym, ap, ap₂, ◌∙◌}
 use Rattle.machine.specs.declared.Pair.{Pair}
 use Rattle.machine.specs.declared.Refusal.{Refusal}
-use Rattle.machine.specs.Refusals.{Answer}
+use Rattle.machine.specs.Refusals.{Answer, answer_in}
 use Rattle.codec.specs.declared.Show.{Show}
 use Rattle.codec.specs.Reader.{Taken, taken, zero_pair}
-use Rattle.codec.specs.Answers.{read_beside, read_of, pair_given}
+use Rattle.codec.specs.Answers.{read_beside, read_of, pair_given, length_of}
 
 -- ---- of a contract `read_of s ≡ a`
 pub read_taken : (s : Show) {a : Answer Taken} {note : Bool} → read_of s ≡ a → s.reading ≡ Ok note → a ≡ Ok (taken s.pair note)
@@ -35,3 +35,9 @@ shown_taken p e f g = (ap₂ (λ (x : Pair) (y : Bool). Ok (taken x y)) f g ∙ 
 pub shown_refused : (s : Show) {r : Refusal} {a : Answer Taken} → a ≡ Err r → read_of s ≡ Err r → s.pair ≡ zero_pair
     → (read_of s ≡ a) × (s.pair ≡ pair_given a)
 shown_refused s e f g = (f ∙ sym e, g ∙ sym (pair_refused e))
+
+-- ---- for C
+pub length_told : (v : Answer ℕ) → unwrap_or (answer_in v) 0 ≡ length_of v
+unfolding answer_in length_of
+length_told (Ok n) = refl
+length_told (Err r) = refl

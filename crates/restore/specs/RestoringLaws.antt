@@ -14,7 +14,6 @@ use Rattle.machine.specs.WellFormed.{nonempty_validity, nonempty_sets}
 use Rattle.machine.specs.EmptySetsLaws.{nonempty_valid, nonempty_at}
 use Rattle.machine.specs.Ranks.{solver_table}
 use Rattle.machine.specs.Table.{table_room}
-use Rattle.codec.specs.declared.Reading.TheVariants as reading
 use Rattle.codec.specs.declared.Show.{Show}
 use Rattle.codec.specs.Format.{file_of}
 use Rattle.codec.specs.FormatLaws.{file_length_lem, file_cong}
@@ -72,12 +71,12 @@ module _ (f buffer : List ℕ) where
 
     -- ---- by what was read
     module _ (s : Show) (T : List ℕ) (read : read_of s ≡ read_answer f (replicate table_room 0)) (left : T ≡ read_table f (replicate table_room 0)) where
-      pub restore_refused : (r : Refusal) → s.reading ≡ reading.Refused r → (restore_answer f buffer ≡ Err r) × (restore_buffer f buffer ≡ buffer)
+      pub restore_refused : (r : Refusal) → s.reading ≡ Err r → (restore_answer f buffer ≡ Err r) × (restore_buffer f buffer ≡ buffer)
       unfolding read_answer
       restore_refused r e = stopped r (read_tests ∙ then_refused _ _ r (given_refused _ _ (read_refused s read e)))
 
       -- of a file that was taken, by what the solver said
-      module _ (note : Bool) (e : s.reading ≡ reading.Taken note) where
+      module _ (note : Bool) (e : s.reading ≡ Ok note) where
         was : Was f (replicate table_room 0) s.pair note
         was = was_taken f (replicate table_room 0) s.pair note (read_taken s read e)
 
