@@ -1,6 +1,5 @@
 -- definitions
 pub mod Text
-pub mod Answers
 -- laws
 pub mod TextLaws
 pub mod LineLaws

@@ -1,40 +1,41 @@
 -- Laws of the lines' texts, as words, numbers and the bytes after them.
-use Rattle.std.specs.Prelude.{List, ◌++◌, ◌≡◌, refl, ℕ, ◌≤◌, length, take}
-use Rattle.std.proofs.Common.{append_assoc, sym, ap, ◌∙◌, take_all}
+use Rattle.std.specs.Prelude.{List, ◌++◌, ◌≡◌, refl, ℕ, ◌≤◌, get_or, min, length, take}
+use Rattle.std.proofs.Common.{append_assoc, length-append, sym, ap, ◌∙◌, arith, take_all}
+use Rattle.std.proofs.Math.Logic.{by_cases}
+use Rattle.std.proofs.Math.Decide.{dec_lt}
 use Rattle.text.specs.Decimal.{decimal}
+use Rattle.text.specs.DecimalLaws.{decimal_most}
 use Rattle.machine.specs.declared.Refusal.{Refusal}
+use Rattle.machine.specs.declared.Verdict.TheVariants.{Carried, NotCarried}
+use Rattle.machine.specs.Refusals.{number_of, spot_of}
 use Rattle.codec.specs.Reader.{input_room}
-use Rattle.verdict.specs.declared.FileVerdict.{FileVerdict}
-use Rattle.verdict.specs.declared.FileVerdict.TheVariants.{Carried, NotCarried, NoTable, Refused}
-use Rattle.verdict.specs.Outcomes.{outcome_of, file_outcome}
-use Rattle.report.specs.Text.{blank_space, line_feed, carried_text, not_carried_text, no_table_text, refused_text, refusal_line, verdict_line, outcome_line, shelf_line}
+use Rattle.verdict.specs.Outcomes.{file_outcome}
+use Rattle.report.specs.Text.{blank_space, line_feed, carried_text, not_carried_text, refused_text, refusal_line, verdict_line, shelf_line}
 
-pub refusal_text : (r : Refusal)
-    → refused_text ++ (decimal r.number ++ blank_space) ++ (decimal r.first ++ blank_space) ++ (decimal r.second ++ blank_space) ++ (decimal r.third ++ line_feed) ≡ refusal_line r
+-- a line has room for each: of n, and of each other number, at most 20 digits
+pub refusal_text : (r : Refusal) (n a b c : ℕ) → n ≡ number_of r → a ≡ get_or (spot_of r) 0 0 → b ≡ get_or (spot_of r) 1 0 → c ≡ get_or (spot_of r) 2 0
+    → take 128 (refused_text ++ (decimal n ++ blank_space) ++ (decimal a ++ blank_space) ++ (decimal b ++ blank_space) ++ (decimal c ++ line_feed)) ≡ refusal_line r
 unfolding refusal_line
-refusal_text r = simp append_assoc
+refusal_text r n a b c en ea eb ec =
+    let line = refused_text ++ (decimal n ++ blank_space) ++ (decimal a ++ blank_space) ++ (decimal b ++ blank_space) ++ (decimal c ++ line_feed) in
+    let short : length line ≤ 128 = simp length-append (omega (arith, decimal_most n, decimal_most a, decimal_most b, decimal_most c)) in
+    let same : line ≡ refused_text ++ (decimal n ++ (blank_space ++ (decimal a ++ (blank_space ++ (decimal b ++ (blank_space ++ (decimal c ++ line_feed))))))) = simp append_assoc in
+    take_all 128 line short ∙ same ∙ rw (en, ea, eb, ec) refl
 
-pub carried_text_lem : (n : ℕ) → carried_text ++ (decimal n ++ line_feed) ≡ outcome_line (outcome_of (Carried n))
-unfolding verdict_line outcome_line outcome_of
-carried_text_lem n = refl
+pub carried_line : (n : ℕ) → take 128 (carried_text ++ (decimal n ++ line_feed)) ≡ verdict_line (Carried n)
+unfolding verdict_line
+carried_line n = take_all 128 _ (simp length-append (omega (arith, decimal_most n)))
 
-pub not_carried_text_lem : (c n : ℕ) → not_carried_text ++ (decimal c ++ blank_space) ++ (decimal n ++ line_feed) ≡ outcome_line (outcome_of (NotCarried c n))
-unfolding verdict_line outcome_line outcome_of
-not_carried_text_lem c n = simp append_assoc
-
-pub no_table_text_lem : no_table_text ≡ outcome_line (outcome_of NoTable)
-unfolding outcome_line outcome_of
-no_table_text_lem = refl
-
-pub refused_text_lem : (r : Refusal) → refusal_line r ≡ outcome_line (outcome_of (Refused r))
-unfolding verdict_line outcome_line outcome_of
-refused_text_lem r = refl
+pub not_carried_line : (c n : ℕ) → take 128 (not_carried_text ++ (decimal c ++ blank_space) ++ (decimal n ++ line_feed)) ≡ verdict_line (NotCarried c n)
+unfolding verdict_line
+not_carried_line c n =
+    let line = not_carried_text ++ (decimal c ++ blank_space) ++ (decimal n ++ line_feed) in
+    let short : length line ≤ 128 = simp length-append (omega (arith, decimal_most c, decimal_most n)) in
+    let same : line ≡ not_carried_text ++ (decimal c ++ (blank_space ++ (decimal n ++ line_feed))) = simp append_assoc in
+    take_all 128 line short ∙ same
 
 -- longer input is cut, and shorter input is taken whole
-pub shelf_cut : (input : List ℕ) (v : FileVerdict) → outcome_of v ≡ file_outcome (take input_room input) → outcome_line (outcome_of v) ≡ shelf_line input
-unfolding shelf_line
-shelf_cut input v e = ap outcome_line e
-
-pub shelf_whole : (input : List ℕ) (v : FileVerdict) → length input ≤ input_room → outcome_of v ≡ file_outcome input → outcome_line (outcome_of v) ≡ shelf_line input
-unfolding shelf_line
-shelf_whole input v h e = ap outcome_line (e ∙ ap file_outcome (sym (take_all input_room input h)))
+pub input_cut : (input : List ℕ) {n : ℕ} → n ≡ min (length input) input_room → take n input ≡ take input_room input
+input_cut input {n} e =
+    by_cases (dec_lt (length input) input_room) (λ h. let z : n ≡ length input = omega arith in ap (λ (k : ℕ). take k input) z ∙ take_all (length input) input (omega arith) ∙ sym (take_all input_room input (omega arith)))
+    (λ h. let z : n ≡ input_room = omega arith in ap (λ (k : ℕ). take k input) z)

@@ -1,88 +1,91 @@
 // The lines that the programs write: document 01, "Console and program".
 #![tactic(auto)]
 
-ghost use Rattle.std.specs.Prelude.{List, [], ◌∷◌, ◌++◌, ◌≡◌, ℕ, ◌+◌, ◌≤◌, length};
+ghost use Rattle.std.specs.Prelude.{◌≡◌, [], ◌∷◌, ◌++◌, take};
 ghost use Rattle.text.specs.Decimal.{decimal};
-ghost use Rattle.report.specs.Text.{refusal_line, outcome_line, shelf_line};
-ghost use Rattle.report.specs.Answers.{line_of};
+ghost use Rattle.report.specs.Text.{no_table_text, refusal_line, verdict_line, outcome_line, shelf_line};
 
+use arrayvec::ArrayVec;
 use machine::{Refusal, Verdict};
 
-// A line of text with its line feed: the first `length` bytes of `text`, and zeros after them.
-#[derive(Clone, Copy)]
-pub struct Line {
-    pub text: [u8; 128],
-    pub length: usize,
+// A line of text with its line feed.
+pub type Line = ArrayVec<u8, 128>;
+
+// Puts a word behind the line so far, as much of it as there is room for.
+pub fn append(line: &mut Line, word: &[u8])
+    ensures { line.new.items ≡ take 128 (line.old.items ++ word.now) }
+{
+    let end = word.len().min(line.remaining_capacity());
+    line.try_extend_from_slice(&word[..end]).unwrap();
 }
 
-// The line that holds a word.
-fn started(word: &[u8]) -> Line
-    requires { length word.now ≤ 128 }
-    ensures value { result ≡ line_of word.now }
-    ensures length { result.length ≡ length word.now }
+// Puts a number's digits and one byte more behind the line so far, in the same way.
+pub fn append_number(line: &mut Line, n: usize, after: u8)
+    ensures { line.new.items ≡ take 128 (line.old.items ++ (decimal n ++ (after ∷ []))) }
 {
-    let mut text = [0u8; 128];
-    text::put(&mut text, 0, word);
-    Line {
-        text,
-        length: word.len(),
-    }
-}
-
-// The line with a number's digits and one byte more.
-fn numbered(line: Line, n: usize, after: u8) -> Line
-    requires { line.length + 21 ≤ 128 }
-    ensures appended { (s : List ℕ) → line ≡ line_of s → result ≡ line_of (s ++ (decimal n ++ (after ∷ []))) }
-    ensures room { result.length ≤ line.length + 21 }
-{
-    let mut text = line.text;
-    let at = line.length;
-    let end = at + text::put_number(&mut text, at, n);
-    text[end] = after;
-    Line {
-        text,
-        length: end + 1,
-    }
+    append(line, &text::digits_of(n));
+    append(line, &[after]);
 }
 
 // The line of a refusal.
 pub fn refusal_line(r: Refusal) -> Line
-    ensures value { result ≡ line_of (refusal_line r) }
-    ensures room { result.length ≤ 128 }
+    ensures { result.items ≡ refusal_line r }
 {
     let spot = r.spot();
-    let word = started(b"refused ");
-    let number = numbered(word, r.number() as usize, b' ');
-    let first = numbered(number, spot[0], b' ');
-    let second = numbered(first, spot[1], b' ');
-    numbered(second, spot[2], b'\n')
+    let mut line = Line::new();
+    append(&mut line, b"refused ");
+    append_number(&mut line, r.number() as usize, b' ');
+    append_number(&mut line, spot[0], b' ');
+    append_number(&mut line, spot[1], b' ');
+    append_number(&mut line, spot[2], b'\n');
+    line
+}
+
+// The line of what the check says.
+fn checked_line(verdict: Verdict) -> Line
+    ensures { result.items ≡ verdict_line verdict }
+{
+    let mut line = Line::new();
+    match verdict {
+        Verdict::Carried { covered } => {
+            append(&mut line, b"carried ");
+            append_number(&mut line, covered, b'\n');
+        }
+        Verdict::NotCarried { lacking, covered } => {
+            append(&mut line, b"not carried ");
+            append_number(&mut line, lacking, b' ');
+            append_number(&mut line, covered, b'\n');
+        }
+    }
+    line
+}
+
+// The line of a file without a table.
+fn bare_line() -> Line
+    ensures { result.items ≡ no_table_text }
+{
+    let mut line = Line::new();
+    append(&mut line, b"no table\n");
+    line
 }
 
 // The line of what is said of a file.
 pub fn verdict_line(said: Result<Option<Verdict>, Refusal>) -> Line
-    ensures value { result ≡ line_of (outcome_line said) }
-    ensures room { result.length ≤ 128 }
+    ensures { result.items ≡ outcome_line said }
 {
     match said {
-        Ok(Some(Verdict::Carried { covered })) => numbered(started(b"carried "), covered, b'\n'),
-        Ok(Some(Verdict::NotCarried { lacking, covered })) => {
-            let word = started(b"not carried ");
-            let state = numbered(word, lacking, b' ');
-            numbered(state, covered, b'\n')
-        }
-        Ok(None) => started(b"no table\n"),
+        Ok(given) => match given {
+            Some(verdict) => checked_line(verdict),
+            None => bare_line(),
+        },
         Err(refusal) => refusal_line(refusal),
     }
 }
 
 // The line of the file whose bytes are the input, or the first 59,904 bytes of longer input.
 pub fn shelf_line(bytes: &[u8]) -> Line
-    ensures value { result ≡ line_of (shelf_line bytes.now) }
-    ensures room { result.length ≤ 128 }
+    ensures { result.items ≡ shelf_line bytes.now }
 {
-    if codec::INPUT_ROOM < bytes.len() {
-        verdict_line(verdict::file_verdict(&bytes[..codec::INPUT_ROOM]))
-    } else {
-        verdict_line(verdict::file_verdict(bytes))
-    }
+    let end = bytes.len().min(codec::INPUT_ROOM);
+    verdict_line(verdict::file_verdict(&bytes[..end]))
 }
