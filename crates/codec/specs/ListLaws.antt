@@ -9,7 +9,7 @@ use Rattle.std.proofs.Math.ListN.{get_or-append, get_or-eq_default}
 use borrow.Rule.Slice.PartMut.{put_mid}
 use Rattle.std.proofs.lemmas.List.Edits.{sets, sets-eq}
 use Rattle.mask.specs.Tables.{table}
-use Rattle.mask.specs.TablesLaws.{table_length, table_cong, table_append, table_snoc, fill_done}
+use Rattle.mask.specs.TablesLaws.{table_length, table_cong, table_append, fill_done}
 
 module _ {A : Type 0} where
   -- a list is the table of its own elements
@@ -43,11 +43,6 @@ module _ {A : Type 0} where
   pub sets_none : (l : List A) (at : ℕ) (f : ℕ → A) → l ≡ sets l at (table 0 f)
   unfolding table
   sets_none l at f = refl
-
-  -- one store more
-  pub sets_snoc : (l s : List A) (at i : ℕ) (f : ℕ → A) → s ≡ sets l at (table i f) → set s (at + i) (f i) ≡ sets l at (table (i + 1) f)
-  sets_snoc l s at i f e =
-      sets_then l s (set s (at + i) (f i)) (table i f) (f i ∷ []) at i (at + i) e refl (table_length i f) refl ∙ ap (sets l at) (sym (table_snoc i f))
 
   -- what a run has stored
   pub sets_at : (l vs : List A) (at i : ℕ) (d : A) → at + length vs ≤ length l → i < length vs → get_or (sets l at vs) (at + i) d ≡ get_or vs i d
