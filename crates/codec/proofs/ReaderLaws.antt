@@ -1,6 +1,6 @@
 -- Laws of reading: what the tests of a file give, and what each part of the reader computes, as the definitions of Reader say it.
-use Rattle.std.specs.Prelude.{Bool, true, false, cond, List, [], ◌++◌, ◌≡◌, refl, ℕ, zero, suc, ◌+◌, ◌-◌, ◌*◌, ◌/◌, ◌%◌, ◌≤◌, ◌<◌, length, drop, replicate, ltb, Err}
-use Rattle.std.proofs.Common.{⊎_elim, ◌∙◌, arith}
+use Rattle.std.specs.Prelude.{Bool, true, false, cond, List, [], ◌++◌, ◌≡◌, refl, ℕ, zero, suc, ◌+◌, ◌-◌, ◌*◌, ◌/◌, ◌%◌, ◌≤◌, ◌<◌, length, take, drop, replicate, ltb, Err}
+use Rattle.std.proofs.Common.{⊎_elim, ◌∙◌, arith, length-drop, length-take-le, get_or-take, get_or-drop}
 use Rattle.std.proofs.Math.Logic.{by_cases}
 use Rattle.std.proofs.Math.Path.{sym, ap, ap₂}
 use Rattle.std.proofs.Math.Decide.{dec_lt}
@@ -72,6 +72,14 @@ module _ (f g : List ℕ) (i k : ℕ) (same : (j : ℕ) → j < 512 → get_or f
   found_same = number_cong 2 f g (512 * i) (512 * k) (λ j h. same j (omega arith))
 
 -- ---- the first block
+-- a part whose bytes are all zero
+pub part_zeros : (s : List ℕ) (from n m : ℕ) → m ≡ n → from + n ≤ length s
+    → every (length (take m (drop from s))) (λ i. eqb (get_or (take m (drop from s)) i 0) 0) ≡ every n (λ i. eqb (get_or s (from + i) 0) 0)
+part_zeros s from n m e h =
+    let long : length (take m (drop from s)) ≡ n = length-take-le m (drop from s) (rw (length-drop from s) (omega arith)) ∙ e in
+    ap (λ (k : ℕ). every k (λ i. eqb (get_or (take m (drop from s)) i 0) 0)) long
+    ∙ every_cong n _ _ (λ i l. ap (λ (x : ℕ). eqb x 0) (get_or-take m (drop from s) i 0 (omega arith) ∙ get_or-drop from s i 0))
+
 -- the six zeros, as they stand in the file
 pub zeros_header : (f : List ℕ) → every 6 (λ i. eqb (get_or f (12 + i) 0) 0) ≡ every 6 (λ i. eqb (header_byte f (10 + i)) 0)
 unfolding header_byte

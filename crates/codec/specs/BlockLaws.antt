@@ -1,12 +1,13 @@
 -- Laws of blocks: the check as a loop sums it.
-use Rattle.std.specs.Prelude.{List, ◌≡◌, refl, ℕ, suc, ◌+◌, ◌*◌, ◌/◌, ◌%◌, ◌≤◌, ◌<◌, length, get_or, drop}
-use Rattle.std.proofs.Common.{ap, ◌∙◌, le_trans, mul-le-mul_left, mul-le-mul_right, add-one, arith}
-use Rattle.std.proofs.Math.Seq.{paste}
+use Rattle.std.specs.Prelude.{List, ◌≡◌, refl, ℕ, suc, ◌+◌, ◌*◌, ◌/◌, ◌%◌, ◌≤◌, ◌<◌, length, get_or, take, drop}
+use Rattle.std.proofs.Common.{sym, ap, ◌∙◌, le_trans, mul-le-mul_left, mul-le-mul_right, add-one, arith}
+use borrow.Rule.Slice.PartMut.{put_mid}
 use Rattle.mask.specs.Bounded.{sum}
 use Rattle.codec.specs.Format.{check_at}
 use Rattle.codec.specs.Reader.{payload_byte}
 use Rattle.mask.specs.Tables.{front}
-use Rattle.codec.specs.FrontLaws.{front_block}
+use Rattle.codec.specs.ListLaws.{part_table}
+use Rattle.codec.specs.FrontLaws.{front_part}
 
 -- ---- the check, one byte a turn
 -- the sum over the first n bytes of the block that starts at a place
@@ -30,11 +31,13 @@ pub weight_le : (i b : ℕ) → i < 510 → b < 256 → (i + 1) * b ≤ 130050
 weight_le i b h l = le_trans (mul-le-mul_right b (omega arith)) (mul-le-mul_left {n = 255} 510 (omega arith))
 
 -- ---- the payloads joined, one block a turn
-pub join_turn : (f P : List ℕ) (i : ℕ) → 512 * i + 512 ≤ length f
-    → paste (front (508 * i) (payload_byte f) P) (508 * i) (drop (512 * i + 2) f) 508 ≡ front (508 * (i + 1)) (payload_byte f) P
-join_turn f P i h =
-    let more : 508 * i + 508 ≡ 508 * (i + 1) = omega arith in
-    front_block (payload_byte f) P (508 * i) 508 f (512 * i + 2) (omega arith) (λ k l. ap (λ (x : ℕ). get_or f x 0) (place k l))
+pub join_turn : (f P l ys : List ℕ) (i m k : ℕ) → l ≡ front (508 * i) (payload_byte f) P → ys ≡ take m (drop (512 * i + 2) f) → m ≡ 508 → k ≡ 508
+    → 512 * i + 512 ≤ length f → put_mid (508 * i) k l ys ≡ front (508 * (i + 1)) (payload_byte f) P
+join_turn f P l ys i m k e q p r h =
+    let more : 508 * i + k ≡ 508 * (i + 1) = omega arith in
+    front_part (payload_byte f) P l ys (508 * i) k e
+    (q ∙ ap (λ (n : ℕ). take n (drop (512 * i + 2) f)) (p ∙ sym r)
+    ∙ part_table f (512 * i + 2) k _ (omega arith) (λ j l. ap (λ (x : ℕ). get_or f x 0) (place j (omega arith))))
     ∙ ap (λ (n : ℕ). front n (payload_byte f) P) more
   where
     place : (k : ℕ) → k < 508 → 512 * i + 2 + k ≡ 512 * ((508 * i + k) / 508) + 2 + (508 * i + k) % 508

@@ -1,15 +1,15 @@
 -- Laws of lists that are tables, joined tables, and runs of stores.
 use Rattle.std.specs.Prelude.{◌≡◌, List, [], ◌∷◌, ◌++◌, ℕ, suc, ◌+◌, ◌-◌, ◌*◌, ◌/◌, ◌%◌, ◌≤◌, ◌<◌, length, get_or, set, take, drop}
 use Rattle.std.proofs.Math.Path.{refl}
-use Rattle.std.proofs.Common.{sym, ap, ap₂, ◌∙◌, add-zero, suc-add, add-suc, add-one, arith, length-append, length-drop, get_or-take, get_or-append-add, get_or-drop, length-take-le}
+use Rattle.std.proofs.Common.{sym, ap, ap₂, ◌∙◌, add-zero, suc-add, add-suc, arith, append_assoc, drop-drop, length-append, length-drop, get_or-take, get_or-append-add, get_or-drop, length-take-le}
 use Rattle.std.proofs.Math.Logic.{by_cases}
 use Rattle.std.proofs.Math.Decide.{dec_lt}
 use Rattle.std.proofs.Math.Arith.{digits_div, digits_mod}
 use Rattle.std.proofs.Math.ListN.{get_or-append, get_or-eq_default}
-use Rattle.std.proofs.Math.Seq.{paste, paste-suc}
+use borrow.Rule.Slice.PartMut.{put_mid}
 use Rattle.std.proofs.lemmas.List.Edits.{sets, sets-eq}
 use Rattle.mask.specs.Tables.{table}
-use Rattle.mask.specs.TablesLaws.{table_length, table_cong, table_append, table_snoc, fill_done}
+use Rattle.mask.specs.TablesLaws.{table_length, table_cong, table_append, fill_done}
 
 module _ {A : Type 0} where
   -- a list is the table of its own elements
@@ -44,11 +44,6 @@ module _ {A : Type 0} where
   unfolding table
   sets_none l at f = refl
 
-  -- one store more
-  pub sets_snoc : (l s : List A) (at i : ℕ) (f : ℕ → A) → s ≡ sets l at (table i f) → set s (at + i) (f i) ≡ sets l at (table (i + 1) f)
-  sets_snoc l s at i f e =
-      sets_then l s (set s (at + i) (f i)) (table i f) (f i ∷ []) at i (at + i) e refl (table_length i f) refl ∙ ap (sets l at) (sym (table_snoc i f))
-
   -- what a run has stored
   pub sets_at : (l vs : List A) (at i : ℕ) (d : A) → at + length vs ≤ length l → i < length vs → get_or (sets l at vs) (at + i) d ≡ get_or vs i d
   sets_at l vs at i d h k =
@@ -63,27 +58,25 @@ module _ {A : Type 0} where
   pub sets_front : (l vs : List A) → length vs ≤ length l → sets l 0 vs ≡ vs ++ drop (length vs) l
   sets_front l vs h = let e : 0 + length vs ≡ length vs = omega arith in sets-eq vs l 0 (omega arith) ∙ ap (λ (k : ℕ). vs ++ drop k l) e
 
--- ---- copies
+-- ---- parts
 -- m elements from a place of a list
 pub part_table : (s : List ℕ) (at m : ℕ) (g : ℕ → ℕ) → at + m ≤ length s → ((k : ℕ) → k < m → get_or s (at + k) 0 ≡ g k) → take m (drop at s) ≡ table m g
 part_table s at m g h e =
     let long : length (take m (drop at s)) ≡ m = length-take-le m (drop at s) (rw (length-drop at s) (omega arith)) in
     fill_done 0 m (take m (drop at s)) g long (λ k q. get_or-take m (drop at s) k 0 q ∙ get_or-drop at s k 0 ∙ e k q)
 
--- one store of a copy
-pub copy_turn : (d s l : List ℕ) (from to i : ℕ) → to + i < length d → from + i < length s → l ≡ paste d to (drop from s) i
-    → set l (to + i) (get_or s (from + i) 0) ≡ paste d to (drop from s) (i + 1)
-copy_turn d s l from to i h q e =
-    ap₂ (λ (m : List ℕ) (v : ℕ). set m (to + i) v) e (sym (get_or-drop from s i 0))
-    ∙ paste-suc d to (drop from s) i 0 h (rw (length-drop from s) (omega arith)) ∙ ap (paste d to (drop from s)) (sym (add-one i))
+-- a part of a list that other elements take the place of is a run of stores
+pub part_stored : (l ys vs : List ℕ) (at n : ℕ) → ys ≡ vs → length vs ≡ n → at + n ≤ length l → put_mid at n l ys ≡ sets l at vs
+part_stored l ys vs at n e h k =
+    ap₂ (λ (a b : List ℕ). take at l ++ (a ++ b)) e (drop-drop n at l ∙ ap (λ (m : ℕ). drop (at + m) l) (sym h))
+    ∙ sym (append_assoc (take at l) vs (drop (at + length vs) l)) ∙ sym (sets-eq vs l at (omega arith))
 
--- a copy is a run of stores
-pub pasted : (l s t : List ℕ) (at from n : ℕ) → from + n ≤ length s → at + n ≤ length l → t ≡ paste l at (drop from s) n → t ≡ sets l at (table n (λ i. get_or s (from + i) 0))
-pasted l s t at from n h k e =
-    let vs = table n (λ i. get_or s (from + i) 0) in
-    let vs_length : length vs ≡ n = table_length n (λ i. get_or s (from + i) 0) in
-    e ∙ ap (λ (r : List ℕ). take at l ++ r ++ drop (at + n) l) (part_table s from n (λ i. get_or s (from + i) 0) h (λ i q. refl))
-    ∙ ap (λ (m : ℕ). take at l ++ vs ++ drop (at + m) l) (sym vs_length) ∙ sym (sets-eq vs l at (omega arith))
+-- and so is one that a part of another list takes the place of
+pub part_copied : (l s ys : List ℕ) (at from n k m : ℕ) → ys ≡ take m (drop from s) → m ≡ n → k ≡ n → from + n ≤ length s → at + n ≤ length l
+    → put_mid at k l ys ≡ sets l at (table n (λ i. get_or s (from + i) 0))
+part_copied l s ys at from n k m e p q h r =
+    part_stored l ys (table n (λ i. get_or s (from + i) 0)) at k
+    (e ∙ ap (λ (j : ℕ). take j (drop from s)) p ∙ part_table s from n _ h (λ i l. refl)) (table_length n _ ∙ sym q) (omega arith)
 
 -- a run from the front over zeros: past its end stands what get_or gives there
 pub sets_zeros : (l vs : List ℕ) (i : ℕ) → length vs ≤ length l → get_or l i 0 ≡ 0 → get_or (sets l 0 vs) i 0 ≡ get_or vs i 0

@@ -1,11 +1,14 @@
--- Laws of numbers of several bytes, low byte first, for any count of bytes: a number from its bytes, its bytes from it, and both ways back.
-use Rattle.std.specs.Prelude.{List, ◌≡◌, refl, ℕ, zero, suc, ◌+◌, ◌-◌, ◌*◌, ◌/◌, ◌%◌, ◌^◌, ◌≤◌, ◌<◌, length, get_or}
-use Rattle.std.proofs.Common.{⊎_elim, sym, ap, ap₂, ◌∙◌, pow-suc, div-one, mul-one, mul_assoc, mul_comm, add-mul, add-zero, add_assoc, eq-or-lt_of_le, arith}
+-- Laws of numbers of several bytes, low byte first, for any count of bytes: a number from its bytes, its bytes from it, and both ways back; and
+-- that the conversions of std are these.
+use Rattle.std.specs.Prelude.{List, ◌∷◌, ◌≡◌, refl, ℕ, zero, suc, ◌+◌, ◌*◌, ◌/◌, ◌%◌, ◌^◌, ◌≤◌, ◌<◌, length, get_or, take, drop}
+use Rattle.std.specs.Int.{sum_through, byte_worth, byte_at, bytes_low_first}
+use Rattle.std.proofs.Common.{sym, ap, ap₂, ◌∙◌, pow-suc, div-one, mul-one, mul_assoc, mul_comm, add-mul, add-zero, zero-add, add_assoc, get_or-take, get_or-drop, arith}
 use Rattle.std.proofs.Math.Nat.{pow-succ', div-div-eq-div-mul}
 use Rattle.std.proofs.Math.Arith.{digits_lt, digits_div, digits_mod}
 use Rattle.mask.specs.Bounded.{sum}
 use Rattle.mask.specs.BoundedLaws.{sum_cong}
-use Rattle.mask.specs.TablesLaws.{table_at, table_length}
+use Rattle.mask.specs.Tables.{table}
+use Rattle.mask.specs.TablesLaws.{table_at, table_length, table_cong}
 use Rattle.codec.specs.Format.{byte_of, bytes_of, numbers, number_at}
 
 -- ---- sums
@@ -20,11 +23,6 @@ sum_scale zero k f = omega arith
 sum_scale (suc n) k f = ap (λ (x : ℕ). x + f n * k) (sum_scale n k f) ∙ sym (add-mul (sum n f) (f n) k)
 
 -- ---- bytes of a number
-pub bytes_mono : (m n : ℕ) → m ≤ n → 256 ^ m ≤ 256 ^ n
-bytes_mono m zero h = let e : m ≡ 0 = omega arith in rw e (omega arith)
-bytes_mono m (suc n) h =
-    ⊎_elim (λ e. rw e (omega arith)) (λ l. rw (pow-suc 256 n) (omega (arith, bytes_mono m n (omega arith)))) (eq-or-lt_of_le h)
-
 pub byte_lt : (x i : ℕ) → byte_of x i < 256
 unfolding byte_of
 byte_lt x i = omega arith
@@ -76,35 +74,38 @@ whole_of (suc n) x g h e =
     whole_of n (x / 256) (λ i. g (suc i)) (omega arith) (λ i l. e (suc i) (omega arith) ∙ byte_suc x i) in
     whole_front n g ∙ omega (arith, upper, e 0 (omega arith), byte_zero x)
 
+-- ---- std's conversions
+-- the number that they read of bytes that stand at a place
+pub read_is : (k : ℕ) (s bytes : List ℕ) (at : ℕ) → ((i : ℕ) → i < suc k → get_or bytes i 0 ≡ get_or s (at + i) 0)
+    → sum_through (λ i. byte_worth i (get_or bytes i 0)) k ≡ number_at (suc k) s at
+unfolding number_at sum
+read_is zero s bytes at h = h 0 (omega arith) ∙ omega arith
+read_is (suc k) s bytes at h = ap₂ ◌+◌ (read_is k s bytes at (λ i l. h i (omega arith))) (ap (λ (b : ℕ). b * 256 ^ suc k) (h (suc k) (omega arith)))
+
+-- the same, of a part of the list
+pub read_part : (k n : ℕ) (s bytes : List ℕ) (at : ℕ) → bytes ≡ take n (drop at s) → n ≡ suc k
+    → sum_through (λ i. byte_worth i (get_or bytes i 0)) k ≡ number_at (suc k) s at
+read_part k n s bytes at e z =
+    read_is k s bytes at (λ i l. ap (λ (b : List ℕ). get_or b i 0) e ∙ get_or-take n (drop at s) i 0 (omega arith) ∙ get_or-drop at s i 0)
+
+-- the bytes that they give of a number
+byte_is : (i n : ℕ) → byte_at i n ≡ byte_of n i
+unfolding byte_of
+byte_is zero n = sym (byte_zero n)
+byte_is (suc i) n = refl
+
+given_from : (k i n : ℕ) → bytes_low_first i k n ≡ table k (λ j. byte_of n (i + j))
+unfolding table
+given_from zero i n = refl
+given_from (suc k) i n =
+    ap₂ ◌∷◌ (byte_is i n ∙ ap (byte_of n) (sym (add-zero i)))
+    (given_from k (suc i) n ∙ table_cong k _ _ (λ j l. ap (byte_of n) (omega arith)))
+
+pub given_bytes : (k n : ℕ) → bytes_low_first 0 k n ≡ bytes_of k n
+unfolding bytes_of
+given_bytes k n = given_from k 0 n ∙ table_cong k _ _ (λ j l. ap (byte_of n) (zero-add j))
+
 -- ---- the number at a place of a list
--- the highest byte first, as a loop takes them
-pub number_front : (n : ℕ) (s : List ℕ) (at : ℕ) → number_at (suc n) s at ≡ number_at n s (suc at) * 256 + get_or s at 0
-unfolding number_at
-number_front n s at =
-    let e : whole n (λ i. get_or s (at + suc i) 0) ≡ whole n (λ i. get_or s (suc at + i) 0) =
-    sum_cong n _ _ (λ i l. ap (λ (k : ℕ). get_or s k 0 * 256 ^ i) (omega arith)) in
-    whole_front n (λ i. get_or s (at + i) 0) ∙ omega (arith, e, ap (λ (k : ℕ). get_or s k 0) (add-zero at))
-
-pub number_none : (s : List ℕ) (at : ℕ) → number_at 0 s at ≡ 0
-unfolding number_at
-number_none s at = whole_none _
-
--- one turn of a loop that takes the bytes from the highest down: n - i bytes are taken, byte i - 1 is next
-module _ (n i : ℕ) (low : 0 < i) (high : i ≤ n) where
-  longer : n - (i - 1) ≡ suc (n - i)
-  longer = omega arith
-
-  pub number_turn : (s : List ℕ) (at x : ℕ) → x ≡ number_at (n - i) s (at + i) → x * 256 + get_or s (at + (i - 1)) 0 ≡ number_at (n - (i - 1)) s (at + (i - 1))
-  number_turn s at x e =
-      let next : suc (at + (i - 1)) ≡ at + i = omega arith in
-      rw (longer, number_front (n - i) s (at + (i - 1)), next, e)
-
-  pub turn_lt : (x b : ℕ) → b < 256 → x < 256 ^ (n - i) → x * 256 + b < 256 ^ (n - (i - 1))
-  turn_lt x b h l = rw (longer, pow-suc 256 (n - i)) (omega arith)
-
-  pub turn_room : (x : ℕ) → n ≤ 8 → x < 256 ^ (n - i) → x < 256 ^ 7
-  turn_room x h l = omega (arith, bytes_mono (n - i) 7 (omega arith))
-
 pub number_cong : (n : ℕ) (s t : List ℕ) (at to : ℕ) → ((i : ℕ) → i < n → get_or s (at + i) 0 ≡ get_or t (to + i) 0) → number_at n s at ≡ number_at n t to
 unfolding number_at
 number_cong n s t at to h = sum_cong n _ _ (λ i l. ap (λ (x : ℕ). x * 256 ^ i) (h i l))

@@ -1,11 +1,12 @@
--- Laws of the format that the writer goes by: the stores of a number, and what one number or one block more adds.
-use Rattle.std.specs.Prelude.{◌≡◌, Bool, true, false, cond, List, [], ◌∷◌, ◌++◌, ℕ, ◌+◌, ◌*◌, ◌/◌, ◌%◌, ◌^◌, ◌≤◌, ◌<◌, length, set, drop, replicate, Err, Ok}
-use Rattle.std.proofs.Math.Path.{refl, sym, ap}
-use Rattle.std.proofs.Common.{◌∙◌, zero-add, div-one, pow-suc, add-one, arith}
-use Rattle.std.proofs.Math.Nat.{div-div-eq-div-mul}
+-- Laws of the format that the writer goes by: the stores of its parts, and what one number or one block more adds.
+use Rattle.std.specs.Prelude.{◌≡◌, Bool, true, false, cond, List, [], ◌∷◌, ◌++◌, ℕ, ◌+◌, ◌*◌, ◌/◌, ◌%◌, ◌^◌, ◌≤◌, ◌<◌, length, set, take, drop, replicate, Err, Ok}
+use Rattle.std.proofs.Math.Path.{refl, sym, ap, ap₂}
+use Rattle.std.proofs.Common.{◌∙◌, zero-add, arith, length-append, length-drop, length-take-le, get_or-take, mul_comm}
 use Rattle.std.proofs.Math.ListN.{get_or}
 use Rattle.std.proofs.lemmas.List.{length-replicate, get_or-replicate}
-use Rattle.std.proofs.Math.Seq.{paste, sets}
+use Rattle.std.proofs.lemmas.Nat.{div_below}
+use Rattle.std.proofs.lemmas.List.Edits.{sets}
+use borrow.Rule.Slice.PartMut.{put_mid}
 use mir.Val.{bool_byte}
 use Rattle.mask.specs.Tables.{table}
 use Rattle.mask.specs.TablesLaws.{table_length, table_cong}
@@ -22,29 +23,9 @@ use Rattle.machine.specs.EmptySetsLaws.{nonempty_valid, nonempty_at}
 use Rattle.codec.specs.Writer.{file_room, write_validity, write_answer, write_buffer}
 use Rattle.codec.specs.Format.{byte_of, bytes_of, numbers, letters, header, machine_bytes, table_bytes, payload, payload_most, payload_room, payload_length, blocks_for, file_length, check_at, block_front, block, blocked, file_of}
 use Rattle.codec.specs.NumberLaws.{bytes_length, numbers_length}
-use Rattle.codec.specs.ListLaws.{table_of_lem, rows_more, sets_then, sets_none, sets_snoc, sets_at, sets_front, sets_zeros, pasted}
+use Rattle.codec.specs.ListLaws.{table_of_lem, rows_more, sets_then, sets_none, sets_at, sets_front, sets_zeros, part_stored}
 use Rattle.codec.specs.FormatLaws.{header_length, machine_length, payload_length_lem, payload_small, blocks_small, front_length, block_length, block_cong, check_cong}
 use Rattle.machine.specs.declared.Refusal.TheVariants.{ShortBuffer}
-
--- ---- a number, a byte a turn: r is what is left of x after i bytes
-pub store_none : (l : List ℕ) (at x : ℕ) → l ≡ sets l at (bytes_of 0 x)
-unfolding bytes_of table
-store_none l at x = refl
-
-pub store_byte : (l s : List ℕ) (at x i r : ℕ) → s ≡ sets l at (bytes_of i x) → r ≡ x / 256 ^ i → set s (at + i) (r % 256) ≡ sets l at (bytes_of (i + 1) x)
-unfolding bytes_of byte_of
-store_byte l s at x i r e q = rw q (sets_snoc l s at i (λ k. x / 256 ^ k % 256) e)
-
-pub left_none : (x : ℕ) → x ≡ x / 256 ^ 0
-left_none x = sym (div-one x)
-
-pub left_next : (x i r : ℕ) → r ≡ x / 256 ^ i → r / 256 ≡ x / 256 ^ (i + 1)
-left_next x i r e = rw (e, add-one, pow-suc) (div-div-eq-div-mul x (256 ^ i) 256)
-
--- a number of two bytes, at once
-pub store_two : (l : List ℕ) (at x : ℕ) → x < 65536 → set (set l at (x % 256)) (at + 1) (x / 256) ≡ sets l at (bytes_of 2 x)
-unfolding bytes_of table byte_of
-store_two l at x h = let e : x / 256 ≡ x / 256 % 256 = omega arith in rw (div-one, add-one, ← e)
 
 -- ---- numbers, one a turn
 pub numbers_none : (n : ℕ) (l : List ℕ) (at : ℕ) (f : ℕ → ℕ) → l ≡ sets l at (numbers n 0 f)
@@ -61,31 +42,43 @@ store_next n l s t at count f h e g =
     sets_then l s t (numbers n count f) (bytes_of n (f count)) at (n * count) (at + n * count) e g (numbers_length n count f) refl
     ∙ ap (sets l at) (sym (numbers_more n count f h))
 
+-- the numbers at the front of a list
+pub numbers_front : (n count : ℕ) (xs : List ℕ) → 0 < n → count ≤ length xs
+    → numbers n (length (take count xs)) (λ i. get_or (take count xs) i 0) ≡ numbers n count (λ i. get_or xs i 0)
+unfolding numbers
+numbers_front n count xs some h =
+    ap (λ (m : ℕ). numbers n m (λ i. get_or (take count xs) i 0)) (length-take-le count xs h)
+    ∙ table_cong (n * count) _ _ (λ i l. ap (λ (x : ℕ). byte_of x (i % n)) (get_or-take count xs (i / n) 0 (div_below i n count some (rw mul_comm at l))))
+
 -- ---- the header: the letters, then the rest, with the note as the code makes it a byte
 note_byte : (note : Bool) → bool_byte note ≡ cond note 1 0
 note_byte true = refl
 note_byte false = refl
 
-pub store_header : (p : Pair) (note : Bool) (l s t : List ℕ) → 16 ≤ length l → length s ≡ length l → s ≡ paste l 0 (drop 0 letters) 4
-    → t ≡ paste s 4 (drop 0 (n_c p ∷ n_a p ∷ sets_c p ∷ sets_a p ∷ p.hidden ∷ bool_byte note ∷ 0 ∷ 0 ∷ 0 ∷ 0 ∷ 0 ∷ 0 ∷ [])) 12 → t ≡ sets l 0 (header p note)
-unfolding header table
-store_header p note l s t room kept e f =
-    pasted s (n_c p ∷ n_a p ∷ sets_c p ∷ sets_a p ∷ p.hidden ∷ bool_byte note ∷ 0 ∷ 0 ∷ 0 ∷ 0 ∷ 0 ∷ 0 ∷ []) t 4 0 12 (omega arith) (omega arith) f
-    ∙ rw (pasted l letters s 0 0 4 (omega arith) (omega arith) e, note_byte note)
+pub store_header : (p : Pair) (note : Bool) (l first rest : List ℕ) → 16 ≤ length l → first ≡ letters
+    → rest ≡ n_c p ∷ n_a p ∷ sets_c p ∷ sets_a p ∷ p.hidden ∷ bool_byte note ∷ 0 ∷ 0 ∷ 0 ∷ 0 ∷ 0 ∷ 0 ∷ []
+    → put_mid 4 12 (first ++ drop 4 l) rest ≡ sets l 0 (header p note)
+unfolding header
+store_header p note l first rest room e f =
+    let rest_is = n_c p ∷ n_a p ∷ sets_c p ∷ sets_a p ∷ p.hidden ∷ cond note 1 0 ∷ 0 ∷ 0 ∷ 0 ∷ 0 ∷ 0 ∷ 0 ∷ [] in
+    let start : first ++ drop 4 l ≡ sets l 0 letters = part_stored l first letters 0 4 e refl (omega arith) in
+    let long : length (first ++ drop 4 l) ≡ length l = rw (e, length-append, length-drop) (omega arith) in
+    sets_then l (first ++ drop 4 l) _ letters rest_is 0 4 4 start
+    (part_stored (first ++ drop 4 l) rest rest_is 4 12 (rw (note_byte note) at f) refl (omega arith)) refl refl
 
 -- ---- a machine: observations, start mask, successor masks, sets
-pub store_machine : (m : Machine) (l s t u v : List ℕ) (at : ℕ) → m.states ≤ length m.observations → at + m.states ≤ length l
-    → s ≡ paste l at (drop 0 m.observations) m.states
+pub store_machine : (m : Machine) (l s t u v : List ℕ) (at : ℕ)
+    → s ≡ sets l at (table m.states (λ i. get_or m.observations (0 + i) 0))
     → t ≡ sets s (at + m.states) (bytes_of 8 m.start) → u ≡ sets t (at + m.states + 8) (numbers 8 m.states (λ i. get_or m.successors i 0))
     → v ≡ sets u (at + m.states + 8 + 8 * m.states) (numbers 8 m.sets (λ i. get_or m.fairness i 0)) → v ≡ sets l at (machine_bytes m)
 unfolding machine_bytes observation successors fair_set
-store_machine m l s t u v at long room e f g h =
+store_machine m l s t u v at e f g h =
     let N = m.states in
     let O = table N (λ i. get_or m.observations i 0) in
     let S = bytes_of 8 m.start in
     let M = numbers 8 N (λ i. get_or m.successors i 0) in
     let F = numbers 8 m.sets (λ i. get_or m.fairness i 0) in
-    let observed : s ≡ sets l at O = pasted l m.observations s at 0 N (omega arith) room e
+    let observed : s ≡ sets l at O = e
     ∙ ap (sets l at) (table_cong N (λ i. get_or m.observations (0 + i) 0) (λ i. get_or m.observations i 0) (λ i q. ap (λ (k : ℕ). get_or m.observations k 0) (zero-add i))) in
     let behind_start = sets_then t u v M F (at + N + 8) (8 * N) (at + N + 8 + 8 * N) g h (numbers_length 8 N (λ i. get_or m.successors i 0)) refl in
     let behind_observations = sets_then s t v S (M ++ F) (at + N) 8 (at + N + 8) f behind_start (bytes_length 8 m.start) refl in
@@ -122,16 +115,23 @@ module _ (p : Pair) (note : Bool) (T l s t u : List ℕ) (i j : ℕ)
     store_payload u (ap (λ (b : Bool). sets u j (cond b (numbers 2 (entries p) (λ e. get_or T e 0)) [])) (sym h)),
   )
 
+-- a number's low two bytes are those of its remainder
+pub low_two : (x : ℕ) → bytes_of 2 (x % 65536) ≡ bytes_of 2 x
+unfolding bytes_of table byte_of
+low_two x =
+    let low : x % 65536 / 1 % 256 ≡ x / 1 % 256 = omega arith in
+    let high : x % 65536 / 256 % 256 ≡ x / 256 % 256 = omega arith in
+    ap₂ (λ (a b : ℕ). a ∷ b ∷ []) low high
+
 -- ---- a block: the list after its number, after its part of the payload, and after its check
-module _ (Q l s t u : List ℕ) (i check : ℕ) (long : 508 * i + 508 ≤ length Q) (room : 512 * i + 512 ≤ length l) (kept : length s ≡ length l)
+module _ (Q l s t u : List ℕ) (i check : ℕ) (room : 512 * i + 512 ≤ length l)
     (number : s ≡ sets l (512 * i) (bytes_of 2 i))
-    (part : t ≡ paste s (512 * i + 2) (drop (508 * i) Q) 508)
+    (part : t ≡ sets s (512 * i + 2) (table 508 (λ k. get_or Q (508 * i + k) 0)))
     (sum : check ≡ check_at t (512 * i))
     (last : u ≡ sets t (512 * i + 510) (bytes_of 2 check)) where
   store_front : t ≡ sets l (512 * i) (block_front Q i)
   unfolding block_front
-  store_front = sets_then l s t (bytes_of 2 i) (table 508 (λ k. get_or Q (508 * i + k) 0)) (512 * i) 2 (512 * i + 2) number
-      (pasted s Q t (512 * i + 2) (508 * i) 508 long (omega arith) part) (bytes_length 2 i) refl
+  store_front = sets_then l s t (bytes_of 2 i) (table 508 (λ k. get_or Q (508 * i + k) 0)) (512 * i) 2 (512 * i + 2) number part (bytes_length 2 i) refl
 
   check_is : check ≡ check_at (block_front Q i) 0
   check_is = sum ∙ check_cong t (block_front Q i) (512 * i) 0

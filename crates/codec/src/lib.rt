@@ -1,9 +1,10 @@
 // Files: document 01, "Files". The reader, the writer, and a file's length from its first block.
 #![tactic(auto)]
 
-ghost use Rattle.std.specs.Prelude.{◌≡◌, ◌+◌, ◌≤◌, length, drop};
-ghost use Rattle.std.proofs.Math.Seq.{paste};
-ghost use Rattle.codec.specs.Format.{check_at};
+ghost use Rattle.std.specs.Prelude.{◌≡◌, ℕ, ◌+◌, ◌≤◌, ◌<◌, length};
+ghost use Rattle.std.proofs.lemmas.List.Edits.{sets};
+ghost use Rattle.std.proofs.Common.{arith};
+ghost use Rattle.codec.specs.Format.{bytes_of, number_at, check_at};
 
 use machine::{Pair, Refusal};
 
@@ -27,8 +28,77 @@ const PAYLOAD_ROOM: usize = 58928;
 pub mod reader;
 pub mod writer;
 
+// ---- Numbers
+
+// A number as files have it: its bytes, low byte first.
+trait Stored: Copy {
+    ghost value: { Self → ℕ };
+
+    ghost of: { ℕ → Self };
+
+    const BYTES: usize;
+
+    ghost BYTES: { ℕ };
+
+    // The number at a place.
+    fn read(bytes: &[u8], at: usize) -> Self
+        requires { at + BYTES ≤ length bytes.now }
+        ensures { result ≡ of (number_at BYTES bytes.now at) };
+
+    // Writes it at a place.
+    fn write(self, out: &mut [u8], at: usize)
+        requires { at + BYTES ≤ length out.old }
+        ensures { out.new ≡ sets out.old at (bytes_of BYTES (value self)) };
+
+    ghost some: { 0 < BYTES };
+}
+
+impl Stored for u16 {
+    ghost value = { λ x. x };
+
+    ghost of = { λ x. x };
+
+    const BYTES: usize = 2;
+
+    ghost BYTES = { 2 };
+
+    fn read(bytes: &[u8], at: usize) -> u16 {
+        let mut number = [0u8; 2];
+        number.copy_from_slice(&bytes[at..at + 2]);
+        u16::from_le_bytes(number)
+    }
+
+    fn write(self, out: &mut [u8], at: usize) {
+        out[at..at + 2].copy_from_slice(&self.to_le_bytes());
+    }
+
+    ghost some = { Prim.omega arith };
+}
+
+impl Stored for u64 {
+    ghost value = { λ x. x };
+
+    ghost of = { λ x. x };
+
+    const BYTES: usize = 8;
+
+    ghost BYTES = { 8 };
+
+    fn read(bytes: &[u8], at: usize) -> u64 {
+        let mut number = [0u8; 8];
+        number.copy_from_slice(&bytes[at..at + 8]);
+        u64::from_le_bytes(number)
+    }
+
+    fn write(self, out: &mut [u8], at: usize) {
+        out[at..at + 8].copy_from_slice(&self.to_le_bytes());
+    }
+
+    ghost some = { Prim.omega arith };
+}
+
 // The check of the block that starts at a place: the reader compares it, and the writer writes it.
-fn check_at(s: &[u8], at: usize) -> u32
+fn check_at(s: &[u8], at: usize) -> u16
     requires { at + 510 ≤ length s.now }
     ensures { result ≡ check_at s.now at }
 {
@@ -36,16 +106,5 @@ fn check_at(s: &[u8], at: usize) -> u32
     for i in 0..510 {
         total += (i as u32 + 1) * s[at + i] as u32;
     }
-    total % 65521
-}
-
-// Copies count bytes from a place of one slice to a place of another.
-fn copy_to(src: &[u8], from: usize, count: usize, dst: &mut [u8], to: usize)
-    requires source { from + count ≤ length src.now }
-    requires target { to + count ≤ length dst.old }
-    ensures { dst.new ≡ paste dst.old to (drop from src.now) count }
-{
-    for i in 0..count {
-        dst[to + i] = src[from + i];
-    }
+    (total % 65521) as u16
 }

@@ -8,27 +8,13 @@ ghost use Rattle.codec.specs.Format.{letters, number_at, payload_length};
 ghost use Rattle.codec.specs.Reader.{check_holds, number_found, damaged, block_validity, payload_byte, header_byte, note_of, header_holds, counts_hold, header_validity, first_validity, payload_demanded, demanded, later_blocks, padding_holds, blocks_validity, machine_at, pair_of, entries_of, taken, read_answer, table_of, read_table, zero_machine, zero_pair, size_of};
 ghost use Rattle.codec.specs.Answers.{read_of, pair_given};
 ghost use Rattle.codec.specs.Loading.{Loaded};
-ghost use Rattle.mask.specs.Tables.{front};
+ghost use Rattle.mask.specs.Tables.{table, front};
 
-use super::{PAYLOAD_ROOM, Show, check_at, copy_to};
+use super::{PAYLOAD_ROOM, Show, Stored, check_at};
 use machine::{Machine, Pair, Refusal};
 use validity::Sets;
 
-// ---- Numbers and blocks
-
-// The number whose n bytes, low byte first, stand at a place.
-fn number_at(n: usize, s: &[u8], at: usize) -> u64
-    requires n_bound { n ≤ 8 }
-    requires n_in_bounds { at + n ≤ length s.now }
-    ensures value { result ≡ number_at n s.now at }
-    ensures small { result < 256 ^ n }
-{
-    let mut x: u64 = 0;
-    for i in (0..n).rev() {
-        x = x * 256 + s[at + i] as u64;
-    }
-    x
-}
+// ---- Blocks
 
 // Whether the check of block i holds.
 fn check_holds(bytes: &[u8], i: usize) -> bool
@@ -36,7 +22,7 @@ fn check_holds(bytes: &[u8], i: usize) -> bool
     ensures { result ≡ check_holds bytes.now i }
 {
     let at = 512 * i;
-    number_at(2, bytes, at + 510) == check_at(bytes, at) as u64
+    u16::read(bytes, at + 510) == check_at(bytes, at)
 }
 
 // The number found in block i.
@@ -44,7 +30,7 @@ fn number_found(bytes: &[u8], i: usize) -> usize
     requires { 512 * i + 512 ≤ length bytes.now }
     ensures { result ≡ number_found bytes.now i }
 {
-    number_at(2, bytes, 512 * i) as usize
+    u16::read(bytes, 512 * i) as usize
 }
 
 // The refusal for a wrong check of block i: 3 for block 0, 7 for a later one.
@@ -83,16 +69,14 @@ fn letters_hold(bytes: &[u8]) -> bool
     requires { 512 ≤ length bytes.now }
     ensures { result ≡ every 4 (λ i. eqb (header_byte bytes.now i) (get_or letters i 0)) }
 {
-    let letters = b"DOM1";
-    (0..4).all(|i| bytes[2 + i] == letters[i])
+    bytes[2..6] == b"DOM1"[..]
 }
 
-// Whether count bytes from a place are zero.
-fn zeros(s: &[u8], from: usize, count: usize) -> bool
-    requires { from + count ≤ length s.now }
-    ensures { result ≡ every count (λ i. eqb (get_or s.now (from + i) 0) 0) }
+// Whether all bytes are zero.
+fn zeros(bytes: &[u8]) -> bool
+    ensures { result ≡ every (length bytes.now) (λ i. eqb (get_or bytes.now i 0) 0) }
 {
-    (0..count).all(|i| s[from + i] == 0)
+    bytes.iter().all(|b| *b == 0)
 }
 
 // Byte k of the header.
@@ -117,13 +101,7 @@ fn header_holds(bytes: &[u8]) -> bool
     requires { 512 ≤ length bytes.now }
     ensures { result ≡ header_holds bytes.now }
 {
-    if !letters_hold(bytes) {
-        return false;
-    }
-    if 1 < header_byte(bytes, 9) {
-        return false;
-    }
-    zeros(bytes, 12, 6)
+    letters_hold(bytes) && header_byte(bytes, 9) <= 1 && zeros(&bytes[12..18])
 }
 
 // Whether the counts of both machines are in their ranges.
@@ -131,21 +109,15 @@ fn counts_hold(bytes: &[u8]) -> bool
     requires { 512 ≤ length bytes.now }
     ensures { result ≡ counts_hold bytes.now }
 {
-    if validity::counts_ok(8, header_byte(bytes, 4), header_byte(bytes, 6)) {
-        validity::counts_ok(7, header_byte(bytes, 5), header_byte(bytes, 7))
-    } else {
-        false
-    }
+    validity::counts_ok(8, header_byte(bytes, 4), header_byte(bytes, 6))
+        && validity::counts_ok(7, header_byte(bytes, 5), header_byte(bytes, 7))
 }
 
 // Refusals 2, 3, 19 of block 0, 4 and 5, which rest on the length and the first block.
 fn first_validity(bytes: &[u8]) -> Result<(), Refusal>
     ensures { result ≡ first_validity bytes.now }
 {
-    if bytes.len() == 0 {
-        return Err(Refusal::BadLength);
-    }
-    if bytes.len() % 512 != 0 {
+    if bytes.len() == 0 || bytes.len() % 512 != 0 {
         return Err(Refusal::BadLength);
     }
     block_validity(bytes, 0)?;
@@ -223,8 +195,7 @@ fn padding_holds(bytes: &[u8]) -> bool
 {
     let len = payload_demanded(bytes);
     let n = bytes.len() / 512;
-    let end = 508 * n;
-    zeros(bytes, len + 4 * n - 2, end - len)
+    zeros(&bytes[len + 4 * n - 2..512 * n - 2])
 }
 
 // Refusals 7 and 19 of the later blocks, and 8.
@@ -259,42 +230,19 @@ fn join(bytes: &[u8], payload: &mut [u8])
 {
     let n = bytes.len() / 512;
     for i in 0..n {
-        copy_to(bytes, 512 * i + 2, 508, payload, 508 * i);
+        let from = 512 * i + 2;
+        let to = 508 * i;
+        payload[to..to + 508].copy_from_slice(&bytes[from..from + 508]);
     }
 }
 
-// The first n observations at a place, and zeros.
-fn observations_at(q: &[u8], at: usize, n: usize) -> [u8; 64]
-    requires n_bound { n ≤ 64 }
-    requires n_in_bounds { at + n ≤ length q.now }
-    ensures { result ≡ front n (λ s. get_or q.now (at + s) 0) (replicate 64 0) }
+// Fills a buffer with the numbers at a place.
+fn numbers_at<T: Stored>(q: &[u8], at: usize, out: &mut [T])
+    requires { at + T.BYTES * length out.old ≤ length q.now }
+    ensures { out.new ≡ table (length out.old) (λ k. T.of (number_at T.BYTES q.now (at + T.BYTES * k))) }
 {
-    let mut out = [0u8; 64];
-    for s in 0..n {
-        out[s] = q[at + s];
-    }
-    out
-}
-
-// Writes the count masks at a place to the front of a buffer.
-fn masks_at(q: &[u8], at: usize, count: usize, out: &mut [u64])
-    requires target { count ≤ length out.old }
-    requires source { at + 8 * count ≤ length q.now }
-    ensures { out.new ≡ front count (λ k. number_at 8 q.now (at + 8 * k)) out.old }
-{
-    for k in 0..count {
-        out[k] = number_at(8, q, at + 8 * k);
-    }
-}
-
-// Writes the count table entries at a place to the front of a table.
-fn entries_at(q: &[u8], at: usize, count: usize, table: &mut [u16])
-    requires target { count ≤ length table.old }
-    requires source { at + 2 * count ≤ length q.now }
-    ensures { table.new ≡ front count (λ e. number_at 2 q.now (at + 2 * e)) table.old }
-{
-    for e in 0..count {
-        table[e] = number_at(2, q, at + 2 * e) as u16;
+    for k in 0..out.len() {
+        out[k] = T::read(q, at + T::BYTES * k);
     }
 }
 
@@ -304,17 +252,19 @@ fn machine_at(q: &[u8], at: usize, n: usize, sets: usize) -> Machine
     requires sets_in_bounds { at + (9 * n + 8 * sets + 8) ≤ length q.now }
     ensures { result ≡ machine_at q.now at n sets }
 {
+    let mut observations = [0u8; 64];
     let mut successors = [0u64; 64];
     let mut fairness = [0u64; 8];
-    masks_at(q, at + n + 8, n, &mut successors);
-    masks_at(q, at + 9 * n + 8, sets, &mut fairness);
+    observations[..n].copy_from_slice(&q[at..at + n]);
+    numbers_at(q, at + n + 8, &mut successors[..n]);
+    numbers_at(q, at + 9 * n + 8, &mut fairness[..sets]);
     Machine {
         states: n,
-        sets: sets,
-        start: number_at(8, q, at + n),
-        observations: observations_at(q, at, n),
-        successors: successors,
-        fairness: fairness,
+        sets,
+        start: u64::read(q, at + n),
+        observations,
+        successors,
+        fairness,
     }
 }
 
@@ -331,7 +281,7 @@ fn pair_at(bytes: &[u8], q: &[u8]) -> Pair
     Pair {
         concrete: machine_at(q, 16, c, m),
         abstraction: machine_at(q, 24 + 9 * c + 8 * m, a, n),
-        hidden: hidden,
+        hidden,
     }
 }
 
@@ -347,7 +297,7 @@ fn table_at(bytes: &[u8], q: &[u8], table: &mut [u16])
     let m = header_byte(bytes, 6);
     let n = header_byte(bytes, 7);
     let at = payload_length(c, a, m, n, false);
-    entries_at(q, at, n * (c * a), table);
+    numbers_at(q, at, &mut table[..n * (c * a)]);
 }
 
 // ---- The reader
@@ -400,7 +350,7 @@ fn take_show(bytes: &[u8], table: &mut [u16]) -> Show
                 table_at(bytes, &payload, table);
             }
             Show {
-                pair: pair,
+                pair,
                 reading: Ok(note),
             }
         }

@@ -8,44 +8,19 @@ ghost use Rattle.machine.specs.Table.{table_room};
 ghost use Rattle.codec.specs.Writer.{file_room, write_answer, write_buffer};
 ghost use Rattle.codec.specs.Format.{bytes_of, numbers, header, machine_bytes, payload, payload_most, payload_length, file_length, block, file_of};
 
-use super::{FILE_ROOM, PAYLOAD_ROOM, check_at, copy_to};
+use super::{FILE_ROOM, PAYLOAD_ROOM, Stored, check_at};
 use machine::{Machine, Pair, Refusal};
 use validity::Sets;
 
-// ---- Bytes, numbers and machines
+// ---- Numbers and machines
 
-// Writes the n bytes of x at a place, low byte first.
-fn put_number(out: &mut [u8], at: usize, x: u64, n: usize)
-    requires { at + n ≤ length out.old }
-    ensures { out.new ≡ sets out.old at (bytes_of n x) }
+// Writes numbers at a place.
+fn put_numbers<T: Stored>(out: &mut [u8], at: usize, values: &[T])
+    requires { at + T.BYTES * length values.now ≤ length out.old }
+    ensures { out.new ≡ sets out.old at (numbers T.BYTES (length values.now) (λ i. T.value (get_or values.now i (T.of 0)))) }
 {
-    let mut rest = x;
-    for i in 0..n {
-        out[at + i] = (rest % 256) as u8;
-        rest = rest / 256;
-    }
-}
-
-// Writes the first `count` of some masks at a place, eight bytes each.
-fn put_masks(out: &mut [u8], at: usize, masks: &[u64], count: usize)
-    requires { (count ≤ length masks.now) × (at + 8 * count ≤ length out.old) }
-    ensures { out.new ≡ sets out.old at (numbers 8 count (λ i. get_or masks.now i 0)) }
-{
-    for i in 0..count {
-        put_number(out, at + 8 * i, masks[i], 8);
-    }
-}
-
-// Writes the first `count` entries of a table at a place, two bytes each, low byte first.
-fn put_entries(out: &mut [u8], at: usize, entries: &[u16], count: usize)
-    requires { (count ≤ length entries.now) × (at + 2 * count ≤ length out.old) }
-    ensures { out.new ≡ sets out.old at (numbers 2 count (λ i. get_or entries.now i 0)) }
-{
-    for i in 0..count {
-        let e = entries[i];
-        let place = at + 2 * i;
-        out[place] = (e % 256) as u8;
-        out[place + 1] = (e / 256) as u8;
+    for (i, value) in values.iter().enumerate() {
+        value.write(out, at + T::BYTES * i);
     }
 }
 
@@ -60,13 +35,13 @@ fn put_machine(out: &mut [u8], at: usize, m: Machine) -> usize
     let fairness = m.fairness;
     let states = m.states;
     let sets = m.sets;
-    copy_to(&observations, 0, states, out, at);
+    out[at..at + states].copy_from_slice(&observations[..states]);
     let start_at = at + states;
-    put_number(out, start_at, m.start, 8);
+    m.start.write(out, start_at);
     let successors_at = start_at + 8;
-    put_masks(out, successors_at, &successors, states);
+    put_numbers(out, successors_at, &successors[..states]);
     let sets_at = successors_at + 8 * states;
-    put_masks(out, sets_at, &fairness, sets);
+    put_numbers(out, sets_at, &fairness[..sets]);
     sets_at + 8 * sets
 }
 
@@ -92,8 +67,8 @@ fn put_header(out: &mut [u8], p: Pair, with_table: bool)
         0,
         0,
     ];
-    copy_to(b"DOM1", 0, 4, out, 0);
-    copy_to(&rest, 0, 12, out, 4);
+    out[..4].copy_from_slice(b"DOM1");
+    out[4..16].copy_from_slice(&rest);
 }
 
 // Writes the whole payload from the front, and gives its length.
@@ -110,7 +85,7 @@ fn put_payload(out: &mut [u8], p: Pair, with_table: bool, table: &[u16]) -> usiz
     let table_at = put_machine(out, abstraction_at, a);
     if with_table {
         let count = a.sets * (c.states * a.states);
-        put_entries(out, table_at, table, count);
+        put_numbers(out, table_at, &table[..count]);
         return table_at + 2 * count;
     }
     table_at
@@ -124,10 +99,11 @@ fn put_block(out: &mut [u8], payload: &[u8], i: usize)
     ensures { out.new ≡ sets out.old (512 * i) (block payload.now i) }
 {
     let at = 512 * i;
-    put_number(out, at, i as u64, 2);
-    copy_to(payload, 508 * i, 508, out, at + 2);
+    ((i % 65536) as u16).write(out, at);
+    let from = 508 * i;
+    out[at + 2..at + 510].copy_from_slice(&payload[from..from + 508]);
     let check = check_at(out, at);
-    put_number(out, at + 510, check as u64, 2);
+    check.write(out, at + 510);
 }
 
 // Writes the first `count` blocks of a payload from the front.

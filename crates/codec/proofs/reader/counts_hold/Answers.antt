@@ -1,5 +1,5 @@
 -- The header's bytes are the counts; those of the concrete machine are tested first.
-use mathlib.Core.Path.{◌≡◌, sym, ◌∙◌, ap₂}
+use Rattle.std.proofs.Common.{◌≡◌, sym, ◌∙◌, ap₂}
 use Rattle.mask.specs.LogicLaws.{and_true_l, and_false_l}
 use Rattle.machine.specs.WellFormed.{counts_ok}
 use Rattle.codec.specs.Reader.{header_byte, counts_hold}
@@ -18,4 +18,5 @@ returns-then-counts_ok c =
 
 pub returns-else-counts_ok : goal.returns-else-counts_ok
 unfolding counts_hold
-returns-else-counts_ok c = sym (and_false_l _ (concrete_counts (goal.at.returns-else-counts_ok c).After-counts_ok ∙ c.if-counts_ok.false))
+returns-else-counts_ok c =
+    c.if-counts_ok.false ∙ sym (and_false_l _ (concrete_counts (goal.at.returns-else-counts_ok c).After-counts_ok ∙ c.if-counts_ok.false))

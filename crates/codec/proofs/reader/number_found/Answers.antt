@@ -4,4 +4,4 @@ use Rattle.codec.proofs.reader.number_found.Goals as goal
 
 pub returns : goal.returns
 unfolding number_found
-returns c = c.number_at.ensures.value
+returns c = c.read.ensures

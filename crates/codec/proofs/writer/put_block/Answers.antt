@@ -1,13 +1,13 @@
 -- The number, the part of the payload and the check are stored one behind the other.
-use Rattle.codec.specs.WriterLaws.{store_block}
+use Rattle.std.proofs.Common.{◌+◌, ◌*◌, ap, ◌∙◌, arith}
+use Rattle.std.proofs.lemmas.List.Edits.{sets}
+use Rattle.codec.specs.ListLaws.{part_copied}
+use Rattle.codec.specs.WriterLaws.{low_two, store_block}
 use Rattle.codec.proofs.writer.put_block.Goals as goal
 
 pub returns : goal.returns
 returns c =
     let x = c.args in
-    let number = c.put_number in
-    let part = c.copy_to in
-    let sum = c.check_at-check in
-    let check = c.put_number-2 in
-    store_block x.payload.now x.out.now number.new.out part.new.dst check.new.out x.i sum.result c.requires.0 c.requires.1
-    number.auto.out number.ensures part.ensures sum.ensures check.ensures
+    let number = c.write in
+    let part = part_copied number.new.out x.payload.now _ (512 * x.i + 2) (508 * x.i) 508 _ _ c.copy_from_slice.ensures.after (omega arith) (omega arith) (omega arith) (omega arith) in
+    store_block x.payload.now x.out.now number.new.out _ c.write-2.new.out x.i c.check_at-check.result c.requires.1 (number.ensures ∙ ap (sets x.out.now (512 * x.i)) (low_two x.i)) part c.check_at-check.ensures c.write-2.ensures

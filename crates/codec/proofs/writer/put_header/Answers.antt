@@ -5,6 +5,4 @@ use Rattle.codec.proofs.writer.put_header.Goals as goal
 pub returns : goal.returns
 returns c =
     let x = c.args in
-    let letters = c.copy_to in
-    let rest = c.copy_to-2 in
-    store_header x.p x.with_table x.out.now letters.new.dst rest.new.dst c.requires.in_bounds letters.auto.dst letters.ensures rest.ensures
+    store_header x.p x.with_table x.out.now _ _ c.requires.in_bounds c.copy_from_slice.ensures.after c.copy_from_slice-2.ensures.after
