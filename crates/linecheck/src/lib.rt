@@ -109,8 +109,6 @@ fn lines_validity(p: Pair, matched: [u64; 64], table: &[u16]) -> Result<(), Refu
 {
     let concrete = p.concrete;
     let abstraction = p.abstraction;
-    // for the loop's invariant alone, which speaks of the pair
-    let hidden = p.hidden;
     let nc = concrete.states;
     let na = abstraction.states;
     let m = concrete.sets;
