@@ -1,5 +1,5 @@
 -- Document 02, No. 6: the solver by turns. A family is 448 masks of any content; what a turn and a look-up see of it is `family_in`.
-use Rattle.std.specs.Prelude.{Bool, false, cond, List, [], ◌++◌, ℕ, ◌-◌, eqb, ltb, leb, length, get_or, drop, Err, Ok}
+use Rattle.std.specs.Prelude.{Bool, false, cond, List, [], ◌++◌, ℕ, ◌-◌, eqb, ltb, leb, length, get_or, drop, replicate, Err, Ok}
 use Rattle.mask.specs.Logic.{and}
 use Rattle.mask.specs.Bounded.{every}
 use Rattle.machine.specs.declared.Pair.{Pair}
@@ -19,6 +19,10 @@ first_rows p = flat_of (first_family p)
 -- what the first call says: 5, 9 to 11 and 21, or the family
 unfoldable pub first_answer : Pair → Answer (List ℕ)
 first_answer p = and_then (nonempty_validity p) (Ok (first_rows p))
+
+-- the family that lists of turns begin with: for machines that the call refuses zeros, of which no turn makes anything
+unfoldable pub first_given : Pair → List ℕ
+first_given p = state_after (nonempty_validity p) (first_rows p) (replicate 448 0)
 
 -- "It is finished when a turn changes nothing": each row is as it was
 unfoldable pub finishes : Pair → List ℕ → Bool

@@ -1,9 +1,9 @@
 -- Laws of the solver by turns: the first family row by row, what a turn says and leaves by what the solver says, and the look-up.
-use Rattle.std.specs.Prelude.{Bool, true, false, ◌⊎◌, ◌≡◌, ℕ, ◌+◌, ◌-◌, ◌*◌, ◌/◌, ◌%◌, ◌≤◌, ◌<◌, ltb, leb, length, drop, replicate, Err, Ok}
+use Rattle.std.specs.Prelude.{Bool, true, false, ◌⊎◌, ◌≡◌, ℕ, ◌+◌, ◌-◌, ◌*◌, ◌/◌, ◌%◌, ◌≤◌, ◌<◌, ltb, leb, length, take, drop, replicate, Err, Ok}
 use mathlib.Core.List.{List, [], ◌++◌}
 use Rattle.std.proofs.Math.Logic.{⊎_elim, by_cases}
 use Rattle.std.proofs.Math.Path.{sym, ap}
-use Rattle.std.proofs.Common.{ap₂, ◌∙◌, arith}
+use Rattle.std.proofs.Common.{ap₂, ◌∙◌, arith, take_at}
 use Rattle.std.proofs.Math.Decide.{dec_lt}
 use Rattle.std.proofs.Math.Dec.{eqb}
 use Rattle.std.proofs.Math.ListN.{get_or, get_or-append}
@@ -19,11 +19,9 @@ use Rattle.mask.specs.TablesLaws.{table_at, table_past, table_cong, fill_done}
 use Rattle.mask.specs.FrontLaws.{front_none, front_zeros}
 use Rattle.machine.specs.declared.Pair.{Pair}
 use Rattle.machine.specs.declared.Refusal.{Refusal}
-use Rattle.machine.specs.declared.Validity.{Validity}
-use Rattle.machine.specs.declared.Validity.TheVariants.{Valid, Refused}
 use Rattle.machine.specs.Machines.{observation, same_observation, matched, n_c, n_a, sets_a}
-use Rattle.machine.specs.Refusals.{valid, tested_of, and_then}
-use Rattle.machine.specs.RefusalsLaws.{then_of, then_refused, then_then, tested_valid, tested_refused, valid_if, state_made, state_kept}
+use Rattle.machine.specs.Refusals.{valid, and_then}
+use Rattle.machine.specs.RefusalsLaws.{then_of, then_refused, then_then, valid_if, state_made, state_kept}
 use Rattle.machine.specs.WellFormed.{well_formed, nonempty_validity}
 use Rattle.machine.specs.WellFormedLaws.{WellPair, well_pair, valid_is_well, entries_small}
 use Rattle.machine.specs.EmptySetsLaws.{nonempty_at}
@@ -39,7 +37,7 @@ use Rattle.solver.specs.Families.{flat_of, section_of, family_in, turn_rows}
 use Rattle.solver.specs.FamilyRowsLaws.{family_at}
 use Rattle.solver.specs.Solver.{solve_validity, turned_family, turned_table}
 use Rattle.solver.specs.SolverLaws.{solve_long, turned_refused, turned_valid}
-use Rattle.progress.specs.Turns.{first_rows, first_given, finishes, turn_answer, turn_family, says_finished, turn_table, still_in, range_validity, look_up_answer}
+use Rattle.progress.specs.Turns.{first_rows, first_answer, first_given, finishes, turn_answer, turn_family, says_finished, turn_table, still_in, range_validity, look_up_answer}
 use Rattle.machine.specs.declared.Refusal.TheVariants.{OutOfRange}
 
 -- ---- the first family
@@ -61,9 +59,13 @@ module _ (p : Pair) where
   unfolding first_given
   first_given_lem e = sym (state_made _ _ _ e)
 
-  pub first_refused : {r : Refusal} → nonempty_validity p ≡ Err r → replicate 448 0 ≡ first_given p
-  unfolding first_given
-  first_refused e = sym (state_kept _ _ _ e)
+  pub first_refused : {r : Refusal} → nonempty_validity p ≡ Err r → first_answer p ≡ Err r
+  unfolding first_answer
+  first_refused e = then_refused _ _ _ e
+
+  pub first_taken : nonempty_validity p ≡ valid → first_answer p ≡ Ok (first_rows p)
+  unfolding first_answer
+  first_taken e = then_of _ _ e
 
 -- ---- two families, row by row
 pub rows_same : (x y : List ℕ) → ((e : ℕ) → e < 448 → get_or x e 0 ≡ get_or y e 0) → every 448 (λ e. eqb (get_or x e 0) (get_or y e 0)) ≡ true
@@ -98,37 +100,35 @@ module _ (p : Pair) (F T : List ℕ) where
 
   -- the entries that are copied from its table are the ranks
   pub copied : {U : List ℕ} {n : ℕ} → solve_validity p (length T) ≡ valid → table_room ≤ length T → U ≡ turned_table p F (replicate table_room 0)
-      → finishes p F ≡ true → n ≡ entries p → front n (λ e. get_or U e 0) T ≡ turn_table p F T
+      → finishes p F ≡ true → n ≡ entries p → take n U ++ drop n T ≡ turn_table p F T
   copied {U} {n} e room eu f en =
       let R : List ℕ = rank_table p (family_in p F) in
       let made : U ≡ R ++ drop (length R) (replicate table_room 0) = eu ∙ sym (turned_valid p F (replicate table_room 0) (sym (solve_same p T room) ∙ e)).1 in
-      let whole : table n (λ i. get_or U i 0) ≡ R =
-      sym (fill_done 0 n R (λ i. get_or U i 0) (ranks_entries p (family_in p F) ∙ sym en) (λ i l. sym (ap (λ (l : List ℕ). get_or l i 0) made
-      ∙ get_or-append R (drop (length R) (replicate table_room 0)) 0 i (omega (arith, ranks_entries p (family_in p F)))))) in
-      ap₂ (λ (l : List ℕ) (k : ℕ). l ++ drop k T) whole (en ∙ sym (ranks_entries p (family_in p F))) ∙ sym (table_written e f)
+      let long : n ≡ length R = en ∙ sym (ranks_entries p (family_in p F)) in
+      let whole : take n U ≡ R = ap (take n) made ∙ take_at R (drop (length R) (replicate table_room 0)) n (sym long) in
+      ap₂ (λ (l : List ℕ) (k : ℕ). l ++ drop k T) whole long ∙ sym (table_written e f)
 
 -- ---- a turn, by what `solver::turn_family` says of the family and leaves in a table of exactly the room that it asks for
-module _ (p : Pair) (F T : List ℕ) (room : table_room ≤ length T) {v : Validity} {G : List ℕ}
-    (told : tested_of v ≡ solve_validity p (length (replicate {A = ℕ} table_room 0))) (made : G ≡ turned_family p F (length (replicate {A = ℕ} table_room 0))) where
-  pub turn_stopped : {r : Refusal} → v ≡ Refused r → (Err r ≡ turn_answer p F (length T)) × ((G ≡ turn_family p F (length T)) × (T ≡ turn_table p F T))
-  turn_stopped q =
-      let e = tested_refused told q in
+module _ (p : Pair) (F T : List ℕ) (room : table_room ≤ length T) {G : List ℕ}
+    (made : G ≡ turned_family p F (length (replicate {A = ℕ} table_room 0))) where
+  pub turn_stopped : {r : Refusal} → solve_validity p (length (replicate {A = ℕ} table_room 0)) ≡ Err r → (Err r ≡ turn_answer p F (length T)) × ((G ≡ turn_family p F (length T)) × (T ≡ turn_table p F T))
+  turn_stopped e =
       let k = turn_refused p F T (solve_same p T room ∙ e) in
       (sym k.0, (made ∙ sym (turned_refused p F (replicate table_room 0) _ e).0 ∙ sym k.1, sym k.2))
 
-  module _ (q : v ≡ Valid) where
+  module _ (q : solve_validity p (length (replicate {A = ℕ} table_room 0)) ≡ valid) where
     solves : solve_validity p (length T) ≡ valid
-    solves = solve_same p T room ∙ tested_valid told q
+    solves = solve_same p T room ∙ q
 
     next_is : G ≡ turn_rows p F
-    next_is = made ∙ sym (turned_valid p F (replicate table_room 0) (tested_valid told q)).0
+    next_is = made ∙ sym (turned_valid p F (replicate table_room 0) q).0
 
     pub turn_well : well_formed p ≡ true
     turn_well = valid_is_well p (nonempty_at p (sym (solve_long p (length T) room) ∙ solves)).0
 
     -- n entries are copied: all where the turn is finished, and else none
     pub turn_made : {U T' : List ℕ} {b : Bool} {n : ℕ} → U ≡ turned_table p F (replicate table_room 0) → b ≡ every 448 (λ e. eqb (get_or F e 0) (get_or G e 0))
-        → ((b ≡ true) × (n ≡ entries p)) ⊎ ((b ≡ false) × (n ≡ 0)) → T' ≡ front n (λ e. get_or U e 0) T
+        → ((b ≡ true) × (n ≡ entries p)) ⊎ ((b ≡ false) × (n ≡ 0)) → T' ≡ take n U ++ drop n T
         → (Ok b ≡ turn_answer p F (length T)) × ((G ≡ turn_family p F (length T)) × (T' ≡ turn_table p F T))
     unfolding finishes
     turn_made {U} {T'} {b} {n} eu eb en et =
@@ -139,7 +139,7 @@ module _ (p : Pair) (F T : List ℕ) (room : table_room ≤ length T) {v : Valid
             next_is ∙ sym k.1,
             et ∙ ⊎_elim
                 (λ w. copied p F T solves room eu (sym f ∙ w.0) w.1)
-                (λ w. ap (λ (i : ℕ). front i (λ e. get_or U e 0) T) w.1 ∙ sym (front_none _ T) ∙ sym (table_kept p F T solves (sym f ∙ w.0))) en,
+                (λ w. ap (λ (i : ℕ). take i U ++ drop i T) w.1 ∙ sym (table_kept p F T solves (sym f ∙ w.0))) en,
           ),
         )
 

@@ -7,7 +7,6 @@ ghost use Rattle.std.specs.Prelude.{true, ◌≡◌, ◌<◌, ◌≤◌, eqb, le
 ghost use Rattle.mask.specs.Bounded.{every};
 ghost use Rattle.mask.specs.Tables.{front};
 ghost use Rattle.machine.specs.Machines.{n_c, n_a, sets_a};
-ghost use Rattle.machine.specs.Refusals.{tested_of, and_then};
 ghost use Rattle.machine.specs.Table.{entries};
 ghost use Rattle.machine.specs.WellFormed.{nonempty_validity, well_formed};
 ghost use Rattle.progress.specs.Turns.{first_rows, first_answer, turn_answer, turn_family, turn_table, still_in, range_validity, look_up_answer};
@@ -65,7 +64,7 @@ pub fn turn(p: Pair, family: &mut [u64; 448], table: &mut [u16]) -> Result<bool,
     let mut ranks = [0u16; machine::TABLE_ROOM];
     let before = *family;
     solver::turn_family(p, family, &mut ranks)?;
-    let finished = *family == before;
+    let finished = before == *family;
     let written = if finished { entries_of(p) } else { 0 };
     table[..written].copy_from_slice(&ranks[..written]);
     Ok(finished)

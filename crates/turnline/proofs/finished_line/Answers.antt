@@ -1,22 +1,12 @@
--- The word, the number and the line feed, one behind the other.
-use native.Mathlib.Omega.{arith}
-use Rattle.text.specs.DecimalLaws.{decimal_most}
+-- The word, the number and the line feed, one behind the other, and there is room for them.
+use Rattle.std.proofs.Common.{[], ◌∷◌, ◌++◌, ◌∙◌}
+use Rattle.text.specs.Decimal.{decimal}
+use Rattle.report.specs.LineLaws.{behind}
+use Rattle.turnline.specs.Lines.{finished_text}
 use Rattle.turnline.specs.LinesLaws.{finished_line_lem}
 use Rattle.turnline.proofs.finished_line.Goals as goal
 
-pub overflow_add-at : goal.overflow_add-at
-overflow_add-at c = omega (arith, decimal_most c.args.t)
-
-pub bounds-out-at : goal.bounds-out-at
-bounds-out-at c = omega (arith, decimal_most c.args.t)
-
-pub overflow_add-result : goal.overflow_add-result
-overflow_add-result c = omega (arith, decimal_most c.args.t)
-
 pub returns : goal.returns
 returns c =
-    let number = c.put_number-at.ensures in
-    record {
-      value = finished_line_lem _ _ _ _ c.put.ensures number.bytes number.count;
-      room = omega (arith, decimal_most c.args.t, number.count);
-    }
+    behind finished_text (decimal c.args.t ++ (10 ∷ [])) (behind [] finished_text c.new-line.ensures c.append.ensures) c.append_number.ensures
+    ∙ finished_line_lem c.args.t
