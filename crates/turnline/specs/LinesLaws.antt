@@ -54,7 +54,7 @@ numbers_cong (suc n) f g h =
     ap₂ (λ (s : List ℕ) (x : ℕ). s ++ (32 ∷ decimal x)) (numbers_cong n f g (λ i l. h i (omega arith))) (h n (omega arith))
 
 -- all of them, and a line feed
-module _ (p : Pair) {M F : List ℕ} {t n : ℕ} (masks : M ≡ matched_masks p) (all : n ≡ min (sets_a p) 7) where
+module _ (p : Pair) {M : List ℕ} (F : List ℕ) (t : ℕ) {n : ℕ} (masks : M ≡ matched_masks p) (all : n ≡ min (sets_a p) 7) where
   counts : ((e : ℕ) → get_or F e 0 < 2 ^ 64) → numbers_text n (rows_count M F) ≡ numbers_text (min (sets_a p) 7) (still_count p F)
   counts small =
       ap₂ (λ (k : ℕ) (X : List ℕ). numbers_text k (rows_count X F)) all masks

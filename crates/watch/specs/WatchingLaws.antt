@@ -1,46 +1,86 @@
 -- Laws of the solver by turns on a file's bytes: by what the reader says, what is answered and what is left in the lent arrays.
-use Rattle.std.specs.Prelude.{Bool, true, false, List, ◌≡◌, ℕ, ◌≤◌, ◌<◌, length, replicate, Err, Ok}
+use Rattle.std.specs.Prelude.{Bool, true, false, List, ◌≡◌, ℕ, ◌≤◌, ◌<◌, length, Err, Ok, Some, None}
 use Rattle.std.proofs.Math.Path.{refl, sym, ap}
 use Rattle.std.proofs.Common.{◌∙◌}
+use Rattle.std.proofs.lemmas.Bool.{false≢true}
+use Rattle.std.proofs.lemmas.Option.{none-some, same_Some}
 use Rattle.machine.specs.declared.Pair.{Pair}
 use Rattle.machine.specs.declared.Refusal.{Refusal}
-use Rattle.machine.specs.Refusals.{valid, Tested, pass_on, and_then, state_after, buffer_validity, Answer}
-use Rattle.machine.specs.RefusalsLaws.{then_of, then_refused, then_then, given_refused, buffer_valid, buffer_short, state_made, state_kept}
+use Rattle.machine.specs.Refusals.{valid, Tested, pass_on, and_then, state_after, spot_after, answer_in, buffer_validity, Answer}
+use Rattle.machine.specs.RefusalsLaws.{then_of, then_refused, then_then, given_at, given_refused, buffer_valid, buffer_short, state_kept}
 use Rattle.machine.specs.WellFormed.{nonempty_validity}
 use Rattle.machine.specs.Table.{table_room}
 use Rattle.codec.specs.Reader.{pair_of, read_validity}
 use Rattle.solver.specs.Families.{turn_rows}
 use Rattle.solver.specs.Solver.{solve_validity}
-use Rattle.progress.specs.declared.Turned.{Turned}
-use Rattle.progress.specs.declared.Turned.TheVariants as turned
-use Rattle.progress.specs.declared.LookedUp.{LookedUp}
-use Rattle.progress.specs.declared.LookedUp.TheVariants as looked
-use Rattle.progress.specs.Answers.{turned_of, looked_up_of}
-use Rattle.progress.specs.Turns.{first_rows, first_given, finishes, turn_answer, turn_family, turn_table, look_up_answer}
+use Rattle.progress.specs.Turns.{first_rows, first_answer, finishes, turn_answer, turn_family, turn_table, look_up_answer}
 use Rattle.progress.specs.TurnsLaws.{turn_refused}
-use Rattle.watch.specs.Watching.{first_file, first_file_given, first_file_rows, turn_file, turn_file_rows, turn_file_table, look_up_file}
+use Rattle.watch.specs.Watching.{machines_read, first_file, first_file_answer, first_file_rows, ready_number, told_number, turn_file, turn_file_rows, turn_file_table, look_up_file}
 use Rattle.machine.specs.declared.Refusal.TheVariants.{ShortBuffer}
+
+-- ---- the machines
+module _ (f : List ℕ) where
+  pub read_refused_lem : {r : Refusal} → read_validity f table_room ≡ Err r → machines_read f ≡ Err r
+  unfolding machines_read
+  read_refused_lem e = then_refused _ _ _ e
+
+  pub read_taken_lem : {p : Pair} → read_validity f table_room ≡ valid → p ≡ pair_of f → Ok p ≡ machines_read f
+  unfolding machines_read
+  read_taken_lem e m = ap Ok m ∙ sym (then_of _ _ e)
+
+  -- and back
+  pub machines_at : {p : Pair} → machines_read f ≡ Ok p → (read_validity f table_room ≡ valid) × (p ≡ pair_of f)
+  unfolding machines_read
+  machines_at e = let a = given_at (read_validity f table_room) (pair_of f) e in (a.0, sym a.1)
+
+  pub machines_stopped : {r : Refusal} → machines_read f ≡ Err r → read_validity f table_room ≡ Err r
+  unfolding machines_read
+  machines_stopped e = given_refused (read_validity f table_room) (pair_of f) e
 
 -- ---- the first family
 module _ (f : List ℕ) where
-  pub first_unread : {r : Refusal} → read_validity f table_room ≡ Err r → (first_file f ≡ Err r) × (first_file_given f ≡ replicate 448 0)
-  unfolding first_file first_file_given
-  first_unread e = let a = then_refused _ (nonempty_validity (pair_of f)) _ e in (a, state_kept _ _ _ a)
+  pub first_unread : {r : Refusal} → read_validity f table_room ≡ Err r → first_file_answer f ≡ Err r
+  unfolding first_file first_file_answer
+  first_unread e = then_refused _ _ _ (then_refused _ (nonempty_validity (pair_of f)) _ e)
 
-  pub first_read : {p : Pair} → read_validity f table_room ≡ valid → p ≡ pair_of f → (nonempty_validity p ≡ first_file f) × (first_given p ≡ first_file_given f)
-  unfolding first_file first_file_given first_given
+  pub first_read : {p : Pair} → read_validity f table_room ≡ valid → p ≡ pair_of f → first_answer p ≡ first_file_answer f
+  unfolding first_file first_file_answer first_answer
   first_read e m =
-      let a = then_of _ (nonempty_validity (pair_of f)) e in
-      (ap nonempty_validity m ∙ sym a, ap first_given m ∙ ap (λ (v : Tested). state_after v (first_rows (pair_of f)) (replicate 448 0)) (sym a))
+      ap first_answer m ∙ ap (λ (v : Tested). and_then v (Ok (first_rows (pair_of f)))) (sym (then_of _ (nonempty_validity (pair_of f)) e))
 
-  -- for C
-  pub first_rows_lem : {G : List ℕ} (F : List ℕ) → G ≡ first_file_given f → first_file f ≡ valid → G ≡ first_file_rows f F
-  unfolding first_file_rows first_file_given
-  first_rows_lem F given e = given ∙ state_made _ _ _ e ∙ sym (state_made _ _ F e)
+-- for C: what is told beside v, the tests, where the answer is w
+module _ (w F : List ℕ) where
+  told_given : (v : Tested) {x : List ℕ} → answer_in (and_then v (Ok w)) ≡ Some x → (ready_number v ≡ 1) × (x ≡ state_after v w F)
+  unfolding answer_in and_then pass_on ready_number state_after
+  told_given (Ok t) {x} e = (refl, sym (same_Some w x e))
+  told_given (Err r) {x} e = absurd (none-some x e)
 
-  pub first_kept : (F : List ℕ) {r : Refusal} → first_file f ≡ Err r → F ≡ first_file_rows f F
+  told_none : (v : Tested) → answer_in (and_then v (Ok w)) ≡ None → (ready_number v ≡ 0) × (F ≡ state_after v w F)
+  unfolding answer_in and_then pass_on ready_number state_after
+  told_none (Ok t) e = absurd (none-some w (sym e))
+  told_none (Err r) e = (refl, refl)
+
+  told_spot : (v : Tested) (spot : List ℕ) → spot_after (and_then v (Ok w)) spot ≡ spot_after v spot
+  unfolding spot_after and_then pass_on
+  told_spot (Ok t) spot = refl
+  told_spot (Err r) spot = refl
+
+module _ (f F : List ℕ) where
+  pub first_told : {x : List ℕ} → answer_in (first_file_answer f) ≡ Some x → (ready_number (first_file f) ≡ 1) × (x ≡ first_file_rows f F)
+  unfolding first_file_answer first_file_rows
+  first_told e = told_given (first_rows (pair_of f)) F (first_file f) e
+
+  pub first_none : answer_in (first_file_answer f) ≡ None → (ready_number (first_file f) ≡ 0) × (F ≡ first_file_rows f F)
+  unfolding first_file_answer first_file_rows
+  first_none e = told_none (first_rows (pair_of f)) F (first_file f) e
+
+  pub first_spot : (spot : List ℕ) → spot_after (first_file_answer f) spot ≡ spot_after (first_file f) spot
+  unfolding first_file_answer
+  first_spot spot = told_spot (first_rows (pair_of f)) F (first_file f) spot
+
+  pub first_kept : {r : Refusal} → first_file f ≡ Err r → F ≡ first_file_rows f F
   unfolding first_file_rows
-  first_kept F e = sym (state_kept _ _ F e)
+  first_kept e = sym (state_kept _ _ F e)
 
 -- ---- a turn
 then_twice : {A : Type 0} (v : Tested) (w : Answer A) → and_then v (and_then v w) ≡ and_then v w
@@ -105,29 +145,20 @@ module _ (f F : List ℕ) (j c a : ℕ) where
   unfolding look_up_file
   look_read e m = ap (λ (q : Pair). look_up_answer q F j c a) m ∙ sym (then_of _ _ e)
 
--- ---- what the code's cases say
-module _ {s : Turned} {x : Answer Bool} (said : turned_of s ≡ x) where
-  pub turn_finished : s ≡ turned.Finished → x ≡ Ok true
-  unfolding turned_of
-  turn_finished e = sym said ∙ ap turned_of e
+-- ---- for C: the number that the answer's case has
+pub told_yes : {v : Answer Bool} → answer_in v ≡ Some true → 2 ≡ told_number v
+unfolding answer_in told_number
+told_yes {v = Ok true} e = refl
+told_yes {v = Ok false} e = let t = same_Some false true e in absurd (false≢true t)
+told_yes {v = Err r} e = absurd (none-some true e)
 
-  pub turn_unfinished : s ≡ turned.Unfinished → x ≡ Ok false
-  unfolding turned_of
-  turn_unfinished e = sym said ∙ ap turned_of e
+pub told_no : {v : Answer Bool} → answer_in v ≡ Some false → 1 ≡ told_number v
+unfolding answer_in told_number
+told_no {v = Ok true} e = let t = same_Some true false e in absurd (false≢true (sym t))
+told_no {v = Ok false} e = refl
+told_no {v = Err r} e = absurd (none-some false e)
 
-  pub turn_stopped : {r : Refusal} → s ≡ turned.Refused r → x ≡ Err r
-  unfolding turned_of
-  turn_stopped e = sym said ∙ ap turned_of e
-
-module _ {s : LookedUp} {x : Answer Bool} (said : looked_up_of s ≡ x) where
-  pub look_in : s ≡ looked.StillIn → x ≡ Ok true
-  unfolding looked_up_of
-  look_in e = sym said ∙ ap looked_up_of e
-
-  pub look_out : s ≡ looked.StruckOut → x ≡ Ok false
-  unfolding looked_up_of
-  look_out e = sym said ∙ ap looked_up_of e
-
-  pub look_stopped : {r : Refusal} → s ≡ looked.Refused r → x ≡ Err r
-  unfolding looked_up_of
-  look_stopped e = sym said ∙ ap looked_up_of e
+pub told_nothing : {v : Answer Bool} → answer_in v ≡ None → 0 ≡ told_number v
+unfolding answer_in told_number
+told_nothing {v = Ok b} e = absurd (none-some b (sym e))
+told_nothing {v = Err r} e = refl

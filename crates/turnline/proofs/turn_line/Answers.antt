@@ -3,7 +3,7 @@ use Prim.Native.Nat.{ℕ, ◌^◌, ◌<◌}
 use lib.ListN.{get_or}
 use mir.Val.{Fits}
 use mir.Syntax.{w64}
-use Rattle.std.proofs.Common.{[], ◌∷◌, ◌++◌, arith, rules, ◌∙◌}
+use Rattle.std.proofs.Common.{List, [], ◌∷◌, ◌++◌, take, ap, arith, rules, ◌∙◌}
 use Rattle.text.specs.Decimal.{decimal}
 use Rattle.report.specs.LineLaws.{behind}
 use Rattle.turnline.specs.Lines.{turn_text}
@@ -12,13 +12,43 @@ use Rattle.turnline.proofs.turn_line.Goals as goal
 use Rattle.turnline.proofs.turn_line.Goals.{Start}
 
 pub loop-j-init : goal.loop-j-init
-loop-j-init c = ?
+loop-j-init c =
+    let x = c.args in
+    let word = behind [] turn_text c.new-line.ensures c.append.ensures in
+    let number = behind turn_text c.deref.result.now word c.append-2.ensures in
+    (
+      search rules,
+      (
+        omega (arith, c.min-n.ensures),
+        number ∙ ap (λ (d : List ℕ). take 128 (turn_text ++ d)) (c.deref.ensures.0 ∙ c.digits_of.ensures) ∙ ap (take 128) (told_none c.matched_masks-matched.result x.family x.t),
+      ),
+    )
 
 pub section_count-requires : goal.section_count-requires
-section_count-requires c = ?
+section_count-requires c = omega (arith, c.loop-j.invariant.1.0)
 
 pub loop-j-preserved : goal.loop-j-preserved
-loop-j-preserved c = ?
+loop-j-preserved c =
+    let l = c.loop-j in
+    let x = c.args in
+    let M = c.matched_masks-matched.result in
+    (
+      search rules,
+      (
+        l.invariant.1.0,
+        behind (told M x.family x.t l.j) (32 ∷ decimal c.section_count.result) l.invariant.1.1 c.append_count.ensures
+            ∙ ap (take 128) (told_more M x.family x.t l.j c.section_count.result c.section_count.ensures),
+      ),
+    )
+
+-- the rows are masks of 64 bits
+small : (c : Start) (e : ℕ) → get_or c.args.family e 0 < 2 ^ 64
+small c e = let f : Fits w64 (get_or c.args.family e 0) = search rules in f.fits
 
 pub returns : goal.returns
-returns c = ?
+returns c =
+    let x = c.args in
+    let l = c.loop-j in
+    let M = c.matched_masks-matched.result in
+    behind (told M x.family x.t l.j) (10 ∷ []) l.invariant.1.1 c.append-3.ensures
+    ∙ turn_line_lem x.p x.family x.t c.matched_masks-matched.ensures (omega (arith, c.min-n.ensures)) (small (goal.at.returns c).Start)

@@ -1,25 +1,16 @@
 -- What the reader says of the file is what its tests say, and beside a file that is taken the machines are those in it.
-use mathlib.Core.Path.{sym, ap, ◌∙◌}
-use Rattle.machine.specs.Refusals.{tested_of}
-use Rattle.machine.specs.RefusalsLaws.{refused_not_answer}
-use Rattle.codec.specs.AnswersLaws.{refusal_of_lem}
+use mathlib.Core.Path.{sym, ◌∙◌}
+use Rattle.machine.proofs.Passing.{passed_on}
 use Rattle.codec.proofs.FileLaws.{machines_taken, machines_pair, machines_refused}
-use Rattle.std.specs.Prelude.{Err}
+use Rattle.watch.specs.WatchingLaws.{read_refused_lem, read_taken_lem}
 use Rattle.watch.proofs.machines_of.Goals as goal
 
-pub returns-in_default : goal.returns-in_default
-unfolding tested_of
-returns-in_default c =
-    let told = c.in_default.is in
-    let stopped = machines_refused _ _ c.read_file-show.ensures.answer told in
-    record {
-      validity = ap Err (c.refusal_of.ensures ∙ refusal_of_lem told) ∙ sym stopped;
-      machines = λ t. absurd (refused_not_answer (sym stopped ∙ t));
-    }
+pub returns-in_err-show : goal.returns-in_err-show
+returns-in_err-show c =
+    passed_on c.from_residual.ensures ∙ sym (read_refused_lem c.args.bytes.now (machines_refused _ _ c.read_file-show.ensures.answer c.in_err-show.was))
 
 pub returns : goal.returns
-unfolding tested_of
 returns c =
     let read = c.read_file-show.ensures.answer in
-    let told = c.in-Taken.is in
-    record { validity = sym (machines_taken _ _ read told); machines = λ t. machines_pair _ _ read told }
+    let told = c.in_ok-show.was in
+    read_taken_lem c.args.bytes.now (machines_taken _ _ read told) (machines_pair _ _ read told)
