@@ -1,14 +1,16 @@
 -- A proof of each statement on the solver by turns on a file's bytes.
 use Rattle.std.specs.Prelude.{List, refl, ℕ}
 use Rattle.std.proofs.Math.Path.{sym}
+use Rattle.std.proofs.Common.{◌∙◌}
 use Rattle.machine.specs.RefusalsLaws.{then_answer}
 use Rattle.machine.specs.WellFormed.{nonempty_validity}
 use Rattle.machine.specs.WellFormedLaws.{valid_is_well}
 use Rattle.machine.specs.EmptySetsLaws.{nonempty_at}
 use Rattle.machine.specs.Table.{table_room}
 use Rattle.codec.specs.Reader.{pair_of, read_validity}
+use Rattle.progress.specs.TurnsLaws.{first_given_lem}
 use Rattle.watch.specs.Watching.{first_file}
-use Rattle.watch.specs.WatchingLaws.{first_read, first_rows_lem, first_kept, turn_said_lem, turn_rows_lem, turn_table_lem, turn_kept, look_read}
+use Rattle.watch.specs.WatchingLaws.{first_rows_lem, first_kept, turn_said_lem, turn_rows_lem, turn_table_lem, turn_kept, look_read}
 use Rattle.watch.specs.Statements.{CallsOfMachines, RefusalsLeave}
 
 module _ (f : List ℕ) where
@@ -20,7 +22,7 @@ module _ (f : List ℕ) where
       record {
         well = valid_is_well (pair_of f) n.0;
         nonempty = n.1;
-        first = λ F. sym (first_rows_lem f F (first_read f q.0 refl).1 e);
+        first = λ F. first_rows_lem f F e ∙ first_given_lem (pair_of f) q.1;
         said = λ F. turn_said_lem f F q.0;
         rows = λ F. turn_rows_lem f F q.0;
         entries = λ F. turn_table_lem f F q.0;

@@ -2,12 +2,11 @@
 use Rattle.std.specs.Prelude.{Bool, true, false, List, ◌≡◌, ℕ, ◌≤◌, ◌<◌, length, Err, Ok, Some, None}
 use Rattle.std.proofs.Math.Path.{refl, sym, ap}
 use Rattle.std.proofs.Common.{◌∙◌}
-use Rattle.std.proofs.lemmas.Bool.{false≢true}
 use Rattle.std.proofs.lemmas.Option.{none-some, same_Some}
 use Rattle.machine.specs.declared.Pair.{Pair}
 use Rattle.machine.specs.declared.Refusal.{Refusal}
 use Rattle.machine.specs.Refusals.{valid, Tested, pass_on, and_then, state_after, spot_after, answer_in, buffer_validity, Answer}
-use Rattle.machine.specs.RefusalsLaws.{then_of, then_refused, then_then, given_at, given_refused, buffer_valid, buffer_short, state_kept}
+use Rattle.machine.specs.RefusalsLaws.{then_of, then_refused, then_then, given_at, given_refused, buffer_valid, buffer_short, state_made, state_kept}
 use Rattle.machine.specs.WellFormed.{nonempty_validity}
 use Rattle.machine.specs.Table.{table_room}
 use Rattle.codec.specs.Reader.{pair_of, read_validity}
@@ -78,6 +77,10 @@ module _ (f F : List ℕ) where
   unfolding first_file_answer
   first_spot spot = told_spot (first_rows (pair_of f)) F (first_file f) spot
 
+  pub first_rows_lem : first_file f ≡ valid → first_file_rows f F ≡ first_rows (pair_of f)
+  unfolding first_file_rows
+  first_rows_lem e = state_made _ _ F e
+
   pub first_kept : {r : Refusal} → first_file f ≡ Err r → F ≡ first_file_rows f F
   unfolding first_file_rows
   first_kept e = sym (state_kept _ _ F e)
@@ -145,20 +148,13 @@ module _ (f F : List ℕ) (j c a : ℕ) where
   unfolding look_up_file
   look_read e m = ap (λ (q : Pair). look_up_answer q F j c a) m ∙ sym (then_of _ _ e)
 
--- ---- for C: the number that the answer's case has
-pub told_yes : {v : Answer Bool} → answer_in v ≡ Some true → 2 ≡ told_number v
-unfolding answer_in told_number
-told_yes {v = Ok true} e = refl
-told_yes {v = Ok false} e = let t = same_Some false true e in absurd (false≢true t)
-told_yes {v = Err r} e = absurd (none-some true e)
+-- ---- for C: the number of an answer is that of what is answered
+pub told_some : (v : Answer Bool) (b : Bool) → answer_in v ≡ Some b → told_number (Ok b) ≡ told_number v
+unfolding answer_in
+told_some (Ok d) b e = ap (λ (b : Bool). told_number (Ok b)) (sym (same_Some d b e))
+told_some (Err r) b e = absurd (none-some b e)
 
-pub told_no : {v : Answer Bool} → answer_in v ≡ Some false → 1 ≡ told_number v
+pub told_nothing : (v : Answer Bool) → answer_in v ≡ None → 0 ≡ told_number v
 unfolding answer_in told_number
-told_no {v = Ok true} e = let t = same_Some true false e in absurd (false≢true (sym t))
-told_no {v = Ok false} e = refl
-told_no {v = Err r} e = absurd (none-some false e)
-
-pub told_nothing : {v : Answer Bool} → answer_in v ≡ None → 0 ≡ told_number v
-unfolding answer_in told_number
-told_nothing {v = Ok b} e = absurd (none-some b (sym e))
-told_nothing {v = Err r} e = refl
+told_nothing (Ok b) e = absurd (none-some b (sym e))
+told_nothing (Err r) e = refl
