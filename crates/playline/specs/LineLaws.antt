@@ -1,5 +1,5 @@
 -- Laws of the line, as it is written from a place on.
-use Rattle.std.specs.Prelude.{Bool, true, false, ◌≡◌, refl, get_or, set}
+use Rattle.std.specs.Prelude.{Bool, true, false, Option, Ok, Err, Some, None, ◌≡◌, refl, get_or, set}
 use Rattle.std.proofs.Math.Bool.{cond}
 use mathlib.Core.List.{List, [], ◌∷◌, ◌++◌, append_assoc}
 use Rattle.std.proofs.Common.{sym, ◌∙◌, add-one, arith, length-append, drop_of_length-le}
@@ -10,12 +10,12 @@ use Rattle.std.proofs.Math.Seq.{sets, length-sets, take_all}
 use Rattle.text.specs.Decimal.{decimal}
 use Rattle.codec.specs.ListLaws.{sets_then}
 use Rattle.machine.specs.declared.Refusal.{Refusal}
+use Rattle.machine.specs.declared.Run.{Run}
+use Rattle.machine.specs.Refusals.{Answer}
 use Rattle.machine.specs.Lassos.{Lasso, given}
 use Rattle.machine.specs.Player.{run_room}
 use Rattle.report.specs.Text.{no_table_text, refusal_line}
-use Rattle.playback.specs.declared.FileRun.{FileRun}
-use Rattle.playback.specs.declared.FileRun.TheVariants.{Run, NoTable, Refused}
-use Rattle.playback.specs.Playing.{file_run, file_run_buffer, run_outcome_of}
+use Rattle.playback.specs.Playing.{file_run, file_run_buffer}
 use Rattle.playline.specs.Lasso.{numbers_in, stroke_at, readable, lasso_in, states_text, lasso_text}
 use Rattle.playline.specs.LassoLaws.{drop_next}
 use Rattle.playline.specs.Line.{run_line, run_outcome_line, usage_line, play_line}
@@ -95,18 +95,18 @@ pub same_line : {r most : ℕ} (out₀ : List ℕ) {out l l' : List ℕ} → l �
 same_line out₀ e a b c = (a ∙ ap length e, (b, c ∙ ap (sets out₀ 0) e))
 
 -- the line of what was said
-module _ (said : FileRun) (run : List ℕ) where
-  pub line_run : (s q : ℕ) → said ≡ Run s q → run_line (take s run) (take q (drop s run)) ≡ run_outcome_line (run_outcome_of said) run
-  unfolding run_outcome_of run_outcome_line
-  line_run s q e = rw e
+module _ (said : Answer (Option Run)) (run : List ℕ) where
+  pub line_run : (r : Run) → said ≡ Ok (Some r) → run_line (take r.stem run) (take r.cycle (drop r.stem run)) ≡ run_outcome_line said run
+  unfolding run_outcome_line
+  line_run r e = rw e refl
 
-  pub line_none : said ≡ NoTable → no_table_text ≡ run_outcome_line (run_outcome_of said) run
-  unfolding run_outcome_of run_outcome_line
-  line_none e = rw e
+  pub line_none : said ≡ Ok None → no_table_text ≡ run_outcome_line said run
+  unfolding run_outcome_line
+  line_none e = rw e refl
 
-  pub line_refused : (r : Refusal) → said ≡ Refused r → refusal_line r ≡ run_outcome_line (run_outcome_of said) run
-  unfolding run_outcome_of run_outcome_line
-  line_refused r e = rw e
+  pub line_refused : (r : Refusal) → said ≡ Err r → refusal_line r ≡ run_outcome_line said run
+  unfolding run_outcome_line
+  line_refused r e = rw e refl
 
 module _ (f text : List ℕ) where
   pub play_usage : readable text ≡ false → usage_line ≡ play_line f text
@@ -122,10 +122,10 @@ module _ (f text : List ℕ) where
       ap₂ given (b ∙ ap (λ (k : ℕ). numbers_in (take k text)) a)
       (c ∙ ap numbers_in (rest ∙ ap (λ (k : ℕ). drop k text) (add-one stroke ∙ ap suc a)))
 
-  pub play_said : (said : FileRun) (stem loop run : List ℕ) (stroke : ℕ) → readable text ≡ true → stroke ≡ stroke_at text
+  pub play_said : (said : Answer (Option Run)) (stem loop run : List ℕ) (stroke : ℕ) → readable text ≡ true → stroke ≡ stroke_at text
       → stem ≡ numbers_in (take stroke text) → loop ≡ numbers_in (take (length text - (stroke + 1)) (drop (stroke + 1) text))
-      → run_outcome_of said ≡ file_run f (given stem loop) (replicate run_room 0) → run ≡ file_run_buffer f (given stem loop) (replicate run_room 0)
-      → run_outcome_line (run_outcome_of said) run ≡ play_line f text
+      → said ≡ file_run f (given stem loop) (replicate run_room 0) → run ≡ file_run_buffer f (given stem loop) (replicate run_room 0)
+      → run_outcome_line said run ≡ play_line f text
   unfolding play_line
   play_said said stem loop run stroke t a b c e g =
       let buffer : List ℕ = replicate run_room 0 in

@@ -201,10 +201,7 @@ fn put_refused(out: &mut [u8], r: Refusal) -> usize
     ensures room { result ≤ 128 }
     ensures bytes { out.new ≡ sets out.old 0 (refusal_line r) }
 {
-    let line = report::refusal_line(r);
-    let text = line.text;
-    let count = line.length;
-    put_line(out, &text[..count])
+    put_line(out, &report::refusal_line(r))
 }
 
 // Writes the line of what is said, where the run stands in a buffer, and gives its length.
@@ -215,8 +212,10 @@ fn put_outcome(out: &mut [u8], said: Result<Option<Run>, Refusal>, run: &[u8]) -
     ensures bytes { out.new ≡ sets out.old 0 (run_outcome_line said run.now) }
 {
     match said {
-        Ok(Some(lengths)) => put_run_in(out, run, lengths.stem, lengths.cycle),
-        Ok(None) => put_line(out, b"no table\n"),
+        Ok(given) => match given {
+            Some(lengths) => put_run_in(out, run, lengths.stem, lengths.cycle),
+            None => put_line(out, b"no table\n"),
+        },
         Err(refusal) => put_refused(out, refusal),
     }
 }

@@ -1,48 +1,67 @@
 -- The run's two lengths as one number, or the four numbers of what stands in its place: what the three cases of the definitions say.
-use mathlib.Core.Path.{sym, ap, ◌∙◌}
+use mathlib.Core.List.{List, [], ◌∷◌, ◌++◌, append-nil}
+use lib.ListN.{length}
+use Rattle.std.proofs.Common.{drop_of_length-le}
+use Rattle.std.proofs.lemmas.List.Edits.{sets, sets-eq}
+use Rattle.machine.specs.Verdict.{no_table}
+use mathlib.Core.Path.{◌≡◌, sym, ap, ◌∙◌}
+use Prim.Native.Nat.{ℕ, ◌+◌, ◌≤◌}
 use native.Mathlib.Omega.{arith}
-use lib.Seq.{sets}
-use Rattle.machine.specs.declared.Refusal.{Refusal}
-use Rattle.machine.specs.Refusals.{four_numbers}
-use Rattle.machine.specs.RefusalsLaws.{spot_kept, spot_put}
-use Rattle.playback.specs.Playing.{run_number}
-use Rattle.playback.specs.PlayingLaws.{told_run, told_bare, told_refused, told_small}
+use Rattle.std.specs.Prelude.{Option, Some}
+use Rattle.machine.specs.declared.Run.{Run}
+use Rattle.machine.specs.Lassos.{given}
+use Rattle.machine.specs.Player.{run_room}
+use Rattle.machine.specs.Refusals.{Answer, answer_in, spot_after}
+use Rattle.playback.specs.Playing.{file_run}
+use Rattle.playback.specs.PlayingLaws.{run_small, told_run, told_bare, told_stopped}
 use Rattle.playback.proofs.play_file.Goals as goal
+use Rattle.playback.proofs.play_file.Goals.{After-told, In-Some-Some}
+
+-- what is told C is what is said of the file
+told : (c : After-told) {o : Option (Option Run)} → c.told.result ≡ o →
+    let x = c.args in answer_in (file_run x.bytes.now (given x.stem.now x.cycle.now) x.run.now) ≡ o
+told c e = ap answer_in (sym c.play_bytes.ensures.answer) ∙ sym c.told.ensures.value ∙ e
+
+spot : (c : After-told) → let x = c.args in c.told.new.spot ≡ spot_after (file_run x.bytes.now (given x.stem.now x.cycle.now) x.run.now) x.spot.now
+spot c = c.told.ensures.numbers ∙ ap (λ (v : Answer (Option Run)). spot_after v c.args.spot.now) c.play_bytes.ensures.answer
 
 -- the run's lengths are those of a run that fits its buffer
+fits : (c : In-Some-Some) → c.in-Some-Some.lengths.stem + c.in-Some-Some.lengths.cycle ≤ run_room
+fits c =
+    let x = c.args in
+    let n = c.in-Some-Some in
+    let said = ap answer_in (sym c.play_bytes.ensures.answer) ∙ sym c.told.ensures.value ∙ n.is ∙ ap Some n.field-0-is in
+    run_small x.bytes.now (given x.stem.now x.cycle.now) x.run.now (told_run _ x.spot.now said).0
+
 pub overflow_mul-result : goal.overflow_mul-result
-overflow_mul-result c = omega (arith, told_small _ _ _ c.play_bytes.ensures.answer c.in-Run.is)
+overflow_mul-result c = omega (arith, fits c)
 
 pub overflow_add-result : goal.overflow_add-result
-overflow_add-result c = omega (arith, told_small _ _ _ c.play_bytes.ensures.answer c.in-Run.is)
+overflow_add-result c = omega (arith, fits c)
 
-pub returns-in-Run : goal.returns-in-Run
-unfolding run_number
-returns-in-Run c =
-    let said = c.play_bytes.ensures in
-    let told = told_run _ _ _ said.answer c.in-Run.is in
-    record { value = sym (ap run_number told); content = said.content; numbers = sym (spot_kept _ told) }
+pub returns-in-Some-Some : goal.returns-in-Some-Some
+returns-in-Some-Some c =
+    let a = (goal.at.returns-in-Some-Some c).After-told in
+    let n = c.in-Some-Some in
+    let t = told_run _ c.args.spot.now (told a (n.is ∙ ap Some n.field-0-is)) in
+    record { value = t.1; content = c.play_bytes.ensures.content; numbers = spot a ∙ t.2 }
 
-pub returns-in-NoTable : goal.returns-in-NoTable
-unfolding run_number
-returns-in-NoTable c =
-    let said = c.play_bytes.ensures in
-    let told = told_bare _ _ _ said.answer c.in-NoTable.is in
-    let spot = c.args.spot.now in
-    let put = ap (λ (r : Refusal). sets spot 0 (four_numbers r)) c.refuse.ensures in
-    record {
-      value = sym (ap run_number told);
-      content = said.content;
-      numbers = c.put_refusal.ensures ∙ put ∙ sym (spot_put spot told);
-    }
+-- four numbers take the place of four
+four : (l : List ℕ) (a b c d : ℕ) → length l ≡ 4 → a ∷ b ∷ c ∷ d ∷ [] ≡ sets l 0 (a ∷ b ∷ c ∷ d ∷ [])
+four l a b c d h =
+    let vs : List ℕ = a ∷ b ∷ c ∷ d ∷ [] in
+    let short : length l ≤ 4 = omega (arith, h) in
+    sym (sets-eq vs l 0 (omega (arith, h)) ∙ ap (λ (z : List ℕ). vs ++ z) (drop_of_length-le l short) ∙ append-nil vs)
 
-pub returns-in-Refused : goal.returns-in-Refused
-unfolding run_number
-returns-in-Refused c =
-    let said = c.play_bytes.ensures in
-    let told = told_refused _ _ _ said.answer c.in-Refused.is in
-    record {
-      value = sym (ap run_number told);
-      content = said.content;
-      numbers = c.put_refusal-in-Refused.ensures ∙ sym (spot_put _ told);
-    }
+pub returns-in-Some-None : goal.returns-in-Some-None
+returns-in-Some-None c =
+    let a = (goal.at.returns-in-Some-None c).After-told in
+    let n = c.in-Some-None in
+    let t = told_bare _ c.args.spot.now (told a (n.is ∙ ap Some n.field-0-is)) (four c.args.spot.now no_table 0 0 0 c.told-spot) in
+    record { value = t.0; content = c.play_bytes.ensures.content; numbers = t.1 }
+
+pub returns-in-None : goal.returns-in-None
+returns-in-None c =
+    let a = (goal.at.returns-in-None c).After-told in
+    let t = told_stopped _ c.args.spot.now (told a c.in-None.is) in
+    record { value = t.0; content = c.play_bytes.ensures.content; numbers = spot a ∙ t.1 }

@@ -7,7 +7,7 @@ use lib.ListN.{length, length-replicate}
 use lib.Seq.{length-take-le}
 use borrow.Author.Rules.{rules}
 use Rattle.machine.specs.Player.{run_room}
-use Rattle.playback.specs.PlayingLaws.{told_small}
+use Rattle.playback.specs.PlayingLaws.{run_small}
 use Rattle.playline.specs.Lasso.{readable}
 use Rattle.playline.specs.LassoLaws.{readable_stroke}
 use Rattle.playline.specs.LineLaws.{same_line, play_usage, play_said}
@@ -50,7 +50,7 @@ pub put_outcome-requires : goal.put_outcome-requires
 put_outcome-requires c =
     let play = c.play_bytes-said in
     let long : length play.new.run ≡ run_room = play.auto.run ∙ length-replicate {A = ℕ} run_room 0 in
-    (omega arith, (search rules, λ s q e. omega (arith, told_small _ _ _ play.ensures.answer e)))
+    (omega arith, (search rules, λ r e. omega (arith, run_small _ _ _ (sym play.ensures.answer ∙ e))))
 
 pub returns : goal.returns
 returns c =
