@@ -13,10 +13,7 @@ fn write_machine(rt: &impl Print, bytes: &[u8], which: usize) -> io::Result<bool
             Ok(true)
         }
         Err(refusal) => {
-            let line = report::refusal_line(refusal);
-            let text = line.text;
-            let length = line.length;
-            rt.write_all(&text[..length])?;
+            rt.write_all(&report::refusal_line(refusal))?;
             Ok(false)
         }
     }

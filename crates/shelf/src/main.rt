@@ -6,8 +6,5 @@ use std::io;
 fn main(rt: HostRuntime) -> io::Result<()> {
     let mut buffer = [0u8; codec::INPUT_ROOM];
     let count = stream::read_full(&mut rt.stdin(), &mut buffer);
-    let line = report::shelf_line(&buffer[..count]);
-    let text = line.text;
-    let length = line.length;
-    rt.write_all(&text[..length])
+    rt.write_all(&report::shelf_line(&buffer[..count]))
 }

@@ -10,11 +10,6 @@ fn main(rt: HostRuntime) -> io::Result<()> {
     let mut out = [0u8; codec::FILE_ROOM];
     match restore::solve_bytes(&input[..count], &mut out) {
         Ok(n) => rt.write_all(&out[..n]),
-        Err(refusal) => {
-            let line = report::refusal_line(refusal);
-            let text = line.text;
-            let length = line.length;
-            rt.stderr().write_all(&text[..length])
-        }
+        Err(refusal) => rt.stderr().write_all(&report::refusal_line(refusal)),
     }
 }
