@@ -2,7 +2,7 @@
 // Cost: the line check, and then at most 28,672 steps, each one search among the successors of an abstract state.
 #![tactic(auto)]
 
-ghost use Rattle.std.specs.Prelude.{true, cond, ◌≡◌, ℕ, ◌+◌, ◌<◌, ◌≤◌, eqb, length, get_or};
+ghost use Rattle.std.specs.Prelude.{true, cond, ◌≡◌, ℕ, ◌+◌, ◌<◌, ◌≤◌, eqb, length};
 ghost use Rattle.mask.specs.Bits.{has_bit};
 ghost use Rattle.mask.specs.Bounded.{first, below};
 ghost use Rattle.machine.specs.Machines.{moves, next, n_c, n_a, sets_a};
@@ -79,10 +79,7 @@ impl<'a> Lasso<'a> {
             return true;
         }
         let closes = moves_to(m, s, self.state_at(self.stem.len()));
-        if i + 1 < self.len() {
-            return false;
-        }
-        !closes
+        i + 1 == self.len() && !closes
     }
 
     // The first position at which refusal 14 holds.
@@ -103,7 +100,7 @@ impl<'a> Lasso<'a> {
     // The first set without a state of the loop.
     fn first_missed_set(&self, m: &Machine) -> Option<usize>
         requires { m.now.sets ≤ 8 }
-        ensures { result ≡ below m.now.sets (first m.now.sets (λ k. none_in (get_or m.now.fairness k 0) self.now.cycle.now)) }
+        ensures { result ≡ below m.now.sets (first m.now.sets (missed_set m.now (lent self.now))) }
     {
         (0..m.sets).find(|k| self.misses(m.fairness[*k]))
     }

@@ -2,6 +2,7 @@
 use mathlib.Core.Bool.{not}
 use mathlib.Core.Path.{sym, ap, ◌∙◌}
 use native.Mathlib.Omega.{arith}
+use borrow.Author.Tests.{ne_eqb}
 use Rattle.machine.specs.Machines.{starts}
 use Rattle.machine.specs.PlayerLaws.{Entered, bad_state, bad_start, good_start, bad_entry, good_entry, good_before, closing}
 use Rattle.player.specs.Given.{lent}
@@ -28,9 +29,11 @@ entered c = elim c.if-i-eq0.branch [
 
 pub returns-then-i-len : goal.returns-then-i-len
 returns-then-i-len c =
-    good_before _ _ _ _ c.state_at-s.ensures c.if-m-s.false (entered (goal.at.returns-then-i-len c).After-moves_to-closes) (λ e. omega (arith, c.len.ensures))
-
-pub returns : goal.returns
-returns c =
-    closing _ _ _ _ c.state_at-s.ensures c.if-m-s.false (entered (goal.at.returns c).After-moves_to-closes) (omega (arith, c.len.ensures))
+    closing _ _ _ _ c.state_at-s.ensures c.if-m-s.false (entered (goal.at.returns-then-i-len c).After-moves_to-closes) (omega (arith, c.len.ensures))
     _ (c.state_at-2.ensures ∙ sym (moment_closing _ _ (omega (arith, c.len.ensures)))) _ c.moves_to-closes.ensures
+
+pub returns-else-i-len : goal.returns-else-i-len
+returns-else-i-len c =
+    ne_eqb _ _ c.if-i-len.false
+    ∙ good_before _ _ _ _ c.state_at-s.ensures c.if-m-s.false (entered (goal.at.returns-else-i-len c).After-moves_to-closes)
+    (λ e. c.if-i-len.false (omega (arith, c.len.ensures)))

@@ -8,7 +8,6 @@ use Rattle.machine.specs.Lassos.{lasso_length}
 use Rattle.machine.specs.Player.{bad_step}
 use Rattle.machine.specs.PlayerLaws.{good_length, refused_length, refused_step, refused_set, not_refused}
 use Rattle.player.specs.Given.{lent}
-use Rattle.player.specs.LassoLaws.{first_missed}
 use Rattle.player.proofs.Lasso.validity.Goals as goal
 use Rattle.player.proofs.Lasso.validity.Goals.{After-first_missed_set}
 
@@ -40,11 +39,11 @@ returns-in-Some-first_missed_set c =
     let l = lent x.self.now in
     let at = below_at _ _ (sym c.first_missed_set.ensures ∙ c.in-Some-first_missed_set.is) in
     sym (refused_set x.m.now l (sym c.has_bad_length.ensures ∙ c.if-has_bad_length.false) _ refl (past (goal.at.returns-in-Some-first_missed_set c).After-first_missed_set) _
-    (at.0 ∙ first_missed x.m.now l) (rw at.0 at.1))
+    at.0 (rw at.0 at.1))
 
 pub returns-in-None : goal.returns-in-None
 returns-in-None c =
     let x = c.args in
     let l = lent x.self.now in
     sym (not_refused x.m.now l (sym c.has_bad_length.ensures ∙ c.if-has_bad_length.false) _ refl (past (goal.at.returns-in-None c).After-first_missed_set) _
-    (first_missed x.m.now l) (below_past _ _ (sym c.first_missed_set.ensures ∙ c.in-None.is)))
+    refl (below_past _ _ (sym c.first_missed_set.ensures ∙ c.in-None.is)))
