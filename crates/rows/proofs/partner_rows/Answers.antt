@@ -6,7 +6,7 @@ use Rattle.rows.specs.RowsLaws.{front_rows}
 use Rattle.rows.proofs.partner_rows.Goals as goal
 
 pub loop-d-init : goal.loop-d-init
-loop-d-init c = (omega arith, c.width-end.ensures, front_none _ _)
+loop-d-init c = (omega arith, c.min-d-end.ensures, front_none _ _)
 
 pub loop-d-preserved : goal.loop-d-preserved
 loop-d-preserved c = let l = c.loop-d in (omega arith, l.invariant.1, front_turn _ _ l.invariant.2 (omega (arith, l.invariant.1)) c.partners.ensures)

@@ -6,7 +6,7 @@ use Rattle.rows.specs.RowsLaws.{front_rows}
 use Rattle.rows.proofs.step_rows.Goals as goal
 
 pub loop-c-init : goal.loop-c-init
-loop-c-init c = (omega arith, c.width-end.ensures, front_none _ _)
+loop-c-init c = (omega arith, c.min-c-end.ensures, front_none _ _)
 
 pub loop-c-preserved : goal.loop-c-preserved
 loop-c-preserved c = let l = c.loop-c in (omega arith, l.invariant.1, front_turn _ _ l.invariant.2 (omega (arith, l.invariant.1)) c.meet.ensures)
