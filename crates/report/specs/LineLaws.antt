@@ -11,9 +11,9 @@ pub put_behind : (n : ℕ) (xs ys : List ℕ) {k : ℕ} → length xs ≤ n → 
 put_behind n xs ys {k} h e =
     let room : length xs + (n - length xs) ≡ n = omega arith in
     let same : take k ys ≡ take (n - length xs) ys =
-        by_cases (dec_lt (length ys) (n - length xs))
-        (λ l. take_all k ys (omega arith) ∙ sym (take_all (n - length xs) ys (omega arith)))
-        (λ l. let z : k ≡ n - length xs = omega arith in ap (λ (i : ℕ). take i ys) z) in
+    by_cases (dec_lt (length ys) (n - length xs))
+    (λ l. take_all k ys (omega arith) ∙ sym (take_all (n - length xs) ys (omega arith)))
+    (λ l. let z : k ≡ n - length xs = omega arith in ap (λ (i : ℕ). take i ys) z) in
     ap (λ (z : List ℕ). xs ++ z) same ∙ sym (take-append-add xs ys (n - length xs)) ∙ ap (λ (i : ℕ). take i (xs ++ ys)) room
 
 -- behind a text that was cut already

@@ -28,11 +28,7 @@ pub fn first_family_bytes(bytes: &[u8]) -> Result<[u64; 448], Refusal>
 }
 
 // A turn over a file's machines, and whether it is finished; the table that the file may have is not looked at.
-pub fn turn_bytes(
-    bytes: &[u8],
-    family: &mut [u64; 448],
-    table: &mut [u16],
-) -> Result<bool, Refusal>
+pub fn turn_bytes(bytes: &[u8], family: &mut [u64; 448], table: &mut [u16]) -> Result<bool, Refusal>
     ensures answer { result ≡ turn_file bytes.now family.old (length table.old) }
     ensures family { family.new ≡ turn_file_rows bytes.now family.old (length table.old) }
     ensures content { table.new ≡ turn_file_table bytes.now family.old table.old }

@@ -15,9 +15,9 @@ returns c =
     let two = one ++ (decimal (place 0) ++ blank_space) in
     let three = two ++ (decimal (place 1) ++ blank_space) in
     let line = behind three (decimal (place 2) ++ line_feed)
-        (behind two (decimal (place 1) ++ blank_space)
-        (behind one (decimal (place 0) ++ blank_space)
-        (behind word (number ++ blank_space) (behind [] word c.new-line.ensures c.append.ensures) c.append_number.ensures)
-        c.append_number-2.ensures) c.append_number-3.ensures) c.append_number-4.ensures in
+    (behind two (decimal (place 1) ++ blank_space)
+    (behind one (decimal (place 0) ++ blank_space)
+    (behind word (number ++ blank_space) (behind [] word c.new-line.ensures c.append.ensures) c.append_number.ensures)
+    c.append_number-2.ensures) c.append_number-3.ensures) c.append_number-4.ensures in
     line ∙ refusal_text c.args.r c.number.result (place 0) (place 1) (place 2) c.number.ensures
     (ap (λ (l : List ℕ). get_or l 0 0) c.spot-spot.ensures) (ap (λ (l : List ℕ). get_or l 1 0) c.spot-spot.ensures) (ap (λ (l : List ℕ). get_or l 2 0) c.spot-spot.ensures)

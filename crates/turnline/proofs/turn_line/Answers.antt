@@ -15,8 +15,7 @@ pub loop-j-init : goal.loop-j-init
 loop-j-init c =
     let x = c.args in
     let word = behind [] turn_text c.new-line.ensures c.append.ensures in
-    let number = behind turn_text c.deref.result.now word c.append-2.ensures in
-    (
+    let number = behind turn_text c.deref.result.now word c.append-2.ensures in (
       search rules,
       (
         omega (arith, c.min-n.ensures),
@@ -31,8 +30,7 @@ pub loop-j-preserved : goal.loop-j-preserved
 loop-j-preserved c =
     let l = c.loop-j in
     let x = c.args in
-    let M = c.matched_masks-matched.result in
-    (
+    let M = c.matched_masks-matched.result in (
       search rules,
       (
         l.invariant.1.0,

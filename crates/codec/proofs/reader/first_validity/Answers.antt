@@ -16,8 +16,8 @@ returns-then-bytes-eq0 c =
     let f = c.args.bytes.now in
     let refused : ragged f ≡ true =
     elim c.then-bytes-eq0.branch [
-      then-bytes-eq0-via-then-bytes-eq0 w ↦ or_l _ (eq-eqb (length f) 0 w.if-bytes-eq0.true)
-    | then-bytes-eq0-via-else-bytes-eq0+then-bytes-ne0 w ↦ or_r (eqb (length f) 0) (not_i (ne_eqb (length f % 512) 0 w.if-bytes-ne0.true))
+      | then-bytes-eq0-via-then-bytes-eq0 w ↦ or_l _ (eq-eqb (length f) 0 w.if-bytes-eq0.true)
+      | then-bytes-eq0-via-else-bytes-eq0+then-bytes-ne0 w ↦ or_r (eqb (length f) 0) (not_i (ne_eqb (length f % 512) 0 w.if-bytes-ne0.true))
     ] in
     rw refused refl
 
