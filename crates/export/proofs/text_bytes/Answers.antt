@@ -26,7 +26,7 @@ returns-in_err-show c =
 read : (c : In_ok-show) → read_validity c.args.bytes.now table_room ≡ valid
 read c = machines_taken _ _ c.read_file-show.ensures.answer c.in_ok-show.was
 
-pair_is : (c : In_ok-show) → c.show.pair ≡ pair_of c.args.bytes.now
+pair_is : (c : In_ok-show) → c.read_file-show.result.pair ≡ pair_of c.args.bytes.now
 pair_is c = machines_pair _ _ c.read_file-show.ensures.answer c.in_ok-show.was
 
 pub returns-in-0 : goal.returns-in-0
