@@ -1,5 +1,5 @@
 -- The tests are made in the order of the definition; where none of them refuses, what is taken is what is said.
-use mathlib.Core.Path.{◌≡◌, sym, ap, ◌∙◌}
+use mathlib.Core.Path.{◌≡◌, sym, ◌∙◌}
 use Rattle.machine.specs.Refusals.{and_then, valid}
 use Rattle.machine.specs.RefusalsLaws.{then_refused, buffer_kept}
 use Rattle.codec.specs.Reader.{first_validity, blocks_validity, read_answer, read_table}
@@ -7,7 +7,6 @@ use Rattle.codec.proofs.ReaderLaws.{read_short, tests_refused, read_pair}
 use Rattle.codec.specs.AnswersLaws.{shown_refused}
 use Rattle.codec.proofs.reader.read_file.Goals as goal
 use Rattle.codec.proofs.reader.read_file.Goals.{In-Ok}
-use Rattle.std.specs.Prelude.{Err}
 
 -- the tests of the whole file say that it is right
 right : (c : In-Ok) → let f = c.args.bytes.now in and_then (first_validity f) (blocks_validity f) ≡ valid

@@ -1,8 +1,8 @@
 -- After i turns the first i numbers are stored.
-use Rattle.std.proofs.Common.{ℕ, ◌+◌, ◌*◌, get_or, refl, ap, ◌∙◌, arith}
+use Rattle.std.proofs.Common.{ℕ, get_or, refl, ap, ◌∙◌, arith}
 use Rattle.std.proofs.lemmas.List.{get_or_read_under}
 use Rattle.std.proofs.lemmas.List.Edits.{sets}
-use Rattle.codec.specs.Format.{numbers, bytes_of}
+use Rattle.codec.specs.Format.{numbers}
 use Rattle.codec.specs.WriterLaws.{numbers_none, store_next}
 use Rattle.codec.proofs.writer.put_numbers.Goals as goal
 
