@@ -19,9 +19,6 @@ returns-then-table-lt-TABLE_ROOM c =
     let shown = shown_refused c.refused_show.result (then_refused _ _ _ e) c.refused_show.ensures.answer c.refused_show.ensures.machines in
     record { answer = shown.0; machines = shown.1; content = sym (buffer_kept _ _ _ e) }
 
-pub take_show-requires : goal.take_show-requires
-take_show-requires c = record { bytes_value = right (goal.at.take_show-requires c).In-Ok; table_room_in_bounds = c.if-table-lt-TABLE_ROOM.false }
-
 pub returns-in-Err : goal.returns-in-Err
 unfolding read_answer read_table
 returns-in-Err c =
