@@ -143,7 +143,7 @@ module _ (f : List ℕ) (s : Show) (read : read_of s ≡ read_answer f (replicat
 -- machines that were read are well formed
 pub read_well : (f : List ℕ) (room : ℕ) → read_validity f room ≡ valid → pair_validity (pair_of f) ≡ valid
 unfolding read_validity
-read_well f room e = (then_answer _ _ (then_answer _ _ (then_answer _ _ e).1).1).1
+read_well f len e = (then_answer _ _ (then_answer _ _ (then_answer _ _ e).1).1).1
 
 -- ---- what was taken is written again
 pub read_write : ReadWrite

@@ -1,7 +1,6 @@
 -- What document 01 says for each case of the reader's answer.
-use Rattle.std.specs.Prelude.{Bool, ℕ, Result, Err, Ok}
+use Rattle.std.specs.Prelude.{Bool, ℕ, Err, Ok}
 use Rattle.machine.specs.declared.Pair.{Pair}
-use Rattle.machine.specs.declared.Refusal.{Refusal}
 use Rattle.machine.specs.Refusals.{Answer}
 use Rattle.codec.specs.declared.Show.{Show}
 use Rattle.codec.specs.Reader.{Taken, taken, zero_pair}

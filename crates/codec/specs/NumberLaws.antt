@@ -1,6 +1,6 @@
 -- Laws of numbers of several bytes, low byte first, for any count of bytes: a number from its bytes, its bytes from it, and both ways back; and
 -- that the conversions of std are these.
-use Rattle.std.specs.Prelude.{List, ◌∷◌, ◌≡◌, refl, ℕ, zero, suc, ◌+◌, ◌*◌, ◌/◌, ◌%◌, ◌^◌, ◌≤◌, ◌<◌, length, get_or, take, drop}
+use Rattle.std.specs.Prelude.{List, ◌∷◌, ◌≡◌, refl, ℕ, zero, suc, ◌+◌, ◌*◌, ◌/◌, ◌%◌, ◌^◌, ◌<◌, length, get_or, take, drop}
 use Rattle.std.specs.Int.{sum_through, byte_worth, byte_at, bytes_low_first}
 use Rattle.std.proofs.Common.{sym, ap, ap₂, ◌∙◌, pow-suc, div-one, mul-one, mul_assoc, mul_comm, add-mul, add-zero, zero-add, add_assoc, get_or-take, get_or-drop, arith}
 use Rattle.std.proofs.Math.Nat.{pow-succ', div-div-eq-div-mul}

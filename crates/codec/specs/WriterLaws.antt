@@ -1,5 +1,5 @@
 -- Laws of the format that the writer goes by: the stores of its parts, and what one number or one block more adds.
-use Rattle.std.specs.Prelude.{◌≡◌, Bool, true, false, cond, List, [], ◌∷◌, ◌++◌, ℕ, ◌+◌, ◌*◌, ◌/◌, ◌%◌, ◌^◌, ◌≤◌, ◌<◌, length, set, take, drop, replicate, Err, Ok}
+use Rattle.std.specs.Prelude.{◌≡◌, Bool, true, false, cond, List, [], ◌∷◌, ◌++◌, ℕ, ◌+◌, ◌*◌, ◌/◌, ◌%◌, ◌≤◌, ◌<◌, length, take, drop, replicate, Err, Ok}
 use Rattle.std.proofs.Math.Path.{refl, sym, ap, ap₂}
 use Rattle.std.proofs.Common.{◌∙◌, zero-add, arith, length-append, length-drop, length-take-le, get_or-take, mul_comm}
 use Rattle.std.proofs.Math.ListN.{get_or}

@@ -99,6 +99,7 @@ fn put_block(out: &mut [u8], payload: &[u8], i: usize)
     ensures { out.new ≡ sets out.old (512 * i) (block payload.now i) }
 {
     let at = 512 * i;
+    // A file has at most 116 blocks; of a larger number the two low bytes would stand here.
     ((i % 65536) as u16).write(out, at);
     let from = 508 * i;
     out[at + 2..at + 510].copy_from_slice(&payload[from..from + 508]);

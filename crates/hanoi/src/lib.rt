@@ -177,25 +177,17 @@ fn sets_with(k: usize, fairness: &[u64; 8], s: usize) -> u64
     m
 }
 
-// Puts the lines of the first n states of a machine with k sets.
-fn put_states(
-    out: &mut [u8],
-    at: usize,
-    n: usize,
-    k: usize,
-    observations: &[u8; 64],
-    successors: &[u64; 64],
-    fairness: &[u64; 8],
-) -> usize
-    requires n_bound { n ≤ 64 }
-    requires k_bound { k ≤ 8 }
-    requires room { Room at (lines_below n k observations.now successors.now fairness.now) }
-    ensures { Placed out.old at (lines_below n k observations.now successors.now fairness.now) out.new result }
+// Puts the lines of all states of a machine.
+fn put_states(out: &mut [u8], at: usize, m: &Machine) -> usize
+    requires n_bound { m.now.states ≤ 64 }
+    requires k_bound { m.now.sets ≤ 8 }
+    requires room { Room at (lines_below m.now.states m.now.sets m.now.observations m.now.successors m.now.fairness) }
+    ensures { Placed out.old at (lines_below m.now.states m.now.sets m.now.observations m.now.successors m.now.fairness) out.new result }
 {
     let mut to = at;
-    for s in 0..n {
-        let members = sets_with(k, fairness, s);
-        to = put_state(out, to, s, observations[s], members, successors[s]);
+    for s in 0..m.states {
+        let members = sets_with(m.sets, &m.fairness, s);
+        to = put_state(out, to, s, m.observations[s], members, m.successors[s]);
     }
     to
 }
@@ -207,19 +199,8 @@ fn put_text(out: &mut [u8], m: Machine) -> usize
     requires { machine_validity 8 m ≡ valid }
     ensures { Placed out.old 0 (hoa_text m) out.new result }
 {
-    let observations = m.observations;
-    let successors = m.successors;
-    let fairness = m.fairness;
     let states = put_head(out, m.states, m.sets, m.start);
-    let end = put_states(
-        out,
-        states,
-        m.states,
-        m.sets,
-        &observations,
-        &successors,
-        &fairness,
-    );
+    let end = put_states(out, states, &m);
     put_word(out, end, b"--END--\n")
 }
 

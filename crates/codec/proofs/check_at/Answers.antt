@@ -7,23 +7,17 @@ use Rattle.codec.specs.BlockLaws.{weighed, weighed_none, weighed_turn, weighed_a
 use Rattle.codec.proofs.check_at.Goals as goal
 
 pub loop-i-init : goal.loop-i-init
-loop-i-init c = (omega arith, sym (weighed_none c.args.s.now c.args.at), omega arith)
-
-pub overflow_mul-total : goal.overflow_mul-total
-overflow_mul-total c = omega (arith, weight_le c.loop-i.i (get_or c.args.s.now (c.args.at + c.loop-i.i) 0) (omega arith) (omega (arith, c.type_inv.s (c.args.at + c.loop-i.i))))
-
-pub overflow_add-total-in-loop-i-2 : goal.overflow_add-total-in-loop-i-2
-overflow_add-total-in-loop-i-2 c = omega (arith, weight_le c.loop-i.i (get_or c.args.s.now (c.args.at + c.loop-i.i) 0) (omega arith) (omega (arith, c.type_inv.s (c.args.at + c.loop-i.i))))
+loop-i-init c = (sym (weighed_none c.args.s.now c.args.at), omega arith)
 
 pub loop-i-preserved : goal.loop-i-preserved
 loop-i-preserved c =
     let l = c.loop-i in
     let a = c.args in
-    (omega arith, omega (arith, weighed_turn a.s.now a.at l.i), omega (arith, weight_le l.i (get_or a.s.now (a.at + l.i) 0) (omega arith) (omega (arith, c.type_inv.s (a.at + l.i)))))
+    (omega (arith, weighed_turn a.s.now a.at l.i), omega (arith, weight_le l.i (get_or a.s.now (a.at + l.i) 0) (omega arith) (omega (arith, c.type_inv.s (a.at + l.i)))))
 
 pub returns : goal.returns
 returns c =
     let l = c.loop-i in
     let a = c.args in
     let e : l.i ≡ 510 = omega arith in
-    ap (λ (x : ℕ). x % 65521) (l.invariant.1 ∙ ap (weighed a.s.now a.at) e) ∙ weighed_all a.s.now a.at
+    ap (λ (x : ℕ). x % 65521) (l.invariant.0 ∙ ap (weighed a.s.now a.at) e) ∙ weighed_all a.s.now a.at

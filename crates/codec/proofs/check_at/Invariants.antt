@@ -4,4 +4,4 @@ use Rattle.codec.specs.BlockLaws.{weighed}
 use Rattle.codec.proofs.check_at.Given as goal
 
 abbrev pub invariant-loop-i : goal.invariant-loop-i
-invariant-loop-i l = (l.i ≤ 510) × (l.total ≡ weighed l.s l.at l.i) × (l.total ≤ 130050 * l.i)
+invariant-loop-i l = (l.total ≡ weighed l.s l.at l.i) × (l.total ≤ 130050 * l.i)

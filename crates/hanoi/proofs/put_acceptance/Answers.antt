@@ -13,22 +13,22 @@ pub loop-k-init : goal.loop-k-init
 loop-k-init c =
     let x = c.args in
     let start = conditions_start x.out.now x.at x.n c.requires.n_nonzero c.requires.room in
-    (omega (arith, c.requires.n_nonzero), left_all _ _ _ (left_room (left_next start c.put_word-to.ensures)))
+    left_all _ _ _ (left_room (left_next start c.put_word-to.ensures))
 
 pub put_numbered-end-requires : goal.put_numbered-end-requires
-put_numbered-end-requires c = left_room (conditions_more _ _ c.loop-k.invariant.1 c.loop-k-test.true)
+put_numbered-end-requires c = left_room (conditions_more _ _ c.loop-k.invariant c.loop-k-test.true)
 
 pub put_word-to-requires-in-loop-k : goal.put_word-to-requires-in-loop-k
 put_word-to-requires-in-loop-k c =
-    left_room (left_split (left_next (conditions_more _ _ c.loop-k.invariant.1 c.loop-k-test.true) c.put_numbered-end.ensures) (ascii ")") _ refl)
+    left_room (left_split (left_next (conditions_more _ _ c.loop-k.invariant c.loop-k-test.true) c.put_numbered-end.ensures) (ascii ")") _ refl)
 
 pub loop-k-preserved : goal.loop-k-preserved
 loop-k-preserved c =
-    let next = left_next (conditions_more _ _ c.loop-k.invariant.1 c.loop-k-test.true) c.put_numbered-end.ensures in
-    (omega (arith, c.loop-k-test.true), left_next (left_split next (ascii ")") _ refl) c.put_word-to-in-loop-k.ensures)
+    let next = left_next (conditions_more _ _ c.loop-k.invariant c.loop-k-test.true) c.put_numbered-end.ensures in
+    left_next (left_split next (ascii ")") _ refl) c.put_word-to-in-loop-k.ensures
 
 pub returns : goal.returns
 returns c =
     let x = c.args in
     let start = conditions_start x.out.now x.at x.n c.requires.n_nonzero c.requires.room in
-    left_last (left_next start c.put_word-to.ensures) (conditions_end _ _ (omega arith) c.loop-k.invariant.1)
+    left_last (left_next start c.put_word-to.ensures) (conditions_end _ _ (omega arith) c.loop-k.invariant)

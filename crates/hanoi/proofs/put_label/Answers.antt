@@ -10,16 +10,16 @@ put_literal-to-requires c = left_room (literals_start c.args.out.now _ c.args.o 
 pub loop-i-init : goal.loop-i-init
 loop-i-init c =
     let x = c.args in
-    (omega arith, left_all _ _ _ (left_room (left_next (literals_start x.out.now x.at x.o c.requires) c.put_literal-to.ensures)))
+    left_all _ _ _ (left_room (left_next (literals_start x.out.now x.at x.o c.requires) c.put_literal-to.ensures))
 
 pub put_literal-to-requires-in-loop-i : goal.put_literal-to-requires-in-loop-i
-put_literal-to-requires-in-loop-i c = left_room (literals_more _ _ c.loop-i.invariant.1 c.loop-i-test.true)
+put_literal-to-requires-in-loop-i c = left_room (literals_more _ _ c.loop-i.invariant c.loop-i-test.true)
 
 pub loop-i-preserved : goal.loop-i-preserved
-loop-i-preserved c = (omega (arith, c.loop-i-test.true), left_next (literals_more _ _ c.loop-i.invariant.1 c.loop-i-test.true) c.put_literal-to-in-loop-i.ensures)
+loop-i-preserved c = left_next (literals_more _ _ c.loop-i.invariant c.loop-i-test.true) c.put_literal-to-in-loop-i.ensures
 
 pub returns : goal.returns
 returns c =
     let x = c.args in
     let start = literals_start x.out.now x.at x.o c.requires in
-    left_last (left_next start c.put_literal-to.ensures) (literals_end _ _ (omega arith) c.loop-i.invariant.1)
+    left_last (left_next start c.put_literal-to.ensures) (literals_end _ _ (omega arith) c.loop-i.invariant)

@@ -6,18 +6,19 @@ use Rattle.hanoi.specs.WalkLaws.{lines_more, lines_end}
 use Rattle.hanoi.proofs.put_states.Goals as goal
 
 pub loop-s-init : goal.loop-s-init
-loop-s-init c = let x = c.args in (omega arith, left_to (left_all _ _ _ c.requires.room) _ (lines_all x.k x.observations.now x.successors.now x.fairness.now x.n))
+loop-s-init c =
+    let m = c.args.m.now in
+    left_to (left_all _ _ _ c.requires.room) _ (lines_all m.sets m.observations m.successors m.fairness m.states)
 
 pub put_state-to-requires : goal.put_state-to-requires
 put_state-to-requires c =
-    let x = c.args in
-    left_room (lines_more x.k x.observations.now x.successors.now x.fairness.now _ _ c.loop-s.invariant.1 _ c.sets_with-members.ensures c.loop-s-test.true)
+    let m = c.args.m.now in
+    left_room (lines_more m.sets m.observations m.successors m.fairness _ _ c.loop-s.invariant _ c.sets_with-members.ensures c.loop-s-test.true)
 
 pub loop-s-preserved : goal.loop-s-preserved
 loop-s-preserved c =
-    let x = c.args in
-    let next = lines_more x.k x.observations.now x.successors.now x.fairness.now _ _ c.loop-s.invariant.1 _ c.sets_with-members.ensures c.loop-s-test.true in
-    (omega (arith, c.loop-s-test.true), left_next next c.put_state-to.ensures)
+    let m = c.args.m.now in
+    left_next (lines_more m.sets m.observations m.successors m.fairness _ _ c.loop-s.invariant _ c.sets_with-members.ensures c.loop-s-test.true) c.put_state-to.ensures
 
 pub returns : goal.returns
-returns c = let x = c.args in lines_end x.k x.observations.now x.successors.now x.fairness.now _ _ c.loop-s.invariant.1 (omega arith)
+returns c = let m = c.args.m.now in lines_end m.sets m.observations m.successors m.fairness _ _ c.loop-s.invariant (omega arith)

@@ -1,13 +1,10 @@
 -- The buffer, then the machine; then the text, which is at the front.
-use mathlib.Core.Path.{◌≡◌, sym, ◌∙◌}
+use mathlib.Core.Path.{sym, ◌∙◌}
 use native.Mathlib.Omega.{arith}
-use Rattle.machine.proofs.Passing.{passed_on}
-use Rattle.machine.specs.Refusals.{valid}
-use Rattle.machine.specs.WellFormed.{machine_validity}
 use Rattle.machine.specs.WellFormedLaws.{valid_machine}
+use Rattle.machine.proofs.Passing.{passed_on}
 use Rattle.hanoi.proofs.CallLaws.{text_short, text_stopped, text_placed}
 use Rattle.hanoi.proofs.write_text.Goals as goal
-use Rattle.hanoi.proofs.write_text.Goals.{In_ok-machine_validity}
 
 pub returns-then-out-lt-TEXT_ROOM : goal.returns-then-out-lt-TEXT_ROOM
 returns-then-out-lt-TEXT_ROOM c =
@@ -18,19 +15,15 @@ returns-then-out-lt-TEXT_ROOM c =
 pub returns-in_err-machine_validity : goal.returns-in_err-machine_validity
 returns-in_err-machine_validity c =
     let x = c.args in
-    let stopped = sym c.machine_validity.ensures ∙ c.in_err-machine_validity.was in
-    let both = text_stopped x.m x.out.now (omega (arith, c.if-out-lt-TEXT_ROOM.false)) stopped in
+    let both = text_stopped x.m x.out.now (omega (arith, c.if-out-lt-TEXT_ROOM.false)) (sym c.machine_validity.ensures ∙ c.in_err-machine_validity.was) in
     record { answer = passed_on c.from_residual.ensures ∙ sym both.0; content = sym both.1 }
 
-taken : (c : In_ok-machine_validity) → machine_validity 8 c.args.m ≡ valid
-taken c = sym c.machine_validity.ensures ∙ c.in_ok-machine_validity.was
-
 pub put_text-requires : goal.put_text-requires
-put_text-requires c = taken (goal.at.put_text-requires c).In_ok-machine_validity
+put_text-requires c = sym c.machine_validity.ensures ∙ c.in_ok-machine_validity.was
 
 pub returns : goal.returns
 returns c =
     let x = c.args in
-    let t = taken (goal.at.returns c).In_ok-machine_validity in
-    let both = text_placed x.m x.out.now (omega (arith, c.if-out-lt-TEXT_ROOM.false)) t (valid_machine 8 x.m (omega arith) t) c.put_text.ensures in
+    let valid = sym c.machine_validity.ensures ∙ c.in_ok-machine_validity.was in
+    let both = text_placed x.m x.out.now (omega (arith, c.if-out-lt-TEXT_ROOM.false)) valid (valid_machine 8 x.m (omega arith) valid) c.put_text.ensures in
     record { answer = both.0; content = both.1 }

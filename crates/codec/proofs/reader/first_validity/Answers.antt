@@ -1,8 +1,8 @@
 -- The tests are made in the order of the definition, and each return is the first that refuses.
 use Rattle.std.proofs.Common.{◌≡◌, ◌%◌, length, refl, sym, ◌∙◌, eq-eqb, ne_eqb}
-use Rattle.std.specs.Prelude.{true, false}
+use Rattle.std.specs.Prelude.{true}
 use Rattle.std.proofs.Math.Dec.{eqb}
-use Rattle.mask.specs.LogicLaws.{or_l, or_r, or_false, not_i, not_f}
+use Rattle.mask.specs.LogicLaws.{or_l, or_r, not_i}
 use Rattle.machine.specs.RefusalsLaws.{then_of, then_refused}
 use Rattle.machine.proofs.Passing.{passed_on}
 use Rattle.codec.specs.Reader.{first_validity}

@@ -1,6 +1,6 @@
 -- After i turns the payloads of the first i blocks stand at the front.
-use Rattle.std.proofs.Common.{◌≡◌, ℕ, ◌*◌, ◌/◌, length, ap, arith}
-use Rattle.mask.specs.FrontLaws.{front_none, front_end}
+use Rattle.std.proofs.Common.{arith}
+use Rattle.mask.specs.FrontLaws.{front_none}
 use Rattle.codec.specs.BlockLaws.{join_turn}
 use Rattle.codec.proofs.reader.join.Goals as goal
 
@@ -12,8 +12,3 @@ loop-i-preserved c =
     let l = c.loop-i in
     let a = c.args in
     join_turn a.bytes.now a.payload.now l.payload _ l.i _ _ l.invariant c.copy_from_slice.ensures.after (omega arith) (omega arith) (omega arith)
-
-pub returns : goal.returns
-returns c =
-    let e : c.loop-i.i ≡ length c.args.bytes.now / 512 = omega arith in
-    front_end _ _ c.loop-i.invariant (ap (λ (n : ℕ). 508 * n) e)

@@ -18,19 +18,19 @@ one_more : (f : List ℕ) (i : ℕ) → passed f i → block_validity f (i + 1) 
 one_more f i e h = let step : suc i ≡ i + 1 = omega arith in subst (passed f) step (each_next i _ e (next f i ∙ h))
 
 pub loop-i-init : goal.loop-i-init
-loop-i-init c = (omega arith, each_none _)
+loop-i-init c = each_none _
 
 pub returns-in_err-block_validity : goal.returns-in_err-block_validity
 unfolding later_blocks
 returns-in_err-block_validity c =
     let l = c.loop-i in
     passed_on c.from_residual.ensures
-    ∙ sym (each_refused _ _ l.i (omega arith) l.invariant.1 (next _ l.i ∙ sym c.block_validity.ensures ∙ c.in_err-block_validity.was))
+    ∙ sym (each_refused _ _ l.i (omega arith) l.invariant (next _ l.i ∙ sym c.block_validity.ensures ∙ c.in_err-block_validity.was))
 
 pub loop-i-preserved : goal.loop-i-preserved
 loop-i-preserved c =
     let l = c.loop-i in
-    (omega arith, one_more _ l.i l.invariant.1 (sym c.block_validity.ensures ∙ c.in_ok-block_validity.was))
+    one_more _ l.i l.invariant (sym c.block_validity.ensures ∙ c.in_ok-block_validity.was)
 
 pub returns : goal.returns
 unfolding later_blocks
@@ -38,4 +38,4 @@ returns c =
     let l = c.loop-i in
     let f = c.args.bytes.now in
     let all : l.i ≡ length f / 512 - 1 = omega arith in
-    sym (subst (passed f) all l.invariant.1)
+    sym (subst (passed f) all l.invariant)

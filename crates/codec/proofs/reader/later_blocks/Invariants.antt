@@ -1,4 +1,4 @@
-use Prim.Native.Nat.{ℕ, suc, ◌≤◌}
+use Prim.Native.Nat.{ℕ, suc}
 use mathlib.Core.List.{List}
 use mathlib.Core.Path.{◌≡◌}
 use Rattle.machine.specs.Refusals.{valid, each}
@@ -10,4 +10,4 @@ abbrev pub passed : List ℕ → ℕ → Type 0
 passed f n = each n (λ k. block_validity f (suc k)) ≡ valid
 
 abbrev pub invariant-loop-i : goal.invariant-loop-i
-invariant-loop-i l = (l.i ≤ l.later) × passed l.bytes l.i
+invariant-loop-i l = passed l.bytes l.i

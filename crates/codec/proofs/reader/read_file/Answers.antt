@@ -1,5 +1,5 @@
 -- The tests are made in the order of the definition; where none of them refuses, what is taken is what is said.
-use mathlib.Core.Path.{◌≡◌, sym, ap, ◌∙◌}
+use mathlib.Core.Path.{◌≡◌, sym, ◌∙◌}
 use Rattle.machine.specs.Refusals.{and_then, valid}
 use Rattle.machine.specs.RefusalsLaws.{then_refused, buffer_kept}
 use Rattle.codec.specs.Reader.{first_validity, blocks_validity, read_answer, read_table}
@@ -7,7 +7,6 @@ use Rattle.codec.proofs.ReaderLaws.{read_short, tests_refused, read_pair}
 use Rattle.codec.specs.AnswersLaws.{shown_refused}
 use Rattle.codec.proofs.reader.read_file.Goals as goal
 use Rattle.codec.proofs.reader.read_file.Goals.{In-Ok}
-use Rattle.std.specs.Prelude.{Err}
 
 -- the tests of the whole file say that it is right
 right : (c : In-Ok) → let f = c.args.bytes.now in and_then (first_validity f) (blocks_validity f) ≡ valid
@@ -19,9 +18,6 @@ returns-then-table-lt-TABLE_ROOM c =
     let e = read_short c.args.bytes.now _ c.if-table-lt-TABLE_ROOM.true in
     let shown = shown_refused c.refused_show.result (then_refused _ _ _ e) c.refused_show.ensures.answer c.refused_show.ensures.machines in
     record { answer = shown.0; machines = shown.1; content = sym (buffer_kept _ _ _ e) }
-
-pub take_show-requires : goal.take_show-requires
-take_show-requires c = record { bytes_value = right (goal.at.take_show-requires c).In-Ok; table_room_in_bounds = c.if-table-lt-TABLE_ROOM.false }
 
 pub returns-in-Err : goal.returns-in-Err
 unfolding read_answer read_table

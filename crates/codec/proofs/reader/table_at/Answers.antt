@@ -8,7 +8,7 @@ use native.Mathlib.Omega.{arith}
 use Rattle.codec.specs.Format.{number_at}
 use Rattle.codec.specs.Loading.{entries_place, entries_count}
 use Rattle.mask.specs.Tables.{table, front}
-use Rattle.codec.proofs.ReaderLaws.{pairs_room, entries_fit, entries_end, table_is}
+use Rattle.codec.proofs.ReaderLaws.{entries_fit, entries_end, table_is}
 use Rattle.codec.proofs.reader.table_at.Goals as goal
 use Rattle.codec.proofs.reader.table_at.Goals.{After-payload_length-at}
 
@@ -28,13 +28,6 @@ placed c =
       c.header_byte-m.ensures.value,
       c.header_byte-n.ensures.value,
     )
-
-pub overflow_mul-c : goal.overflow_mul-c
-overflow_mul-c c = omega (arith, pairs_room c.header_byte-c.result c.header_byte-a.result (omega arith) (omega arith))
-
-pub overflow_mul-n : goal.overflow_mul-n
-overflow_mul-n c =
-    omega (arith, counted (goal.at.overflow_mul-n c).After-payload_length-at, entries_fit c.args.bytes.now c.requires.loaded.counts)
 
 -- they have room in the table
 room : (c : After-payload_length-at) → c.header_byte-n.result * (c.header_byte-c.result * c.header_byte-a.result) ≤ length c.args.table.now

@@ -55,7 +55,7 @@ table_at-requires c =
     record {
       loaded = there (goal.at.table_at-requires c).After-join;
       bytes_value = sym c.note_of-note.ensures ∙ c.if-note.true;
-      table_room_in_bounds = c.requires.table_room_in_bounds;
+      table_room_in_bounds = omega arith;
     }
 
 pub returns-in-Err : goal.returns-in-Err

@@ -2,16 +2,12 @@
 use mathlib.Core.Path.{◌≡◌}
 use Prim.Native.Nat.{◌≤◌}
 use native.Mathlib.Omega.{arith}
-use lib.Dec.{lit≤}
 use lib.ListN.{length}
 use Rattle.machine.specs.WellFormedLaws.{well_pair}
 use Rattle.codec.specs.Format.{payload_most, payload_room}
 use Rattle.codec.specs.WriterLaws.{length_small, file_end, store_file}
 use Rattle.codec.proofs.writer.put_file.Goals as goal
 use Rattle.codec.proofs.writer.put_file.Goals.{After-put_payload-len}
-
-pub put_payload-len-requires : goal.put_payload-len-requires
-put_payload-len-requires c = record { p_value = c.requires.p_value; table_room_in_bounds = (c.requires.table_room_in_bounds.0, lit≤ {m = payload_most} tt) }
 
 -- the payload is no longer than document 01 says
 small : (c : After-put_payload-len) → c.put_payload-len.result ≤ payload_most

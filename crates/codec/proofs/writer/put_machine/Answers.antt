@@ -1,5 +1,5 @@
 -- The four parts are stored one behind the other.
-use Rattle.std.proofs.Common.{◌≡◌, ℕ, List, ◌+◌, ◌*◌, length, ap, ◌∙◌, arith, rules}
+use Rattle.std.proofs.Common.{◌≡◌, ◌+◌, ◌*◌, length, ap, ◌∙◌, arith, rules}
 use Rattle.std.proofs.lemmas.List.Edits.{sets}
 use Rattle.codec.specs.ListLaws.{part_copied}
 use Rattle.codec.specs.WriterLaws.{numbers_front, store_machine}

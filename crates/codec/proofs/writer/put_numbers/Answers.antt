@@ -1,8 +1,6 @@
 -- After i turns the first i numbers are stored.
-use Rattle.std.proofs.Common.{ℕ, ◌+◌, ◌*◌, get_or, refl, ap, ◌∙◌, arith}
+use Rattle.std.proofs.Common.{get_or, refl, ◌∙◌}
 use Rattle.std.proofs.lemmas.List.{get_or_read_under}
-use Rattle.std.proofs.lemmas.List.Edits.{sets}
-use Rattle.codec.specs.Format.{numbers, bytes_of}
 use Rattle.codec.specs.WriterLaws.{numbers_none, store_next}
 use Rattle.codec.proofs.writer.put_numbers.Goals as goal
 
@@ -17,9 +15,3 @@ loop-i-preserved g c =
     let here = get_or_read_under a.values.now l.i _ _ (t.of 0) c.index-values-i.is c.loop-i-test.true refl in
     store_next t.BYTES a.out.now l.out c.write.new.out a.at l.i (λ k. t.value (get_or a.values.now k (t.of 0))) g.met.T.Stored.some l.invariant
     (c.write.ensures ∙ rw (c.BYTES.ensures, here) refl)
-
-pub returns : goal.returns
-returns g c =
-    let t = g.T.Stored in
-    let a = c.args in
-    c.loop-i.invariant ∙ ap (λ (n : ℕ). sets a.out.now a.at (numbers t.BYTES n (λ k. t.value (get_or a.values.now k (t.of 0))))) (omega arith)
