@@ -6,8 +6,9 @@ pub mod Lassos
 pub mod Turns
 pub mod Pairs
 -- laws
-pub mod TalliesLaws
-pub mod PairsLaws
-pub mod LassosLaws
+pub mod AnswersLaws
 pub mod TablesLaws
+pub mod LassosLaws
 pub mod TurnsLaws
+pub mod PairsLaws
+pub mod TalliesLaws

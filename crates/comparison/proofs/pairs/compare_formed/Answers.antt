@@ -1,9 +1,9 @@
 -- Each call has its part of the definition as its contract.
-use Rattle.std.proofs.Common.{arith}
+use Rattle.std.proofs.Common.{arith, rules}
 use Rattle.machine.specs.WellFormedLaws.{WellPair, well_pair, pairs_small, ranks_small, entries_small}
-use Rattle.comparison.specs.PairsLaws.{formed_is}
+use Rattle.comparison.specs.Pairs.{formed_tally, tables_tally}
 use Rattle.comparison.proofs.pairs.compare_formed.Goals as goal
-use Rattle.comparison.proofs.pairs.compare_formed.Goals.{Start}
+use Rattle.comparison.proofs.pairs.compare_formed.Goals.{Start, then-solved, else-solved}
 
 well : (c : Start) → WellPair c.args.p
 well c = well_pair c.args.p c.requires
@@ -27,4 +27,8 @@ pub overflow_cast-concrete : goal.overflow_cast-concrete
 overflow_cast-concrete c = omega (arith, (well (goal.at.overflow_cast-concrete c).Start).concrete.states_high)
 
 pub returns : goal.returns
-returns c = formed_is _ _ _ _ _ _ _ _ _ c.compare_tables-tables.ensures c.compare_solved-solution.ensures c.compare_lassos-lassos.ensures c.add.ensures c.add-2.ensures
+unfolding formed_tally tables_tally
+returns c = elim c.if-solved.branch [
+  | then-solved w ↦ rw (c.add-2.ensures, c.add.ensures, c.compare_lassos.ensures, w.solution-is, w.compare_solution-solution.ensures, c.compare_tables-tables.ensures, w.if-solved.true)
+  | else-solved w ↦ rw (c.add-2.ensures, c.add.ensures, c.compare_lassos.ensures, w.solution-is, w.of_unsolved-solution.ensures, c.compare_tables-tables.ensures, w.if-solved.false)
+]

@@ -1,21 +1,10 @@
--- The invariant: the sum of the first i pairs.
-use Rattle.std.proofs.Common.{◌∙◌, arith, rules}
-use Rattle.machine.specs.WellFormedLaws.{mul_bound}
-use Rattle.comparison.specs.PairsLaws.{row_is}
-use Rattle.comparison.specs.TalliesLaws.{total_start, total_more}
+use Rattle.std.proofs.Common.{◌∙◌, ◌*◌, rules}
+use Rattle.brute.specs.Numbers.{numbered_pair}
+use Rattle.comparison.specs.Pairs.{row_tally, pair_tally}
 use Rattle.comparison.proofs.pairs.compare_row.Goals as goal
 
-pub loop-i-init : goal.loop-i-init
-loop-i-init c = (search rules, total_start _ _ c.none-sum.ensures)
-
-pub overflow_mul-y : goal.overflow_mul-y
-overflow_mul-y c =
-    let l = c.loop-i in
-    let t = c.args.s.abstractions.step in
-    omega (arith, mul_bound l.i t 4294967295 4294967295 (omega arith) (omega arith))
-
-pub loop-i-preserved : goal.loop-i-preserved
-loop-i-preserved c = (search rules, total_more _ _ _ _ _ c.loop-i.invariant.1 (c.compare_pair.ensures ∙ rw c.numbered_pair-p.ensures) c.add-sum.ensures)
-
 pub returns : goal.returns
-returns c = row_is _ _ c.loop-i.i _ (omega arith) c.loop-i.invariant.1
+unfolding row_tally
+returns c =
+    let s = c.args.s in
+    c.total.ensures (λ i. pair_tally s.trial (numbered_pair s.concrete s.abstraction s.hidden c.args.x (i * s.abstractions.step))) (λ i t l e. search rules) ∙ rw c.from.ensures

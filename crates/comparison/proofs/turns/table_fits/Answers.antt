@@ -1,18 +1,17 @@
-use Rattle.std.proofs.Common.{sym, ◌∙◌}
-use Rattle.comparison.specs.TurnsLaws.{table_more, table_ranked_lem, table_unfinished}
+use Rattle.std.proofs.Common.{arith}
+use Rattle.std.proofs.lemmas.Grind.{common_steps}
+use Rattle.mask.specs.Logic.{and}
+use Rattle.comparison.specs.Turns.{table_fits}
 use Rattle.comparison.proofs.turns.table_fits.Goals as goal
 
 pub returns-then-not-finished : goal.returns-then-not-finished
-returns-then-not-finished c =
-    let x = c.args in
-    c.is_kept.ensures ∙ sym (table_unfinished x.p x.n x.finished x.given.now x.table.now c.if-not-finished.true)
+unfolding table_fits and
+returns-then-not-finished c = grind (arith, common_steps)
 
-pub returns-then-not-is_kept : goal.returns-then-not-is_kept
-returns-then-not-is_kept c =
-    let x = c.args in
-    sym (table_more x.p x.n x.finished x.given.now x.table.now c.if-not-finished.false (sym c.is_kept-2.ensures ∙ c.if-not-is_kept.true))
+pub returns-then-is_kept : goal.returns-then-is_kept
+unfolding table_fits and
+returns-then-is_kept c = grind (arith, common_steps)
 
-pub returns : goal.returns
-returns c =
-    let x = c.args in
-    c.is_ranked.ensures ∙ sym (table_ranked_lem x.p x.n x.finished x.given.now x.table.now c.if-not-finished.false (sym c.is_kept-2.ensures ∙ c.if-not-is_kept.false))
+pub returns-else-is_kept : goal.returns-else-is_kept
+unfolding table_fits and
+returns-else-is_kept c = grind (arith, common_steps)
