@@ -1,20 +1,17 @@
--- The text's length, or the refusal's four numbers: what the two cases of the definitions say.
-use mathlib.Core.Path.{sym, ap, ◌∙◌}
-use Rattle.machine.specs.RefusalsLaws.{spot_kept, spot_put}
+-- The text's length, or the refusal's four numbers.
+use mathlib.Core.Path.{ap, ◌∙◌}
+use Prim.Native.Nat.{ℕ}
+use Rattle.std.specs.Prelude.{Option, unwrap_or}
+use Rattle.machine.specs.Refusals.{Answer, answer_in, spot_after}
 use Rattle.codec.specs.Answers.{length_of}
-use Rattle.codec.specs.AnswersLaws.{sized_bytes, sized_refused}
+use Rattle.codec.specs.AnswersLaws.{length_told}
 use Rattle.export.proofs.hoa_file.Goals as goal
 
-pub returns-in-Bytes : goal.returns-in-Bytes
-unfolding length_of
-returns-in-Bytes c =
+pub returns : goal.returns
+returns c =
     let made = c.text_bytes.ensures in
-    let told = sized_bytes made.answer c.in-Bytes.is in
-    record { value = sym (ap length_of told); content = made.content; numbers = sym (spot_kept _ told) }
-
-pub returns-in-Refused : goal.returns-in-Refused
-unfolding length_of
-returns-in-Refused c =
-    let made = c.text_bytes.ensures in
-    let told = sized_refused made.answer c.in-Refused.is in
-    record { value = sym (ap length_of told); content = made.content; numbers = c.put_refusal.ensures ∙ sym (spot_put _ told) }
+    record {
+      value = c.unwrap_or.ensures ∙ ap (λ (o : Option ℕ). unwrap_or o 0) c.told.ensures.value ∙ length_told _ ∙ ap length_of made.answer;
+      content = made.content;
+      numbers = c.told.ensures.numbers ∙ ap (λ (a : Answer ℕ). spot_after a c.args.spot.now) made.answer;
+    }

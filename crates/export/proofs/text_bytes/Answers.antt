@@ -1,33 +1,28 @@
 -- Each return is what the definitions say of the reading, and of the machine asked for, that led there.
-use mathlib.Core.Path.{sym, ap, ◌∙◌}
+use mathlib.Core.Path.{sym, ◌∙◌}
 use native.Mathlib.Omega.{arith}
-use Rattle.codec.specs.Answers.{sized_of}
-use Rattle.codec.specs.AnswersLaws.{refusal_of_lem}
+use Rattle.machine.proofs.Passing.{passed_on}
 use Rattle.codec.proofs.FileLaws.{machines_taken, machines_pair, machines_refused}
 use Rattle.export.specs.ExportingLaws.{first_machine, second_machine, export_short, export_unread, export_neither, export_written}
-use Rattle.std.specs.Prelude.{Err}
 use Rattle.export.proofs.text_bytes.Goals as goal
 
 pub returns-then-out-lt-TEXT_ROOM : goal.returns-then-out-lt-TEXT_ROOM
-unfolding sized_of
 returns-then-out-lt-TEXT_ROOM c =
     let x = c.args in
     let both = export_short x.bytes.now x.which x.out.now c.if-out-lt-TEXT_ROOM.true in
-    record { answer = ap Err c.refuse.ensures ∙ sym both.0; content = sym both.1 }
+    record { answer = sym both.0; content = sym both.1 }
 
-pub returns-in_default : goal.returns-in_default
-unfolding sized_of
-returns-in_default c =
+pub returns-in_err-show : goal.returns-in_err-show
+returns-in_err-show c =
     let x = c.args in
-    let told = c.in_default.is in
-    let both = export_unread x.bytes.now x.which x.out.now (omega (arith, c.if-out-lt-TEXT_ROOM.false)) (machines_refused _ _ c.read_file-show.ensures.answer told) in
-    record { answer = ap Err (c.refusal_of.ensures ∙ refusal_of_lem told) ∙ sym both.0; content = sym both.1 }
+    let both = export_unread x.bytes.now x.which x.out.now (omega (arith, c.if-out-lt-TEXT_ROOM.false)) (machines_refused _ _ c.read_file-show.ensures.answer c.in_err-show.was) in
+    record { answer = passed_on c.from_residual.ensures ∙ sym both.0; content = sym both.1 }
 
 pub returns-in-0 : goal.returns-in-0
 returns-in-0 c =
     let x = c.args in
     let read = c.read_file-show.ensures.answer in
-    let told = c.in-Taken.is in
+    let told = c.in_ok-show.was in
     let same = first_machine x.bytes.now x.which (omega arith) (machines_pair _ _ read told) in
     let both = export_written x.bytes.now x.which x.out.now (omega (arith, c.if-out-lt-TEXT_ROOM.false)) (machines_taken _ _ read told) _ (omega arith) same in
     let text = c.write_text.ensures in
@@ -37,15 +32,14 @@ pub returns-in-1 : goal.returns-in-1
 returns-in-1 c =
     let x = c.args in
     let read = c.read_file-show.ensures.answer in
-    let told = c.in-Taken.is in
+    let told = c.in_ok-show.was in
     let same = second_machine x.bytes.now x.which (omega arith) (machines_pair _ _ read told) in
     let both = export_written x.bytes.now x.which x.out.now (omega (arith, c.if-out-lt-TEXT_ROOM.false)) (machines_taken _ _ read told) _ (omega arith) same in
     let text = c.write_text-in-1.ensures in
     record { answer = text.answer ∙ sym both.0; content = text.content ∙ sym both.1 }
 
-pub returns-in_default-which : goal.returns-in_default-which
-unfolding sized_of
-returns-in_default-which c =
+pub returns-in_default : goal.returns-in_default
+returns-in_default c =
     let x = c.args in
-    let both = export_neither x.bytes.now x.which x.out.now (omega (arith, c.if-out-lt-TEXT_ROOM.false)) (machines_taken _ _ c.read_file-show.ensures.answer c.in-Taken.is) (omega arith) in
-    record { answer = ap Err c.refuse-in_default-which.ensures ∙ sym both.0; content = sym both.1 }
+    let both = export_neither x.bytes.now x.which x.out.now (omega (arith, c.if-out-lt-TEXT_ROOM.false)) (machines_taken _ _ c.read_file-show.ensures.answer c.in_ok-show.was) (omega arith) in
+    record { answer = sym both.0; content = sym both.1 }
