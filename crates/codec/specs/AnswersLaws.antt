@@ -1,5 +1,5 @@
 -- Laws of the reader's answer: what document 01 says where the code has a case.
-use Rattle.std.specs.Prelude.{Bool, ℕ, ◌≡◌, refl, Err, Ok, unwrap_or}
+use Rattle.std.specs.Prelude.{Bool, ◌≡◌, refl, ℕ, Err, Ok, unwrap_or}
 use Rattle.std.proofs.Common.{sym, ap, ap₂, ◌∙◌}
 use Rattle.machine.specs.declared.Pair.{Pair}
 use Rattle.machine.specs.declared.Refusal.{Refusal}
@@ -16,6 +16,12 @@ read_taken s e z = sym e ∙ ap (read_beside s.pair) z
 pub read_refused : (s : Show) {a : Answer Taken} {r : Refusal} → read_of s ≡ a → s.reading ≡ Err r → a ≡ Err r
 unfolding read_of read_beside
 read_refused s e z = sym e ∙ ap (read_beside s.pair) z
+
+-- ---- what C is told: the answer that there is, or 0
+pub length_told : (a : Answer ℕ) → unwrap_or (answer_in a) 0 ≡ length_of a
+unfolding answer_in length_of
+length_told (Ok n) = refl
+length_told (Err r) = refl
 
 -- ---- the machines beside an answer
 pub pair_taken : {a : Answer Taken} {p : Pair} {note : Bool} → a ≡ Ok (taken p note) → pair_given a ≡ p
@@ -35,9 +41,3 @@ shown_taken p e f g = (ap₂ (λ (x : Pair) (y : Bool). Ok (taken x y)) f g ∙ 
 pub shown_refused : (s : Show) {r : Refusal} {a : Answer Taken} → a ≡ Err r → read_of s ≡ Err r → s.pair ≡ zero_pair
     → (read_of s ≡ a) × (s.pair ≡ pair_given a)
 shown_refused s e f g = (f ∙ sym e, g ∙ sym (pair_refused e))
-
--- ---- for C
-pub length_told : (v : Answer ℕ) → unwrap_or (answer_in v) 0 ≡ length_of v
-unfolding answer_in length_of
-length_told (Ok n) = refl
-length_told (Err r) = refl

@@ -20,12 +20,9 @@ pub fn text_bytes(bytes: &[u8], which: usize, out: &mut [u8]) -> Result<usize, R
     let mut table = [0u16; machine::TABLE_ROOM];
     let show = codec::reader::read_file(bytes, &mut table);
     show.reading?;
-    let pair = show.pair;
-    let concrete = pair.concrete;
-    let abstraction = pair.abstraction;
     match which {
-        0 => hanoi::write_text(concrete, out),
-        1 => hanoi::write_text(abstraction, out),
+        0 => hanoi::write_text(show.pair.concrete, out),
+        1 => hanoi::write_text(show.pair.abstraction, out),
         _ => Err(Refusal::OutOfRange),
     }
 }

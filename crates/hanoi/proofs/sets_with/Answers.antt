@@ -15,7 +15,7 @@ loop-j-preserved c =
     let l = c.loop-j in
     let x = c.args in
     let has = sym c.has.ensures in
-      elim c.if-has.branch [
-        | then-has w ↦ w.m-is ∙ w.with-m.ensures ∙ ap (λ (m : ℕ). with_bit m l.j) l.invariant ∙ sets_hit x.fairness.now x.s l.j (omega (arith, c.requires)) (has ∙ w.if-has.true)
-        | else-has w ↦ w.m-is ∙ l.invariant ∙ sets_miss x.fairness.now x.s l.j (has ∙ w.if-has.false)
-      ]
+    elim c.if-has.branch [
+      | then-has w ↦ w.m-is ∙ w.with-m.ensures ∙ ap (λ (m : ℕ). with_bit m l.j) l.invariant ∙ sets_hit x.fairness.now x.s l.j (omega (arith, c.requires)) (has ∙ w.if-has.true)
+      | else-has w ↦ w.m-is ∙ l.invariant ∙ sets_miss x.fairness.now x.s l.j (has ∙ w.if-has.false)
+    ]

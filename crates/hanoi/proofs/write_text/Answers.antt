@@ -18,9 +18,6 @@ returns-in_err-machine_validity c =
     let both = text_stopped x.m x.out.now (omega (arith, c.if-out-lt-TEXT_ROOM.false)) (sym c.machine_validity.ensures ∙ c.in_err-machine_validity.was) in
     record { answer = passed_on c.from_residual.ensures ∙ sym both.0; content = sym both.1 }
 
-pub put_text-requires : goal.put_text-requires
-put_text-requires c = sym c.machine_validity.ensures ∙ c.in_ok-machine_validity.was
-
 pub returns : goal.returns
 returns c =
     let x = c.args in
