@@ -42,10 +42,6 @@ part_put F S P j a k h f s ea ek e =
     (λ q. rw (ne_eqb (i / 64) j q) (by_cases (dec_lt i a) (patch_before F P a k fits long i) (λ b. patch_after F P a k fits long i (omega arith)))))
 
 -- ---- the rows of a family, and back
-pub flat_length : (Z : List (List ℕ)) → length (flat_of Z) ≡ 448
-unfolding flat_of
-flat_length Z = table_length 448 _
-
 -- the first j sections, and one more
 pub flat_none : (f : ℕ → List ℕ) → replicate 448 0 ≡ flat_of (table 0 f)
 unfolding flat_of table
