@@ -46,6 +46,7 @@ fn least_partner(
     ensures { result ≡ single_step (present_of present) moves (non_blank p.now table.now j d) (entry p.now table.now j d) }
 {
     let mut best = None;
+    // one pass that keeps the least key: filter and min_by_key would read each entry twice, first to leave out the blank ones
     // twice a blank entry: every other has a lower key
     let mut limit: u32 = 131070;
     for a in 0..64 {

@@ -77,9 +77,6 @@ sweep-requires c =
     let w = (goal.at.sweep-requires c).Else-is_err in
     (valid_is_well _ (formed w), omega (arith, entries_small _ (well w), room w, same (goal.at.sweep-requires c).At-loop))
 
-pub overflow_step : goal.overflow_step
-overflow_step c = omega (arith, turns_small _ (well (goal.at.overflow_step c).Else-is_err))
-
 pub loop-preserved : goal.loop-preserved
 loop-preserved c =
     let call = c.sweep in (

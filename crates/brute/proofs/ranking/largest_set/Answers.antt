@@ -16,9 +16,6 @@ overflow_mul-concrete c = omega (arith, pairs_small _ (well (goal.at.overflow_mu
 pub loop-x-init : goal.loop-x-init
 loop-x-init c = let a = c.args in ap (λ (x : ℕ). largest a.p.now a.lifted.now a.j a.ranks.now a.i x) c.full-x.ensures
 
-pub is_closed-requires : goal.is_closed-requires
-is_closed-requires c = c.requires
-
 pub returns-then-is_closed : goal.returns-then-is_closed
 returns-then-is_closed c =
     let a = c.args in

@@ -23,9 +23,6 @@ overflow_mul-pairs c = omega (arith, pairs_small _ (well_pair c.args.p.now c.req
 pub loop-init : goal.loop-init
 loop-init c = (search rules, refl, rw sub-zero)
 
-pub first_unkept-requires : goal.first_unkept-requires
-first_unkept-requires c = (c.requires.0, (c.requires.1.0, c.requires.1.1.0))
-
 pub returns-in-None : goal.returns-in-None
 returns-in-None c =
     let x = c.args in
@@ -33,9 +30,6 @@ returns-in-None c =
 
 pub offset_bounds-set-e : goal.offset_bounds-set-e
 offset_bounds-set-e c = omega (arith, inside c, pairs_small _ (well_pair c.args.p.now c.requires.0), below_at (pairs c.args.p.now) _ (sym c.first_unkept.ensures ∙ c.in-Some.is))
-
-pub bounds-set-e : goal.bounds-set-e
-bounds-set-e c = inside c
 
 pub loop-preserved : goal.loop-preserved
 loop-preserved c =
@@ -49,3 +43,6 @@ pub returns : goal.returns
 returns c =
     let x = c.args in
     struck_none x.p.now x.lifted.now x.j x.ranks.now x.i c.loop.set _ c.loop.invariant.2 (omega arith)
+
+pub bounds-set-e : goal.bounds-set-e
+bounds-set-e c = inside c

@@ -20,9 +20,6 @@ small c i = omega (arith, c.type_inv.table i)
 pub loop-a-init : goal.loop-a-init
 loop-a-init c = (search rules, scan_start _ _ _)
 
-pub entry_at-requires : goal.entry_at-requires
-entry_at-requires c = (c.requires.0, omega arith)
-
 pub loop-a-preserved : goal.loop-a-preserved
 loop-a-preserved c =
     let x = c.args in

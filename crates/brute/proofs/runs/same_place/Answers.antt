@@ -16,20 +16,8 @@ room c = let a = c.args in (mul_bound a.x (length a.cycle.now) 449 64 (omega ari
 pub overflow_mul-x : goal.overflow_mul-x
 overflow_mul-x c = omega (arith, room (goal.at.overflow_mul-x c).Start)
 
-pub overflow_add-stem : goal.overflow_add-stem
-overflow_add-stem c = omega (arith, room (goal.at.overflow_add-stem c).Start)
-
-pub place_at-u-requires : goal.place_at-u-requires
-place_at-u-requires c = c.requires.0
-
 pub overflow_mul-y : goal.overflow_mul-y
 overflow_mul-y c = omega (arith, room (goal.at.overflow_mul-y c).Start)
-
-pub overflow_add-stem-2 : goal.overflow_add-stem-2
-overflow_add-stem-2 c = omega (arith, room (goal.at.overflow_add-stem-2 c).Start)
-
-pub place_at-v-requires : goal.place_at-v-requires
-place_at-v-requires c = c.requires.0
 
 pub returns : goal.returns
 unfolding and
