@@ -17,7 +17,7 @@ use crate::machines::{is_matched, successors_of, validity};
 use machine::{Pair, Refusal, Run};
 
 // The abstract state a and the section j.
-#[derive(Clone, Copy)]
+#[derive(Clone, Copy, PartialEq, Eq)]
 struct Spot {
     state: usize,
     section: usize,
@@ -46,6 +46,7 @@ fn least_partner(
     ensures { result ≡ single_step (present_of present) moves (non_blank p.now table.now j d) (entry p.now table.now j d) }
 {
     let mut best = None;
+    // one pass that keeps the least key: filter and min_by_key would read each entry twice, first to leave out the blank ones
     // twice a blank entry: every other has a lower key
     let mut limit: u32 = 131070;
     for a in 0..64 {
@@ -120,7 +121,7 @@ fn same_place(p: &Pair, table: &[u16], stem: &[u8], cycle: &[u8], x: usize, y: u
 {
     let u = place_at(p, table, stem, cycle, stem.len() + x * cycle.len());
     let v = place_at(p, table, stem, cycle, stem.len() + y * cycle.len());
-    u.state == v.state && u.section == v.section
+    u == v
 }
 
 // The first round before round y with the same place.

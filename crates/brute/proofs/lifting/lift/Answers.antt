@@ -1,8 +1,7 @@
 -- The invariant: what is lifted from here in the turns that are left is the answer.
 use Rattle.std.proofs.Common.{arith, rules, sym, ◌∙◌}
 use Rattle.std.proofs.Math.Path.{refl}
-use Rattle.std.specs.Prelude.{false, length, true, ◌*◌, ◌+◌, ◌-◌, ◌≡◌, ◌≤◌}
-use Rattle.mask.specs.Tables.{table}
+use Rattle.std.specs.Prelude.{length, ◌*◌, ◌+◌, ◌-◌, ◌≡◌, ◌≤◌}
 use Rattle.machine.specs.Refusals.{valid}
 use Rattle.machine.specs.Machines.{pairs, sets_c}
 use Rattle.machine.specs.WellFormed.{pair_validity}
@@ -77,9 +76,6 @@ pub sweep-requires : goal.sweep-requires
 sweep-requires c =
     let w = (goal.at.sweep-requires c).Else-is_err in
     (valid_is_well _ (formed w), omega (arith, entries_small _ (well w), room w, same (goal.at.sweep-requires c).At-loop))
-
-pub overflow_step : goal.overflow_step
-overflow_step c = omega (arith, turns_small _ (well (goal.at.overflow_step c).Else-is_err))
 
 pub loop-preserved : goal.loop-preserved
 loop-preserved c =

@@ -1,7 +1,7 @@
 -- An entry's number tells its section, c and a, which are within the counts.
 use mathlib.Core.Path.{◌∙◌, sym}
 use native.Mathlib.Omega.{arith}
-use Rattle.machine.specs.WellFormedLaws.{WellPair, pairs_small, ranks_small, some_pairs, well_pair}
+use Rattle.machine.specs.WellFormedLaws.{WellPair, pairs_small, ranks_small, well_pair}
 use Rattle.brute.specs.LiftingLaws.{Located, lifted_failing, lifted_passing, located}
 use Rattle.brute.proofs.lifting.lift_entry.Goals as goal
 use Rattle.brute.proofs.lifting.lift_entry.Goals.{Start}
@@ -14,18 +14,6 @@ place c = located c.args.p.now (well c) c.args.e c.requires.1.0
 
 pub overflow_mul-pairs : goal.overflow_mul-pairs
 overflow_mul-pairs c = omega (arith, pairs_small _ (well (goal.at.overflow_mul-pairs c).Start))
-
-pub nonzero_rem-c : goal.nonzero_rem-c
-nonzero_rem-c c = some_pairs _ (well (goal.at.nonzero_rem-c c).Start)
-
-pub nonzero_div-c : goal.nonzero_div-c
-nonzero_div-c c = (well (goal.at.nonzero_div-c c).Start).abstraction.states_low
-
-pub nonzero_rem-a : goal.nonzero_rem-a
-nonzero_rem-a c = (well (goal.at.nonzero_rem-a c).Start).abstraction.states_low
-
-pub nonzero_div-e : goal.nonzero_div-e
-nonzero_div-e c = some_pairs _ (well (goal.at.nonzero_div-e c).Start)
 
 pub entry_passes-requires : goal.entry_passes-requires
 entry_passes-requires c =

@@ -20,18 +20,11 @@ overflow_mul-e-end-2 c = omega (arith, entries_small _ (well (goal.at.overflow_m
 pub loop-e-init : goal.loop-e-init
 loop-e-init c = let x = c.args in (search rules, refl, swept_none x.p.now x.table.now)
 
-pub lift_entry-requires : goal.lift_entry-requires
-lift_entry-requires c =
-    (c.requires.0, (c.loop-e-test.true, rw c.loop-e.invariant.1 c.requires.1))
-
 pub loop-e-preserved : goal.loop-e-preserved
 loop-e-preserved c =
     let call = c.lift_entry in
     let x = c.args in
     (search rules, call.auto.table ∙ c.loop-e.invariant.1, swept_next x.p.now x.table.now c.loop-e.e c.loop-e.invariant.2 call.ensures)
-
-pub shape_of-table : goal.shape_of-table
-shape_of-table c = c.loop-e.invariant.1
 
 pub returns : goal.returns
 returns c =

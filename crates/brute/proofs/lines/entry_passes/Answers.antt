@@ -34,9 +34,6 @@ returns-then-e-concrete c =
     let x = c.args in
     sym (pass_above x.p.now x.table.now x.j x.c x.a (λ e. c.if-e.false (c.entry_at-e.ensures ∙ e)) (sym c.is_matched.ensures ∙ c.if-not-is_matched.false) (rw (← c.entry_at-e.ensures) c.if-e-concrete.true))
 
-pub goal_holds-requires : goal.goal_holds-requires
-goal_holds-requires c = (c.requires.0, c.requires.1.0)
-
 pub returns-then-e-eq0 : goal.returns-then-e-eq0
 returns-then-e-eq0 c =
     let x = c.args in

@@ -1,21 +1,13 @@
 use Rattle.std.proofs.Common.{ap, rules, tests, ◌∙◌}
-use Rattle.std.proofs.lemmas.Iterator.{serves_from_Range}
 use Rattle.std.specs.Prelude.{is_some, ◌≡◌}
 use Rattle.mask.specs.Logic.{not}
 use Rattle.mask.specs.Bounded.{below, every, first}
-use Rattle.mask.specs.Tables.{table}
 use Rattle.mask.proofs.RangeLaws.{find_range}
 use Rattle.machine.specs.Machines.{n_a, n_c, sets_a}
-use Rattle.machine.specs.WellFormedLaws.{well_pair}
 use Rattle.machine.specs.Lines.{passes}
 use Rattle.brute.specs.TargetLaws.{some_failing}
 use Rattle.mask.specs.BoundedLaws.{first_cong}
 use Rattle.brute.proofs.lines.failing_section.Goals as goal
-
-pub find-requires-clause-callable : goal.find-requires-clause-callable
-find-requires-clause-callable c =
-    let w = well_pair c.args.p.now c.requires in
-    serves_from_Range (λ x q h. search rules) (λ x a b. search (rules, c.requires, w.abstraction.sets_high))
 
 pub returns : goal.returns
 returns c =

@@ -1,6 +1,5 @@
 -- The entry's k is asked at c, and tells into which entries the pair has to step.
 use mathlib.Core.Path.{◌∙◌, ◌≡◌, sym}
-use native.Mathlib.Omega.{arith}
 use Rattle.machine.specs.Machines.{in_fair_set, sets_c}
 use Rattle.machine.specs.Ranks.{set_of}
 use Rattle.machine.specs.WellFormedLaws.{WellPair, well_pair}
@@ -17,12 +16,6 @@ asked c = c.in_set.ensures ∙ rw c.level_of-rank.ensures
 
 pub level_of-rank-requires : goal.level_of-rank-requires
 level_of-rank-requires c = let w = well (goal.at.level_of-rank-requires c).Start in (w.concrete.sets_low, c.requires.1.1)
-
-pub steps_into-requires : goal.steps_into-requires
-steps_into-requires c = (c.requires.0, omega arith)
-
-pub steps_into-requires-else-in_set : goal.steps_into-requires-else-in_set
-steps_into-requires-else-in_set c = (c.requires.0, omega arith)
 
 pub returns-then-in_set : goal.returns-then-in_set
 returns-then-in_set c =

@@ -1,6 +1,6 @@
 -- The invariant: the greatest such number up to x is the answer.
 use Rattle.std.proofs.Common.{ap, arith, sym, ◌∙◌}
-use Rattle.std.specs.Prelude.{false, true, ℕ}
+use Rattle.std.specs.Prelude.{ℕ}
 use Rattle.machine.specs.WellFormedLaws.{WellPair, pairs_small, well_pair}
 use Rattle.brute.specs.Ranking.{largest}
 use Rattle.brute.specs.RankingLaws.{largest_found, largest_less, largest_none}
@@ -15,9 +15,6 @@ overflow_mul-concrete c = omega (arith, pairs_small _ (well (goal.at.overflow_mu
 
 pub loop-x-init : goal.loop-x-init
 loop-x-init c = let a = c.args in ap (λ (x : ℕ). largest a.p.now a.lifted.now a.j a.ranks.now a.i x) c.full-x.ensures
-
-pub is_closed-requires : goal.is_closed-requires
-is_closed-requires c = c.requires
 
 pub returns-then-is_closed : goal.returns-then-is_closed
 returns-then-is_closed c =

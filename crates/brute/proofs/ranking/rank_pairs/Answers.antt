@@ -34,13 +34,6 @@ overflow_add-i c = omega (arith, ranks_small _ (well (goal.at.overflow_add-i c).
 pub overflow_cast-i : goal.overflow_cast-i
 overflow_cast-i c = omega (arith, ranks_small _ (well (goal.at.overflow_cast-i c).Start))
 
-pub mark-requires : goal.mark-requires
-mark-requires c =
-    rw c.loop-i.invariant.1 c.requires.1.1
-
-pub overflow_step-i : goal.overflow_step-i
-overflow_step-i c = omega (arith, ranks_small _ (well (goal.at.overflow_step-i c).Start))
-
 pub loop-i-preserved : goal.loop-i-preserved
 loop-i-preserved c =
     let x = c.args in
@@ -49,9 +42,6 @@ loop-i-preserved c =
       c.mark.auto.ranks ∙ l.invariant.1,
       ranked_step x.p.now x.lifted.now x.j x.ranks.now l.i l.invariant.2 c.put_largest.ensures c.mark.ensures,
     )
-
-pub shape_of-ranks : goal.shape_of-ranks
-shape_of-ranks c = c.loop-i.invariant.1
 
 pub returns : goal.returns
 returns c =

@@ -5,7 +5,6 @@ use Rattle.std.specs.Prelude.{length, ◌<◌}
 use Rattle.mask.specs.BoundedLaws.{below_at}
 use Rattle.machine.specs.Machines.{pairs}
 use Rattle.machine.specs.WellFormedLaws.{pairs_small, well_pair}
-use Rattle.brute.specs.Ranking.{struck}
 use native.Mathlib.Nat.{sub-zero}
 use lib.ListN.{length-set}
 use Rattle.brute.specs.RankingLaws.{struck_done, struck_next, struck_none}
@@ -24,9 +23,6 @@ overflow_mul-pairs c = omega (arith, pairs_small _ (well_pair c.args.p.now c.req
 pub loop-init : goal.loop-init
 loop-init c = (search rules, refl, rw sub-zero)
 
-pub first_unkept-requires : goal.first_unkept-requires
-first_unkept-requires c = (c.requires.0, (c.requires.1.0, c.requires.1.1.0))
-
 pub returns-in-None : goal.returns-in-None
 returns-in-None c =
     let x = c.args in
@@ -34,9 +30,6 @@ returns-in-None c =
 
 pub offset_bounds-set-e : goal.offset_bounds-set-e
 offset_bounds-set-e c = omega (arith, inside c, pairs_small _ (well_pair c.args.p.now c.requires.0), below_at (pairs c.args.p.now) _ (sym c.first_unkept.ensures ∙ c.in-Some.is))
-
-pub bounds-set-e : goal.bounds-set-e
-bounds-set-e c = inside c
 
 pub loop-preserved : goal.loop-preserved
 loop-preserved c =
@@ -50,3 +43,6 @@ pub returns : goal.returns
 returns c =
     let x = c.args in
     struck_none x.p.now x.lifted.now x.j x.ranks.now x.i c.loop.set _ c.loop.invariant.2 (omega arith)
+
+pub bounds-set-e : goal.bounds-set-e
+bounds-set-e c = inside c

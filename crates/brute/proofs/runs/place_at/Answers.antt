@@ -22,9 +22,6 @@ here c =
     let w = well_pair x.p.now c.requires in
     rw c.loop-i.invariant.1 (placed x.p.now x.table.now (given x.stem.now x.cycle.now) w.abstraction.sets_low c.loop-i.i)
 
-pub least_partner-found-requires : goal.least_partner-found-requires
-least_partner-found-requires c = (c.requires, omega (arith, c.moment_at.type_inv))
-
 pub loop-i-init : goal.loop-i-init
 unfolding present_of
 loop-i-init c =

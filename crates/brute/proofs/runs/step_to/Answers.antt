@@ -11,9 +11,6 @@ use Rattle.brute.proofs.runs.step_to.Goals.{Start}
 well : (c : Start) → WellPair c.args.p.now
 well c = well_pair c.args.p.now c.requires.0
 
-pub section_after-j-requires : goal.section_after-j-requires
-section_after-j-requires c = (c.requires.0, omega arith)
-
 pub least_partner-found-requires : goal.least_partner-found-requires
 least_partner-found-requires c =
     let x = c.args in
