@@ -1,49 +1,49 @@
--- Each answer as four numbers: a refusal's number and spot; 0 for Valid; 0 and two lengths for a run; 100 and the count for Carried; 200, c and
--- the count for NotCarried, both with 1 as the last number where a concrete set is empty; 0 and 1 or 0 for yes and no of a turn and a look-up.
--- Refusals have numbers from 1 to 99, so the four numbers tell answers apart.
-use Rattle.std.specs.Prelude.{Bool, cond, ◌==◌, nat_le, Err, Ok}
+-- When two answers are the same, as tests: refusals by their four numbers, other answers by what is answered. AnswersLaws has that each is true exactly
+-- where the two are one.
+use Rattle.std.specs.Prelude.{Bool, true, false, ◌==◌, List, ℕ, bytes_eq, Ok, Err}
+use Rattle.std.proofs.Math.Bool.{beq}
 use Rattle.mask.specs.Logic.{and}
+use Rattle.machine.specs.declared.Pair.{Pair}
 use Rattle.machine.specs.declared.Refusal.{Refusal}
-use Rattle.machine.specs.Refusals.{Tested, refusal, Answer}
-use Rattle.machine.specs.Player.{Played, played}
 use Rattle.machine.specs.declared.Verdict.{Verdict}
 use Rattle.machine.specs.declared.Verdict.TheVariants.{Carried, NotCarried}
+use Rattle.machine.specs.declared.Checked.{Checked}
+use Rattle.machine.specs.declared.Run.{Run}
+use Rattle.machine.specs.Refusals.{Answer, four_numbers, pass_on}
+use Rattle.machine.specs.WellFormed.{has_empty_set}
+use Rattle.machine.specs.Verdict.{check_verdict}
 
--- of any result, where f gives the four numbers of an answer
-unfoldable pub four_of : {A : Type 0} → (A → Refusal) → Answer A → Refusal
-four_of f (Ok a) = f a
-four_of f (Err r) = r
+unfoldable pub same_refusal : Refusal → Refusal → Bool
+same_refusal r s = bytes_eq (four_numbers r) (four_numbers s)
 
-unfoldable pub verdict_numbers : Bool → Verdict → Refusal
-verdict_numbers empty (Carried n) = refusal 100 n 0 (cond empty 1 0)
-verdict_numbers empty (NotCarried c n) = refusal 200 c n (cond empty 1 0)
+-- where f compares what is answered
+unfoldable pub same_answer : {A : Type 0} → (A → A → Bool) → Answer A → Answer A → Bool
+same_answer f (Ok a) (Ok b) = f a b
+same_answer f (Ok a) (Err s) = false
+same_answer f (Err r) (Ok b) = false
+same_answer f (Err r) (Err s) = same_refusal r s
 
-unfoldable pub played_numbers : Played → Refusal
-played_numbers (played stem loop) = refusal 0 stem loop 0
+-- of a test that refuses nothing
+unfoldable pub same_unit : Unit {0} → Unit {0} → Bool
+same_unit t u = true
 
-abbrev pub tested_four : Tested → Refusal
-tested_four v = four_of (λ t. refusal 0 0 0 0) v
+unfoldable pub same_verdict : Verdict → Verdict → Bool
+same_verdict (Carried n) (Carried m) = n == m
+same_verdict (Carried n) (NotCarried d m) = false
+same_verdict (NotCarried c n) (Carried m) = false
+same_verdict (NotCarried c n) (NotCarried d m) = and (c == d) (n == m)
 
-abbrev pub verdict_four : Answer Verdict → Bool → Refusal
-verdict_four v empty = four_of (verdict_numbers empty) v
+unfoldable pub same_checked : Checked → Checked → Bool
+same_checked x y = and (same_verdict x.verdict y.verdict) (beq x.empty_set y.empty_set)
 
-abbrev pub played_four : Answer Played → Refusal
-played_four v = four_of played_numbers v
+unfoldable pub same_run : Run → Run → Bool
+same_run x y = and (x.stem == y.stem) (x.cycle == y.cycle)
 
--- yes or no: a turn is finished, a pair is still in
-unfoldable pub answer_numbers : Bool → Refusal
-answer_numbers b = refusal 0 (cond b 1 0) 0 0
+-- the check's whole answer of a lent table
+unfoldable pub check_answer : Pair → List ℕ → Answer Checked
+check_answer p T = pass_on (check_verdict p T) (λ v. Ok (record { verdict = v; empty_set = has_empty_set p.concrete }))
 
-abbrev pub answered_four : Answer Bool → Refusal
-answered_four v = four_of answer_numbers v
-
--- the answer is yes
-unfoldable pub says_yes : Refusal → Bool
-says_yes x = and (x.number == 0) (x.first == 1)
-
-unfoldable pub same_four : Refusal → Refusal → Bool
-same_four x y = and (x.number == y.number) (and (x.first == y.first) (and (x.second == y.second) (x.third == y.third)))
-
--- of what is said of a table: it is no refusal, and a concrete set is empty
-unfoldable pub says_empty : Refusal → Bool
-says_empty x = and (nat_le 100 x.number) (x.third == 1)
+-- yes: a turn is finished, a pair is still in
+unfoldable pub says_yes : Answer Bool → Bool
+says_yes (Ok b) = b
+says_yes (Err r) = false

@@ -2,82 +2,71 @@
 // the bits that are not hidden.
 ghost use Rattle.std.specs.Prelude.{◌≡◌, ◌+◌, ◌≤◌};
 ghost use Rattle.machine.specs.Lassos.{given};
-ghost use Rattle.comparison.specs.Lassos.{run_fits, lasso_agrees, lasso_tally, numbered_lasso, power, shape_tally, lassos_tally};
+ghost use Rattle.comparison.specs.Lassos.{run_fits, lasso_agrees, lasso_tally, numbered_lasso, shape_tally, lassos_tally};
 
-use crate::answers::{as_played, played_four, same_four};
-use crate::tally::{Tally, add, none, of_lasso};
-use machine::{Pair, Refusal};
+use crate::tally::{Tally, total};
+use machine::{Pair, Refusal, Run};
 
-// Whether the first s + q bytes of a buffer are the rule's run, and with s states of stem a fair lasso of the abstract machine from a start
-// state, with the lasso's observations in the bits that are not hidden.
-fn run_fits(
-    p: Pair,
-    table: &[u16],
-    stem: &[u8],
-    cycle: &[u8],
-    run: &[u8],
-    s: usize,
-    q: usize,
-) -> bool
-    ensures { result ≡ run_fits p table.now (given stem.now cycle.now) run.now s q }
+// The states of a lasso.
+#[derive(Clone, Copy)]
+struct Lasso<'a> {
+    stem: &'a [u8],
+    cycle: &'a [u8],
+}
+
+// Whether the front of a buffer is the rule's run, and with its stem a fair lasso of the abstract machine from a start state, with the
+// lasso's observations in the bits that are not hidden.
+fn run_fits(p: Pair, table: &[u16], lasso: Lasso, buffer: &[u8], run: Run) -> bool
+    ensures { result ≡ run_fits p table.now (given lasso.stem.now lasso.cycle.now) buffer.now run.stem run.cycle }
 {
-    if run.len() < s {
+    if buffer.len() < run.stem || buffer.len() - run.stem < run.cycle {
         return false;
     }
-    if run.len() - s < q {
-        return false;
-    }
-    if !brute::is_run(p, table, stem, cycle, run, s + q) {
-        return false;
-    }
-    let front = &run[..s];
-    let back = &run[s..s + q];
-    if !brute::is_play(p.abstraction, front, back) {
-        return false;
-    }
-    brute::same_until(
-        p.hidden,
-        p.concrete,
-        stem,
-        cycle,
-        p.abstraction,
-        front,
-        back,
-        s + q,
-    )
+    let n = run.stem + run.cycle;
+    let front = &buffer[..run.stem];
+    let back = &buffer[run.stem..n];
+    brute::is_run(p, table, lasso.stem, lasso.cycle, buffer, n)
+        && brute::is_play(p.abstraction, front, back)
+        && brute::same_until(
+            p.hidden,
+            p.concrete,
+            lasso.stem,
+            lasso.cycle,
+            p.abstraction,
+            front,
+            back,
+            n,
+        )
 }
 
 // Whether the player's answer is the rule's, and its run fits.
 fn lasso_agrees(
     p: Pair,
     table: &[u16],
-    stem: &[u8],
-    cycle: &[u8],
-    run: &[u8],
-    answer: Refusal,
-    plain: Refusal,
+    lasso: Lasso,
+    buffer: &[u8],
+    answer: Result<Run, Refusal>,
+    plain: Result<Run, Refusal>,
 ) -> bool
-    ensures { result ≡ lasso_agrees p table.now (given stem.now cycle.now) run.now answer plain }
+    ensures { result ≡ lasso_agrees p table.now (given lasso.stem.now lasso.cycle.now) buffer.now answer plain }
 {
-    if !same_four(answer, plain) {
-        return false;
-    }
-    if answer.number != 0 {
-        return true;
-    }
-    run_fits(p, table, stem, cycle, run, answer.first, answer.second)
+    answer == plain
+        && match answer {
+            Ok(run) => run_fits(p, table, lasso, buffer, run),
+            Err(_) => true,
+        }
 }
 
 // One lasso.
-fn compare_lasso(p: Pair, table: &[u16], stem: &[u8], cycle: &[u8]) -> Tally
-    ensures { result ≡ lasso_tally p table.now (given stem.now cycle.now) }
+fn compare_lasso(p: Pair, table: &[u16], lasso: Lasso) -> Tally
+    ensures { result ≡ lasso_tally p table.now (given lasso.stem.now lasso.cycle.now) }
 {
-    let mut run = [0u8; player::RUN_ROOM];
-    let answer = played_four(player::play(p, table, stem, cycle, &mut run));
-    let plain = played_four(as_played(brute::plain_play(p, table, stem, cycle)));
-    of_lasso(
-        answer.number == 0,
-        lasso_agrees(p, table, stem, cycle, &run, answer, plain),
+    let mut buffer = [0u8; player::RUN_ROOM];
+    let answer = player::play(p, table, lasso.stem, lasso.cycle, &mut buffer);
+    let plain = brute::plain_play(p, table, lasso.stem, lasso.cycle);
+    Tally::of_lasso(
+        answer.is_ok(),
+        lasso_agrees(p, table, lasso, &buffer, answer, plain),
     )
 }
 
@@ -88,20 +77,11 @@ fn compare_numbered(p: Pair, table: &[u16], s: usize, q: usize, top: u8, x: u64)
 {
     let mut states = [0u8; 4];
     brute::put_states(x, top, &mut states);
-    let lent: &[u8] = &states;
-    compare_lasso(p, table, &lent[..s], &lent[s..s + q])
-}
-
-// How many numbers n digits have, n up to 2.
-fn power_of(base: u64, n: usize) -> u64
-    requires { base ≤ 256 }
-    ensures value { result ≡ power base n }
-    ensures bound { result ≤ 65536 }
-{
-    if n == 0 {
-        return 1;
-    }
-    if n == 1 { base } else { base * base }
+    let lasso = Lasso {
+        stem: &states[..s],
+        cycle: &states[s..s + q],
+    };
+    compare_lasso(p, table, lasso)
 }
 
 // Every lasso with a stem of s states and a loop of q, each up to 2.
@@ -109,22 +89,18 @@ fn compare_shape(p: Pair, table: &[u16], s: usize, q: usize, top: u8) -> Tally
     requires { (s ≤ 2) × (q ≤ 2) }
     ensures { result ≡ shape_tally p table.now top s q }
 {
-    let base = top as u64 + 1;
-    let mut sum = none();
-    for x in 0..power_of(base, s) * power_of(base, q) {
-        sum = add(sum, compare_numbered(p, table, s, q, top, x));
-    }
-    sum
+    let base = u64::from(top) + 1;
+    total(base.pow(s as u32) * base.pow(q as u32), |x| {
+        compare_numbered(p, table, s, q, top, x)
+    })
 }
 
 // Every lasso with a stem of at most `longest` states, at most 2, and a loop of 0 to 2.
 pub fn compare_lassos(p: Pair, table: &[u16], top: u8, longest: usize) -> Tally
     ensures { result ≡ lassos_tally p table.now top longest }
 {
-    let most = if longest < 2 { longest } else { 2 };
-    let mut sum = none();
-    for i in 0..3 * (most + 1) {
-        sum = add(sum, compare_shape(p, table, i / 3, i % 3, top));
-    }
-    sum
+    let most = longest.min(2);
+    total(3 * (most as u64 + 1), |i| {
+        compare_shape(p, table, (i / 3) as usize, (i % 3) as usize, top)
+    })
 }

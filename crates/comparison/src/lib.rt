@@ -1,7 +1,6 @@
 // Solver, solver by turns, check and player beside their brute-force versions, on series of small pairs. What is compared is counted, and so is what differs.
 #![tactic(auto)]
 
-mod answers;
 mod lassos;
 mod pairs;
 mod tables;
@@ -9,4 +8,4 @@ mod tally;
 mod turns;
 
 pub use pairs::{Numbers, Series, Trial, compare, compare_pair};
-pub use tally::{Tally, add, none};
+pub use tally::Tally;

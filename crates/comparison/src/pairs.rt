@@ -1,16 +1,14 @@
 // All that is compared of a pair, and of a series of pairs.
-ghost use Rattle.std.specs.Prelude.{◌≡◌, true, if◌then◌else◌};
+ghost use Rattle.std.specs.Prelude.{◌≡◌, true};
 ghost use Rattle.machine.specs.WellFormed.{well_formed};
-ghost use Rattle.comparison.specs.Tallies.{of_unsolved};
 ghost use Rattle.comparison.specs.Pairs.{verdict_fits, solution_agrees, solution_tally, formed_tally, unsolved_tally, pair_tally, row_tally, series_tally};
 
-use crate::answers::{same_four, tested_four};
 use crate::lassos::compare_lassos;
 use crate::tables::{compare_table, compare_tables, is_within};
-use crate::tally::{Tally, add, none, of_pair, of_solution, of_unsolved};
+use crate::tally::{Tally, total};
 use crate::turns::{compare_stopped, compare_turns};
-use brute::Shape;
-use machine::{Pair, Validity};
+use brute::{Compared, Shape};
+use machine::Pair;
 
 // The numbers 0, step, 2 x step, .., so many of them.
 #[derive(Clone, Copy)]
@@ -47,33 +45,17 @@ pub struct Series {
 fn verdict_fits(own: Tally, every: bool, carrying: u64) -> bool
     ensures { result ≡ verdict_fits own every carrying }
 {
-    if own.passing == 0 {
-        return false;
-    }
-    if !every {
-        return true;
-    }
-    if own.carrying == 0 {
-        carrying == 0
-    } else {
-        carrying != 0
-    }
+    own.passing != 0 && (!every || (own.carrying == 0) == (carrying == 0))
 }
 
 // Whether what is said of the solver's table fits, and it covers what the lifted one covers, and no more, and has the ranks.
 fn solution_agrees(p: Pair, n: usize, fits: bool, lifted: &[u16], solved: &[u16]) -> bool
     ensures { result ≡ solution_agrees p n fits lifted.now solved.now }
 {
-    if !fits {
-        return false;
-    }
-    if !is_within(n, lifted, solved) {
-        return false;
-    }
-    if !is_within(n, solved, lifted) {
-        return false;
-    }
-    brute::is_ranked(p, brute::RANKS, lifted, solved)
+    fits
+        && is_within(n, lifted, solved)
+        && is_within(n, solved, lifted)
+        && brute::is_ranked(p, Compared::Ranks, lifted, solved)
 }
 
 // The solver's table of n entries beside the other algorithm's.
@@ -84,25 +66,7 @@ fn compare_solution(p: Pair, n: usize, every: bool, carrying: u64, solved: &[u16
     let fits = verdict_fits(own, every, carrying);
     let mut lifted = [0u16; machine::TABLE_ROOM];
     brute::lift(p, &mut lifted);
-    let agrees = solution_agrees(p, n, fits, &lifted, solved);
-    of_solution(own.carrying, agrees)
-}
-
-// The same where the pair was solved; otherwise it is only counted.
-fn compare_solved(
-    p: Pair,
-    n: usize,
-    every: bool,
-    carrying: u64,
-    solved: bool,
-    table: &[u16],
-) -> Tally
-    ensures { result ≡ (if solved then solution_tally p n every carrying table.now else of_unsolved) }
-{
-    if solved {
-        return compare_solution(p, n, every, carrying, table);
-    }
-    of_unsolved()
+    Tally::of_solution(own.carrying, solution_agrees(p, n, fits, &lifted, solved))
 }
 
 // A well-formed pair with a table: if it was solved, the solver's.
@@ -116,18 +80,20 @@ fn compare_formed(p: Pair, t: Trial, solved: bool, table: &[u16]) -> Tally
     let n = abstraction.sets * pairs;
     let top = concrete.sets * pairs + 2;
     let tables = compare_tables(p, t.every, top as u16, n, t.tables, table);
-    let solution = compare_solved(p, n, t.every, tables.carrying, solved, table);
-    let lassos = compare_lassos(p, table, concrete.states as u8, t.stem);
-    add(add(tables, solution), lassos)
+    let solution = if solved {
+        compare_solution(p, n, t.every, tables.carrying, table)
+    } else {
+        Tally::of_unsolved()
+    };
+    tables + solution + compare_lassos(p, table, concrete.states as u8, t.stem)
 }
 
 // A pair that the solver refuses. A well-formed one has an empty set, and is tried with the lifted table in place of the solver's.
 fn compare_unsolved(p: Pair, t: Trial) -> Tally
     ensures { result ≡ unsolved_tally t p }
 {
-    let formed = brute::validity(p);
-    if let Validity::Refused(_) = formed {
-        return none();
+    if brute::validity(p).is_err() {
+        return Tally::default();
     }
     let mut lifted = [0u16; machine::TABLE_ROOM];
     brute::lift(p, &mut lifted);
@@ -141,14 +107,13 @@ pub fn compare_pair(p: Pair, t: Trial) -> Tally
     let mut solved = [0u16; machine::TABLE_ROOM];
     let answer = solver::solve(p, &mut solved);
     let plain = brute::nonempty_validity(p);
-    let rule = tested_four(plain);
-    let tried = of_pair(same_four(tested_four(answer), rule));
+    let tried = Tally::of_pair(answer == plain);
     match answer {
-        Validity::Refused(_) => add(add(tried, compare_stopped(p, rule)), compare_unsolved(p, t)),
-        Validity::Valid => {
-            let turns = compare_turns(p, rule, t.row, t.families, &solved);
-            add(add(tried, turns), compare_formed(p, t, true, &solved))
+        Ok(()) => {
+            let turns = compare_turns(p, plain, t.row, t.families, &solved);
+            tried + turns + compare_formed(p, t, true, &solved)
         }
+        Err(_) => tried + compare_stopped(p, plain) + compare_unsolved(p, t),
     }
 }
 
@@ -157,13 +122,11 @@ fn compare_row(s: Series, x: u64) -> Tally
     ensures { result ≡ row_tally s x }
 {
     let numbers = s.abstractions;
-    let mut sum = none();
-    for i in 0..numbers.count {
-        let y = i as u64 * numbers.step as u64;
+    total(u64::from(numbers.count), |i| {
+        let y = i * u64::from(numbers.step);
         let p = brute::numbered_pair(s.concrete, s.abstraction, s.hidden, x, y);
-        sum = add(sum, compare_pair(p, s.trial));
-    }
-    sum
+        compare_pair(p, s.trial)
+    })
 }
 
 // All pairs of a series.
@@ -171,9 +134,7 @@ pub fn compare(s: Series) -> Tally
     ensures { result ≡ series_tally s }
 {
     let numbers = s.concretes;
-    let mut sum = none();
-    for i in 0..numbers.count {
-        sum = add(sum, compare_row(s, i as u64 * numbers.step as u64));
-    }
-    sum
+    total(u64::from(numbers.count), |i| {
+        compare_row(s, i * u64::from(numbers.step))
+    })
 }

@@ -2,68 +2,57 @@
 // table stands in its place.
 ghost use Rattle.std.specs.Prelude.{◌≡◌};
 ghost use Rattle.comparison.specs.Tallies.{total};
-ghost use Rattle.comparison.specs.Tables.{zeros, within, table_agrees, table_tally, altered, tried_table};
+ghost use Rattle.comparison.specs.Tables.{zeros, within, is_carried, table_tally, altered, tried_table};
 
-use crate::answers::{as_checked, same_four, says_empty, verdict_four};
-use crate::tally::{Tally, add, none, of_table};
-use machine::{Pair, Refusal};
+use crate::tally::Tally;
+use machine::{Pair, Verdict};
 
 // Whether, of n entries, `other` covers each that `table` covers.
 pub fn is_within(n: usize, table: &[u16], other: &[u16]) -> bool
     ensures { result ≡ within n table.now other.now }
 {
-    for e in 0..n {
-        if brute::value_at(table, e) != machine::BLANK {
-            if brute::value_at(other, e) == machine::BLANK {
-                return false;
-            }
-        }
-    }
-    true
+    (0..n).all(|e| {
+        brute::value_at(table, e) == machine::BLANK || brute::value_at(other, e) != machine::BLANK
+    })
 }
 
-// Whether the check's answer is the plain reading's, and the solver's table covers a table that passes.
-fn table_agrees(n: usize, answer: Refusal, plain: Refusal, table: &[u16], solved: &[u16]) -> bool
-    ensures { result ≡ table_agrees n answer plain solved.now table.now }
+// Whether a verdict is Carried.
+fn is_carried(verdict: Verdict) -> bool
+    ensures { result ≡ is_carried verdict }
 {
-    if !same_four(answer, plain) {
-        return false;
-    }
-    if answer.number < 100 {
-        return true;
-    }
-    is_within(n, table, solved)
+    matches!(verdict, Verdict::Carried { .. })
 }
 
-// One table of n entries.
+// One table of n entries: whether the check's answer is the plain reading's, and the solver's table covers a table that passes.
 pub fn compare_table(p: Pair, n: usize, table: &[u16], solved: &[u16]) -> Tally
     ensures { result ≡ table_tally p n solved.now table.now }
 {
-    let answer = verdict_four(linecheck::check_table(p, table));
-    let plain = verdict_four(as_checked(brute::plain_verdict(p, table)));
-    of_table(
-        100 <= answer.number,
-        answer.number == 100,
-        says_empty(answer),
-        table_agrees(n, answer, plain, table, solved),
-    )
+    let answer = linecheck::check_table(p, table);
+    let agrees = answer == brute::plain_verdict(p, table);
+    match answer {
+        Ok(said) => Tally::of_table(
+            true,
+            is_carried(said.verdict),
+            said.empty_set,
+            agrees && is_within(n, table, solved),
+        ),
+        Err(_) => Tally::of_table(false, false, false, agrees),
+    }
 }
 
 // Puts the solver's n entries into `table`, entry x / (top + 1) changed to what digit x % (top + 1) stands for.
 fn put_altered(x: u64, top: u16, n: usize, solved: &[u16], table: &mut [u16])
     ensures { table.new ≡ altered top x n solved.now table.old }
 {
-    let base = top as u64 + 1;
+    let base = u64::from(top) + 1;
     let changed = x / base;
     let value = brute::entry_of((x % base) as u16);
-    let end = if n < table.len() { n } else { table.len() };
-    for e in 0..end {
-        let v = if e as u64 == changed {
+    for e in 0..n.min(table.len()) {
+        table[e] = if e as u64 == changed {
             value
         } else {
             brute::value_at(solved, e)
         };
-        table[e] = v;
     }
 }
 
@@ -83,10 +72,11 @@ pub fn compare_tables(p: Pair, every: bool, top: u16, n: usize, count: u64, solv
     ensures { result ≡ total count (λ x. table_tally p n solved.now (tried_table every top n solved.now x zeros)) }
 {
     let mut table = [0u16; machine::TABLE_ROOM];
-    let mut sum = none();
+    let mut sum = Tally::default();
+    // not by `total`, whose closure writes nothing: each table is put over the last one, as zeroing 57 KB for each takes too long
     for x in 0..count {
         put_table(every, x, top, n, solved, &mut table);
-        sum = add(sum, compare_table(p, n, &table, solved));
+        sum = sum + compare_table(p, n, &table, solved);
     }
     sum
 }

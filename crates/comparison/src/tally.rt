@@ -1,8 +1,10 @@
 // Counts of what was compared. They are added modulo 2^64.
-ghost use Rattle.std.specs.Prelude.{◌≡◌, if◌then◌else◌};
-ghost use Rattle.comparison.specs.Tallies.{nothing, plus, of_pair, of_solution, of_unsolved, of_table, of_lasso, of_test, of_turn, of_look_up};
+ghost use Rattle.std.specs.Prelude.{◌≡◌, ◌<◌, ℕ};
+ghost use Rattle.comparison.specs.Tallies.{plus, total, of_pair, of_solution, of_unsolved, of_table, of_lasso, of_test, of_turn, of_look_up};
 
-#[derive(Clone, Copy)]
+use std::ops::Add;
+
+#[derive(Clone, Copy, Default)]
 pub struct Tally {
     // pairs tried, those that are well formed, those that the solver takes, and of these those that its table carries
     pub pairs: u64,
@@ -26,148 +28,131 @@ pub struct Tally {
     pub differing: u64,
 }
 
-// No count at all.
-pub fn none() -> Tally
-    ensures { result ≡ nothing }
-{
-    Tally {
-        pairs: 0,
-        formed: 0,
-        solved: 0,
-        carried: 0,
-        tables: 0,
-        passing: 0,
-        carrying: 0,
-        empty: 0,
-        lassos: 0,
-        runs: 0,
-        turns: 0,
-        finished: 0,
-        lookups: 0,
-        held: 0,
-        differing: 0,
+impl Tally {
+    // One pair, with its refusals compared.
+    pub(crate) fn of_pair(agrees: bool) -> Tally
+        ensures { result ≡ of_pair agrees }
+    {
+        Tally {
+            pairs: 1,
+            ..Tally::of_test(agrees)
+        }
     }
-}
 
-// 1 for a test that holds.
-fn one_if(b: bool) -> u64
-    ensures { result ≡ (if b then 1 else 0) }
-{
-    if b { 1 } else { 0 }
-}
+    // The solver's table of one pair; `carried` is 1 where it is Carried, and else 0.
+    pub(crate) fn of_solution(carried: u64, agrees: bool) -> Tally
+        ensures { result ≡ of_solution carried agrees }
+    {
+        Tally {
+            formed: 1,
+            solved: 1,
+            carried,
+            ..Tally::of_test(agrees)
+        }
+    }
 
-// 1 for a test that fails.
-fn one_unless(b: bool) -> u64
-    ensures { result ≡ (if b then 0 else 1) }
-{
-    if b { 0 } else { 1 }
-}
+    // One well-formed pair that the solver refuses.
+    pub(crate) fn of_unsolved() -> Tally
+        ensures { result ≡ of_unsolved }
+    {
+        Tally {
+            formed: 1,
+            ..Tally::default()
+        }
+    }
 
-// One pair, with its refusals compared.
-pub fn of_pair(agrees: bool) -> Tally
-    ensures { result ≡ of_pair agrees }
-{
-    let mut t = none();
-    t.pairs = 1;
-    t.differing = one_unless(agrees);
-    t
-}
+    // One table.
+    pub(crate) fn of_table(passing: bool, carried: bool, empty: bool, agrees: bool) -> Tally
+        ensures { result ≡ of_table passing carried empty agrees }
+    {
+        Tally {
+            tables: 1,
+            passing: u64::from(passing),
+            carrying: u64::from(carried),
+            empty: u64::from(empty),
+            ..Tally::of_test(agrees)
+        }
+    }
 
-// The solver's table of one pair; `carried` is 1 where it is Carried, and else 0.
-pub fn of_solution(carried: u64, agrees: bool) -> Tally
-    ensures { result ≡ of_solution carried agrees }
-{
-    let mut t = none();
-    t.formed = 1;
-    t.solved = 1;
-    t.carried = carried;
-    t.differing = one_unless(agrees);
-    t
-}
+    // One lasso.
+    pub(crate) fn of_lasso(runs: bool, agrees: bool) -> Tally
+        ensures { result ≡ of_lasso runs agrees }
+    {
+        Tally {
+            lassos: 1,
+            runs: u64::from(runs),
+            ..Tally::of_test(agrees)
+        }
+    }
 
-// One well-formed pair that the solver refuses.
-pub fn of_unsolved() -> Tally
-    ensures { result ≡ of_unsolved }
-{
-    let mut t = none();
-    t.formed = 1;
-    t
-}
+    // One comparison that has no count of its own.
+    pub(crate) fn of_test(agrees: bool) -> Tally
+        ensures { result ≡ of_test agrees }
+    {
+        Tally {
+            differing: u64::from(!agrees),
+            ..Tally::default()
+        }
+    }
 
-// One table.
-pub fn of_table(passing: bool, carried: bool, empty: bool, agrees: bool) -> Tally
-    ensures { result ≡ of_table passing carried empty agrees }
-{
-    let mut t = none();
-    t.tables = 1;
-    t.passing = one_if(passing);
-    t.carrying = one_if(carried);
-    t.empty = one_if(empty);
-    t.differing = one_unless(agrees);
-    t
-}
+    // One turn.
+    pub(crate) fn of_turn(finished: bool, agrees: bool) -> Tally
+        ensures { result ≡ of_turn finished agrees }
+    {
+        Tally {
+            turns: 1,
+            finished: u64::from(finished),
+            ..Tally::of_test(agrees)
+        }
+    }
 
-// One lasso.
-pub fn of_lasso(runs: bool, agrees: bool) -> Tally
-    ensures { result ≡ of_lasso runs agrees }
-{
-    let mut t = none();
-    t.lassos = 1;
-    t.runs = one_if(runs);
-    t.differing = one_unless(agrees);
-    t
-}
-
-// One comparison that has no count of its own.
-pub fn of_test(agrees: bool) -> Tally
-    ensures { result ≡ of_test agrees }
-{
-    let mut t = none();
-    t.differing = one_unless(agrees);
-    t
-}
-
-// One turn.
-pub fn of_turn(finished: bool, agrees: bool) -> Tally
-    ensures { result ≡ of_turn finished agrees }
-{
-    let mut t = none();
-    t.turns = 1;
-    t.finished = one_if(finished);
-    t.differing = one_unless(agrees);
-    t
-}
-
-// One look-up.
-pub fn of_look_up(held: bool, agrees: bool) -> Tally
-    ensures { result ≡ of_look_up held agrees }
-{
-    let mut t = none();
-    t.lookups = 1;
-    t.held = one_if(held);
-    t.differing = one_unless(agrees);
-    t
+    // One look-up.
+    pub(crate) fn of_look_up(held: bool, agrees: bool) -> Tally
+        ensures { result ≡ of_look_up held agrees }
+    {
+        Tally {
+            lookups: 1,
+            held: u64::from(held),
+            ..Tally::of_test(agrees)
+        }
+    }
 }
 
 // Both counts together.
-pub fn add(x: Tally, y: Tally) -> Tally
-    ensures { result ≡ plus x y }
-{
-    Tally {
-        pairs: std::num::wrapping_add_u64(x.pairs, y.pairs),
-        formed: std::num::wrapping_add_u64(x.formed, y.formed),
-        solved: std::num::wrapping_add_u64(x.solved, y.solved),
-        carried: std::num::wrapping_add_u64(x.carried, y.carried),
-        tables: std::num::wrapping_add_u64(x.tables, y.tables),
-        passing: std::num::wrapping_add_u64(x.passing, y.passing),
-        carrying: std::num::wrapping_add_u64(x.carrying, y.carrying),
-        empty: std::num::wrapping_add_u64(x.empty, y.empty),
-        lassos: std::num::wrapping_add_u64(x.lassos, y.lassos),
-        runs: std::num::wrapping_add_u64(x.runs, y.runs),
-        turns: std::num::wrapping_add_u64(x.turns, y.turns),
-        finished: std::num::wrapping_add_u64(x.finished, y.finished),
-        lookups: std::num::wrapping_add_u64(x.lookups, y.lookups),
-        held: std::num::wrapping_add_u64(x.held, y.held),
-        differing: std::num::wrapping_add_u64(x.differing, y.differing),
+impl Add for Tally {
+    type Output = Tally;
+
+    fn add(self, other: Tally) -> Tally
+        ensures { result ≡ plus self other }
+    {
+        Tally {
+            pairs: self.pairs.wrapping_add(other.pairs),
+            formed: self.formed.wrapping_add(other.formed),
+            solved: self.solved.wrapping_add(other.solved),
+            carried: self.carried.wrapping_add(other.carried),
+            tables: self.tables.wrapping_add(other.tables),
+            passing: self.passing.wrapping_add(other.passing),
+            carrying: self.carrying.wrapping_add(other.carrying),
+            empty: self.empty.wrapping_add(other.empty),
+            lassos: self.lassos.wrapping_add(other.lassos),
+            runs: self.runs.wrapping_add(other.runs),
+            turns: self.turns.wrapping_add(other.turns),
+            finished: self.finished.wrapping_add(other.finished),
+            lookups: self.lookups.wrapping_add(other.lookups),
+            held: self.held.wrapping_add(other.held),
+            differing: self.differing.wrapping_add(other.differing),
+        }
     }
+}
+
+// The counts f(0), .., f(n - 1) together.
+pub(crate) fn total<F: Fn(u64) -> Tally>(n: u64, f: F) -> Tally
+    requires { (x : ℕ) → x < n → F.pre f x }
+    ensures { (g : ℕ → Tally) → ((x : ℕ) (t : Tally) → x < n → F.post f x t → t ≡ g x) → result ≡ total n g }
+{
+    let mut sum = Tally::default();
+    for x in 0..n {
+        sum = sum + f(x);
+    }
+    sum
 }

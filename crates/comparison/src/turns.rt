@@ -5,32 +5,32 @@ ghost use Rattle.machine.specs.WellFormed.{well_formed};
 ghost use Rattle.machine.specs.Table.{table_room};
 ghost use Rattle.progress.specs.Turns.{turn_family};
 ghost use Rattle.comparison.specs.Answers.{says_yes};
-ghost use Rattle.comparison.specs.Turns.{marks, kept_from, same_rows, same_entries, rows_fit, table_fits, turn_agrees, turn_said, turn_tally, in_range, plain_look_up, look_up_tally, look_ups_tally, family_tally, families_tally, first_agrees, end_agrees, walk_tally, turns_tally, stopped_tally};
+ghost use Rattle.comparison.specs.Turns.{marks, kept_from, same_entries, rows_fit, table_fits, turn_agrees, turn_said, turn_tally, in_range, plain_look_up, look_up_tally, look_ups_tally, family_tally, families_tally, first_fits, first_agrees, end_agrees, walk_tally, turns_tally, stopped_tally};
 
-use crate::answers::{answered_four, looked_four, same_four, says_yes, tested_four, turned_four};
 use crate::tables::is_within;
-use crate::tally::{Tally, add, none, of_look_up, of_test, of_turn};
+use crate::tally::{Tally, total};
+use brute::Compared;
 use machine::{Pair, Refusal};
 
 // What a lent table is full of: no rank, and not blank.
 const MARK: u16 = 40000;
 
-// What brute force says of a pair: the four numbers of its tests, and if it refuses nothing how many entries, sections and states there are.
+// A pair, and what brute force says of it: what its tests say, and if they refuse nothing how many entries, sections and states there are.
 #[derive(Clone, Copy)]
 pub struct Known {
-    pub plain: Refusal,
+    pub pair: Pair,
+    pub plain: Result<(), Refusal>,
     pub entries: usize,
     pub sections: u8,
     pub concretes: u8,
     pub abstractions: u8,
 }
 
-// A family that was compared: the counts, whether its turn is finished, and the next family.
+// A family that was compared: the counts, and whether its turn is finished.
 #[derive(Clone, Copy)]
 struct Step {
     tally: Tally,
     finished: bool,
-    family: [u64; 448],
 }
 
 // ---- A turn
@@ -48,18 +48,6 @@ fn is_kept(from: usize, table: &[u16; 28672]) -> bool
     true
 }
 
-// Whether two families have the same rows.
-fn same_rows(x: &[u64; 448], y: &[u64; 448]) -> bool
-    ensures { result ≡ same_rows x.now y.now }
-{
-    for e in 0..448 {
-        if x[e] != y[e] {
-            return false;
-        }
-    }
-    true
-}
-
 // Whether the next family has the pairs with a rank over the given one, and no stray bits.
 fn rows_fit(p: Pair, given: &[u16], next: &[u64; 448]) -> bool
     ensures { result ≡ rows_fit p given.now next.now }
@@ -69,7 +57,7 @@ fn rows_fit(p: Pair, given: &[u16], next: &[u64; 448]) -> bool
     }
     let mut seen = [0u16; machine::TABLE_ROOM];
     brute::put_family(p, next, &mut seen);
-    brute::is_ranked(p, brute::COVERED, given, &seen)
+    brute::is_ranked(p, Compared::Covered, given, &seen)
 }
 
 // Whether the table was written only by a turn that is finished: n entries, the ranks over the family.
@@ -79,273 +67,237 @@ fn table_fits(p: Pair, n: usize, finished: bool, given: &[u16], table: &[u16; 28
     if !finished {
         return is_kept(0, table);
     }
-    if !is_kept(n, table) {
-        return false;
-    }
-    brute::is_ranked(p, brute::RANKS, given, table)
+    is_kept(n, table) && brute::is_ranked(p, Compared::Ranks, given, table)
 }
 
-// Whether a turn said what brute force says, and left the family and the table that it has to leave.
-fn turn_agrees(
-    p: Pair,
-    k: Known,
-    said: Refusal,
-    family: &[u64; 448],
-    next: &[u64; 448],
-    table: &[u16; 28672],
-) -> bool
-    ensures { result ≡ turn_agrees p k said family.now next.now table.now }
-{
-    let plain = k.plain;
-    let same = same_rows(family, next);
-    if plain.number != 0 {
-        if !same_four(said, plain) {
+impl Known {
+    // Whether a turn said what brute force says, and left the family and the table that it has to leave.
+    fn turn_agrees(
+        &self,
+        said: Result<bool, Refusal>,
+        family: &[u64; 448],
+        next: &[u64; 448],
+        table: &[u16; 28672],
+    ) -> bool
+        ensures { result ≡ turn_agrees self.now said family.now next.now table.now }
+    {
+        let same = family == next;
+        if let Err(refusal) = self.plain {
+            return said == Err(refusal) && same && is_kept(0, table);
+        }
+        if said != Ok(same) {
             return false;
         }
-        if !same {
+        let mut given = [0u16; machine::TABLE_ROOM];
+        brute::put_family(self.pair, family, &mut given);
+        rows_fit(self.pair, &given, next) && table_fits(self.pair, self.entries, same, &given, table)
+    }
+
+    // One turn.
+    fn compare_turn(&self, family: &mut [u64; 448]) -> Step
+        ensures tally { result.tally ≡ turn_tally self.now family.old }
+        ensures finished { result.finished ≡ says_yes (turn_said self.now.pair family.old) }
+        ensures family { family.new ≡ turn_family self.now.pair family.old (length marks) }
+    {
+        let mut table = [MARK; machine::TABLE_ROOM];
+        let before = *family;
+        let said = progress::turn(self.pair, family, &mut table);
+        let finished = said.unwrap_or(false);
+        let agrees = self.turn_agrees(said, &before, family, &table);
+        Step {
+            tally: Tally::of_turn(finished, agrees),
+            finished,
+        }
+    }
+
+    // ---- Look-ups
+
+    // Whether a look-up's section, counted from 1, and states are in range.
+    fn in_range(&self, section: usize, c: usize, a: usize) -> bool
+        ensures { result ≡ in_range self.now section c a }
+    {
+        section != 0
+            && section <= usize::from(self.sections)
+            && c < usize::from(self.concretes)
+            && a < usize::from(self.abstractions)
+    }
+
+    // What a look-up has to say, where `given` covers what the family holds.
+    fn plain_look_up(
+        &self,
+        given: &[u16],
+        section: usize,
+        c: usize,
+        a: usize,
+    ) -> Result<bool, Refusal>
+        ensures { result ≡ plain_look_up self.now given.now section c a }
+    {
+        self.plain?;
+        if !self.in_range(section, c, a) {
+            return Err(Refusal::OutOfRange);
+        }
+        let nc = usize::from(self.concretes);
+        let na = usize::from(self.abstractions);
+        let e = machine::entry_index(nc, na, section - 1, c, a);
+        Ok(brute::value_at(given, e) != machine::BLANK)
+    }
+
+    // One look-up.
+    fn compare_look_up(
+        &self,
+        given: &[u16],
+        family: &[u64; 448],
+        section: usize,
+        c: usize,
+        a: usize,
+    ) -> Tally
+        ensures { result ≡ look_up_tally self.now given.now family.now section c a }
+    {
+        let said = progress::look_up(self.pair, family, section, c, a);
+        let plain = self.plain_look_up(given, section, c, a);
+        Tally::of_look_up(said.unwrap_or(false), said == plain)
+    }
+
+    // Every look-up of a family: sections, counted from 1, from 0 to one too many, and states up to one too many.
+    fn compare_look_ups(&self, family: &[u64; 448]) -> Tally
+        ensures { result ≡ look_ups_tally self.now family.now }
+    {
+        let mut given = [0u16; machine::TABLE_ROOM];
+        brute::put_family(self.pair, family, &mut given);
+        let row = usize::from(self.abstractions) + 1;
+        let section = (usize::from(self.concretes) + 1) * row;
+        let count = (usize::from(self.sections) + 2) * section;
+        total(count as u64, |x| {
+            let i = x as usize;
+            self.compare_look_up(&given, family, i / section, i % section / row, i % row)
+        })
+    }
+
+    // ---- Families
+
+    // The turn of one family, and its look-ups.
+    fn compare_family(&self, family: &mut [u64; 448]) -> Step
+        ensures tally { result.tally ≡ family_tally self.now family.old }
+        ensures finished { result.finished ≡ says_yes (turn_said self.now.pair family.old) }
+        ensures family { family.new ≡ turn_family self.now.pair family.old (length marks) }
+    {
+        let looked_up = self.compare_look_ups(family);
+        let step = self.compare_turn(family);
+        Step {
+            tally: step.tally + looked_up,
+            finished: step.finished,
+        }
+    }
+
+    // The first `count` families of all, whose rows are digits from 0 to `row`.
+    fn compare_families(&self, row: u32, count: u64) -> Tally
+        ensures { result ≡ families_tally self.now row count }
+    {
+        total(count, |x| {
+            let mut family = brute::numbered_family(self.sections, self.concretes, row, x);
+            self.compare_family(&mut family).tally
+        })
+    }
+
+    // ---- From the first to the finish
+
+    // Whether a first family has all matched pairs in every section and no stray bits.
+    fn first_fits(&self, family: &[u64; 448]) -> bool
+        ensures { result ≡ first_fits self.now family.now }
+    {
+        if !brute::holds_pairs(self.pair, family) {
             return false;
         }
-        return is_kept(0, table);
+        let mut seen = [0u16; machine::TABLE_ROOM];
+        brute::put_family(self.pair, family, &mut seen);
+        let mut matched = [0u16; machine::TABLE_ROOM];
+        brute::put_family(self.pair, &[u64::MAX; 448], &mut matched);
+        is_within(self.entries, &matched, &seen)
     }
-    if !same_four(said, answered_four(same)) {
-        return false;
-    }
-    let mut given = [0u16; machine::TABLE_ROOM];
-    brute::put_family(p, family, &mut given);
-    if !rows_fit(p, &given, next) {
-        return false;
-    }
-    table_fits(p, k.entries, same, &given, table)
-}
 
-// One turn.
-fn compare_turn(p: Pair, k: Known, family: [u64; 448]) -> Step
-    ensures tally { result.tally ≡ turn_tally p k family }
-    ensures finished { result.finished ≡ says_yes (turn_said p family) }
-    ensures family { result.family ≡ turn_family p family (length marks) }
-{
-    let mut table = [MARK; machine::TABLE_ROOM];
-    let made = progress::turn(p, family, &mut table);
-    let answer = made.said;
-    let next = made.family;
-    let said = turned_four(answer);
-    let finished = says_yes(said);
-    let agrees = turn_agrees(p, k, said, &family, &next, &table);
-    Step {
-        tally: of_turn(finished, agrees),
-        finished,
-        family: next,
+    // Whether the first family is given, and fits, or refused as brute force says.
+    fn first_agrees(&self) -> bool
+        ensures { result ≡ first_agrees self.now }
+    {
+        match progress::first_family(self.pair) {
+            Ok(family) => self.plain.is_ok() && self.first_fits(&family),
+            Err(refusal) => self.plain == Err(refusal),
+        }
     }
-}
 
-// ---- Look-ups
+    // Whether a turn after the finish is finished too, and writes the solver's entries.
+    fn end_agrees(&self, family: &mut [u64; 448], solved: &[u16]) -> bool
+        ensures { result ≡ end_agrees self.now.pair self.now.entries family.old solved.now }
+    {
+        let mut table = [MARK; machine::TABLE_ROOM];
+        let said = progress::turn(self.pair, family, &mut table);
+        said.unwrap_or(false) && same_entries(self.entries, &table, solved)
+    }
 
-// Whether a look-up's section, counted from 1, and states are in range.
-fn in_range(k: Known, section: usize, c: usize, a: usize) -> bool
-    ensures { result ≡ in_range k section c a }
-{
-    if section == 0 {
-        return false;
+    // The families from the first to the finish, which comes after at most n x P + 1 turns and with the solver's table.
+    fn compare_walk(&self, solved: &[u16]) -> Tally
+        requires { self.now.entries ≤ table_room }
+        ensures { result ≡ walk_tally self.now solved.now }
+    {
+        let Ok(mut family) = progress::first_family(self.pair) else {
+            return Tally::of_test(false);
+        };
+        let mut sum = Tally::default();
+        for _ in 0..self.entries + 1 {
+            let step = self.compare_family(&mut family);
+            sum = sum + step.tally;
+            if step.finished {
+                return sum + Tally::of_test(self.end_agrees(&mut family, solved));
+            }
+        }
+        sum + Tally::of_test(false)
     }
-    if section > k.sections as usize {
-        return false;
-    }
-    if c >= k.concretes as usize {
-        return false;
-    }
-    a < k.abstractions as usize
-}
-
-// What a look-up has to say, where `given` covers what the family holds.
-fn plain_look_up(k: Known, given: &[u16], section: usize, c: usize, a: usize) -> Refusal
-    ensures { result ≡ plain_look_up k given.now section c a }
-{
-    let plain = k.plain;
-    if plain.number != 0 {
-        return plain;
-    }
-    if !in_range(k, section, c, a) {
-        return machine::refuse(machine::OUT_OF_RANGE, 0, 0, 0);
-    }
-    let e = machine::entry_index(
-        k.concretes as usize,
-        k.abstractions as usize,
-        section - 1,
-        c,
-        a,
-    );
-    answered_four(brute::value_at(given, e) != machine::BLANK)
-}
-
-// One look-up.
-fn compare_look_up(
-    p: &Pair,
-    k: Known,
-    given: &[u16],
-    family: &[u64; 448],
-    section: usize,
-    c: usize,
-    a: usize,
-) -> Tally
-    ensures { result ≡ look_up_tally p.now k given.now family.now section c a }
-{
-    let said = looked_four(progress::look_up(*p, *family, section, c, a));
-    let plain = plain_look_up(k, given, section, c, a);
-    of_look_up(says_yes(said), same_four(said, plain))
-}
-
-// Every look-up of a family: sections, counted from 1, from 0 to one too many, and states up to one too many.
-fn compare_look_ups(p: Pair, k: Known, family: [u64; 448]) -> Tally
-    ensures { result ≡ look_ups_tally p k family }
-{
-    let mut given = [0u16; machine::TABLE_ROOM];
-    brute::put_family(p, &family, &mut given);
-    let row = k.abstractions as usize + 1;
-    let section = (k.concretes as usize + 1) * row;
-    let mut sum = none();
-    for i in 0..(k.sections as usize + 2) * section {
-        let c = i % section / row;
-        sum = add(
-            sum,
-            compare_look_up(&p, k, &given, &family, i / section, c, i % row),
-        );
-    }
-    sum
-}
-
-// ---- Families
-
-// The turn of one family, and its look-ups.
-fn compare_family(p: Pair, k: Known, family: [u64; 448]) -> Step
-    ensures tally { result.tally ≡ family_tally p k family }
-    ensures finished { result.finished ≡ says_yes (turn_said p family) }
-    ensures family { result.family ≡ turn_family p family (length marks) }
-{
-    let step = compare_turn(p, k, family);
-    let turned = step.tally;
-    let next = step.family;
-    Step {
-        tally: add(turned, compare_look_ups(p, k, family)),
-        finished: step.finished,
-        family: next,
-    }
-}
-
-// The first `count` families of all, whose rows are digits from 0 to `row`.
-fn compare_families(p: Pair, k: Known, row: u32, count: u64) -> Tally
-    ensures { result ≡ families_tally p k row count }
-{
-    let mut sum = none();
-    for x in 0..count {
-        let family = brute::numbered_family(k.sections, k.concretes, row, x);
-        let step = compare_family(p, k, family);
-        sum = add(sum, step.tally);
-    }
-    sum
-}
-
-// ---- From the first to the finish
-
-// Whether the first family has all matched pairs in every section and no stray bits; beside a refusal it has no bits.
-fn first_agrees(p: Pair, k: Known) -> bool
-    ensures { result ≡ first_agrees p k }
-{
-    let first = progress::first_family(p);
-    let valid = first.validity;
-    let family = first.family;
-    let plain = k.plain;
-    if !same_four(tested_four(valid), plain) {
-        return false;
-    }
-    if plain.number != 0 {
-        return same_rows(&family, &[0; 448]);
-    }
-    if !brute::holds_pairs(p, &family) {
-        return false;
-    }
-    let mut seen = [0u16; machine::TABLE_ROOM];
-    brute::put_family(p, &family, &mut seen);
-    let mut matched = [0u16; machine::TABLE_ROOM];
-    brute::put_family(p, &[18446744073709551615; 448], &mut matched);
-    is_within(k.entries, &matched, &seen)
 }
 
 // Whether two tables have the same n entries.
 fn same_entries(n: usize, x: &[u16], y: &[u16]) -> bool
     ensures { result ≡ same_entries n x.now y.now }
 {
-    for e in 0..n {
-        if brute::value_at(x, e) != brute::value_at(y, e) {
-            return false;
-        }
-    }
-    true
-}
-
-// Whether a turn after the finish is finished too, and writes the solver's n entries.
-fn end_agrees(p: Pair, n: usize, family: [u64; 448], solved: &[u16]) -> bool
-    ensures { result ≡ end_agrees p n family solved.now }
-{
-    let mut table = [MARK; machine::TABLE_ROOM];
-    let made = progress::turn(p, family, &mut table);
-    let answer = made.said;
-    if !says_yes(turned_four(answer)) {
-        return false;
-    }
-    same_entries(n, &table, solved)
-}
-
-// The families from the first to the finish, which comes after at most n x P + 1 turns and with the solver's table.
-fn compare_walk(p: Pair, k: Known, solved: &[u16]) -> Tally
-    requires { k.entries ≤ table_room }
-    ensures { result ≡ walk_tally p k solved.now }
-{
-    let first = progress::first_family(p);
-    let mut family = first.family;
-    let mut sum = none();
-    for _ in 0..k.entries + 1 {
-        let step = compare_family(p, k, family);
-        let next = step.family;
-        sum = add(sum, step.tally);
-        if step.finished {
-            return add(sum, of_test(end_agrees(p, k.entries, next, solved)));
-        }
-        family = next;
-    }
-    add(sum, of_test(false))
+    (0..n).all(|e| brute::value_at(x, e) == brute::value_at(y, e))
 }
 
 // A pair that the solver takes, with its table: the first family, those up to the finish, and the first `count` of all.
-pub fn compare_turns(p: Pair, plain: Refusal, row: u32, count: u64, solved: &[u16]) -> Tally
+pub fn compare_turns(
+    p: Pair,
+    plain: Result<(), Refusal>,
+    row: u32,
+    count: u64,
+    solved: &[u16],
+) -> Tally
     requires { well_formed p ≡ true }
     ensures { result ≡ turns_tally p plain row count solved.now }
 {
     let concrete = p.concrete;
     let abstraction = p.abstraction;
-    let k = Known {
+    let known = Known {
+        pair: p,
         plain,
         entries: abstraction.sets * (concrete.states * abstraction.states),
         sections: abstraction.sets as u8,
         concretes: concrete.states as u8,
         abstractions: abstraction.states as u8,
     };
-    let first = of_test(first_agrees(p, k));
-    let walk = compare_walk(p, k, solved);
-    add(add(first, walk), compare_families(p, k, row, count))
+    let first = Tally::of_test(known.first_agrees());
+    first + known.compare_walk(solved) + known.compare_families(row, count)
 }
 
 // A pair that the solver refuses: the first family, and one of which each row has two bits.
-pub fn compare_stopped(p: Pair, plain: Refusal) -> Tally
+pub fn compare_stopped(p: Pair, plain: Result<(), Refusal>) -> Tally
     ensures { result ≡ stopped_tally p plain }
 {
-    let k = Known {
+    let known = Known {
+        pair: p,
         plain,
         entries: 0,
         sections: 0,
         concretes: 0,
         abstractions: 0,
     };
-    let first = of_test(first_agrees(p, k));
-    let step = compare_family(p, k, [5; 448]);
-    add(first, step.tally)
+    let step = known.compare_family(&mut [5; 448]);
+    Tally::of_test(known.first_agrees()) + step.tally
 }
