@@ -5,15 +5,15 @@
 #![tactic(auto)]
 
 ghost use Rattle.std.specs.Prelude.{true, ◌≡◌, ◌<◌, ◌≤◌, length, get_or, eqb, Ok};
-ghost use Rattle.mask.specs.Logic.{not};
+ghost use Rattle.mask.specs.Logic.{not, and};
 ghost use Rattle.mask.specs.Bounded.{count, below};
-ghost use Rattle.machine.specs.Machines.{n_c};
+ghost use Rattle.machine.specs.Machines.{n_c, starts};
 ghost use Rattle.machine.specs.WellFormed.{has_empty_set, well_formed};
 ghost use Rattle.machine.specs.Ranks.{level_of, set_of};
 ghost use Rattle.machine.specs.Table.{blank, table_room};
 ghost use Rattle.machine.specs.Lines.{lines_validity};
 ghost use Rattle.machine.specs.Observed.{matched_masks};
-ghost use Rattle.machine.specs.Verdict.{lacking_start, start_verdict, verdict_of, empty_set_of, check_verdict, check_empty_set};
+ghost use Rattle.machine.specs.Verdict.{start_covered, lacking_start, start_verdict, verdict_of, empty_set_of, check_verdict, check_empty_set};
 ghost use Rattle.linecheck.specs.Bounds.{line_of};
 ghost use Rattle.linecheck.specs.Reciprocal.{reciprocal_of};
 
@@ -178,7 +178,7 @@ fn lines_validity(p: Pair, matched: [u64; 64], table: &[u16]) -> Result<(), Refu
             }
         }
     }
-    Ok
+    answer
 }
 
 // How many of the first `entries` entries are not blank.
@@ -186,41 +186,32 @@ fn covered_count(table: &[u16], entries: usize) -> usize
     requires { entries ≤ length table.now }
     ensures { result ≡ count entries (λ e. not (eqb (get_or table.now e 0) blank)) }
 {
-    let mut found: usize = 0;
-    for e in 0..entries {
-        if table[e] != machine::BLANK {
-            found += 1;
-        }
-    }
-    found
+    table[..entries]
+        .iter()
+        .filter(|e| **e != machine::BLANK)
+        .count()
 }
 
-// The lowest concrete start state without an abstract start state beside it that is not blank in section 1.
+// Whether c is a concrete start state without an abstract start state beside it that is not blank in section 1.
+fn lacks_partner(p: &Pair, table: &[u16], c: usize) -> bool
+    requires { (well_formed p.now ≡ true) × ((table_room ≤ length table.now) × (c < n_c p.now)) }
+    ensures { result ≡ and (starts p.now.concrete c) (not (start_covered p.now table.now c)) }
+{
+    if !mask::has(p.concrete.start, c) {
+        return false;
+    }
+    let na = p.abstraction.states;
+    let start = p.abstraction.start;
+    let from = machine::entry_index(p.concrete.states, na, 0, c, 0);
+    !machine::has_partner(start, start, &table[from..from + na], machine::BLANK - 1)
+}
+
+// The lowest such state.
 fn lacking_start(p: Pair, table: &[u16]) -> Option<usize>
     requires { (well_formed p ≡ true) × (table_room ≤ length table.now) }
     ensures { result ≡ below (n_c p) (lacking_start p table.now) }
 {
-    let concrete = p.concrete;
-    let abstraction = p.abstraction;
-    // for the loop's invariant alone, which speaks of the pair
-    let hidden = p.hidden;
-    let nc = concrete.states;
-    let na = abstraction.states;
-    for c in 0..nc {
-        if mask::has(concrete.start, c) {
-            let from = machine::entry_index(nc, na, 0, c, 0);
-            let to = from + na;
-            if !machine::has_partner(
-                abstraction.start,
-                abstraction.start,
-                &table[from..to],
-                machine::BLANK - 1,
-            ) {
-                return Some(c);
-            }
-        }
-    }
-    None
+    (0..p.concrete.states).find(|c| lacks_partner(&p, table, *c))
 }
 
 // The check: what the table says of the pair, or where it was stopped.

@@ -17,7 +17,7 @@ use Rattle.mask.specs.Bounded.{every_in}
 use Rattle.mask.specs.BoundedLaws.{every_at, every_of, every_in_zero}
 use Rattle.mask.specs.WalkLaws.{every_in_hit, every_in_miss}
 use Rattle.machine.specs.declared.Pair.{Pair}
-use Rattle.machine.specs.Refusals.{tested_of}
+use Rattle.machine.specs.declared.Refusal.TheVariants.{FailingEntry}
 use Rattle.machine.specs.Machines.{n_c, n_a, sets_a}
 use Rattle.machine.specs.WellFormedLaws.{WellPair, well_pair, pairs_small, ranks_small}
 use Rattle.machine.specs.Step.{single_step, in_row, found}
@@ -108,10 +108,10 @@ told c present entries =
 -- the first entry that fails is where the loops are left, with its spot
 stopped : (c : After-line_of-line)
     → let x = c.args in
-    passes x.p x.table.now c.lines.j c.loop-c.c c.loop-a.a ≡ false → Err c.refuse-spot.result ≡ lines_validity x.p x.table.now
+    passes x.p x.table.now c.lines.j c.loop-c.c c.loop-a.a ≡ false → Err (FailingEntry (c.lines.j + 1) c.loop-c.c c.loop-a.a) ≡ lines_validity x.p x.table.now
 stopped c e =
     let x = c.args in
-    ap Err c.refuse-spot.ensures ∙ rw add-one (sym (lines_fail x.p x.table.now c.lines.j c.loop-c.c c.loop-a.a c.lines-test.true c.loop-c-test.true c.loop-a-test.true e
+    rw add-one (sym (lines_fail x.p x.table.now c.lines.j c.loop-c.c c.loop-a.a c.lines-test.true c.loop-c-test.true c.loop-a-test.true e
     c.lines.invariant.0 c.loop-c.invariant.0 c.loop-a.invariant.0))
 
 pub overflow_mul-most : goal.overflow_mul-most
@@ -134,9 +134,6 @@ offset_bounds-table-at c = omega (arith, place_in (goal.at.offset_bounds-table-a
 
 pub bounds-table-at : goal.bounds-table-at
 bounds-table-at c = place_in (goal.at.bounds-table-at c).After-entry_index-at
-
-pub overflow_add-j : goal.overflow_add-j
-overflow_add-j c = omega (arith, (well_pair c.args.p c.requires.0).abstraction.sets_high)
 
 pub offset_bounds-matched-c : goal.offset_bounds-matched-c
 offset_bounds-matched-c c = omega (arith, (well_pair c.args.p c.requires.0).concrete.states_high)
@@ -238,15 +235,13 @@ lines-preserved c = (
 )
 
 pub returns-after-lines : goal.returns-after-lines
-unfolding tested_of
 returns-after-lines c =
     let x = c.args in
     let i = c.lines.invariant in
-    ap tested_of i.1
+    i.1
     ∙ sym (lines_valid x.p x.table.now (each_of x.p x.table.now (λ j k a hj hk ha. every_at _ _ (every_at _ _ (i.0 j (omega arith)) k hk) a ha)))
 
 pub returns-then-not-line : goal.returns-then-not-line
-unfolding tested_of
 returns-then-not-line c =
     let x = c.args in
     stopped (goal.at.returns-then-not-line c).After-line_of-line
@@ -255,7 +250,6 @@ returns-then-not-line c =
     c.loop-a-test.true c.if-e.true c.line_of-line.ensures (not-true _ c.if-not-line.true))
 
 pub returns-then-not-has_partner : goal.returns-then-not-has_partner
-unfolding tested_of
 returns-then-not-has_partner c =
     let p = c.args.p in
     let L = c.line_of-line.result in
