@@ -1,11 +1,14 @@
 -- Laws of the solver's whole result, and of a turn's.
-use Rattle.std.specs.Prelude.{List, ◌++◌, ◌≡◌, ℕ, ◌≤◌, length, drop, Err}
+use Rattle.std.specs.Prelude.{true, List, ◌++◌, ◌≡◌, ℕ, ◌≤◌, length, drop, Err, ltb}
 use Rattle.std.proofs.Math.Path.{sym}
 use Rattle.machine.specs.declared.Pair.{Pair}
 use Rattle.machine.specs.declared.Refusal.{Refusal}
 use Rattle.machine.specs.Refusals.{valid, buffer_validity}
-use Rattle.machine.specs.RefusalsLaws.{then_of, then_refused, buffer_valid, buffer_made, buffer_kept, state_made, state_kept}
-use Rattle.machine.specs.WellFormed.{nonempty_validity}
+use Rattle.machine.specs.RefusalsLaws.{then_of, then_refused, then_answer, valid_next, buffer_valid, buffer_made, buffer_kept, state_made, state_kept}
+use borrow.Author.Tests.{ltb-false}
+use Rattle.machine.specs.WellFormed.{well_formed, nonempty_validity}
+use Rattle.machine.specs.WellFormedLaws.{valid_is_well}
+use Rattle.machine.specs.EmptySetsLaws.{nonempty_at}
 use Rattle.machine.specs.Table.{table_room}
 use Rattle.machine.specs.Ranks.{rank_table, solver_table}
 use Rattle.solver.specs.Families.{family_in, turn_rows}
@@ -20,6 +23,13 @@ module _ (p : Pair) where
   pub solve_long : (len : ℕ) → table_room ≤ len → solve_validity p len ≡ nonempty_validity p
   unfolding solve_validity
   solve_long len h = then_of _ _ (buffer_valid table_room len h)
+
+  -- a pair that passes is well formed, and the table long enough
+  pub solve_passed : (len : ℕ) → solve_validity p len ≡ valid → (well_formed p ≡ true) × (table_room ≤ len)
+  unfolding solve_validity buffer_validity
+  solve_passed len e =
+      let t = then_answer (buffer_validity table_room len) _ e in
+      (valid_is_well p (nonempty_at p t.1).0, ltb-false len table_room (valid_next (ltb len table_room) _ _ t.0).0)
 
   pub solved_refused : (T : List ℕ) (r : Refusal) → solve_validity p (length T) ≡ Err r → T ≡ solved_table p T
   unfolding solved_table

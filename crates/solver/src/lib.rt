@@ -281,15 +281,22 @@ fn rank_all(p: Pair, table: &mut [u16])
     sweeps(p, &matched, &dependents, &predecessors, table);
 }
 
+// All that is tested before anything is written.
+fn tests(p: Pair, room: usize) -> Result<(), Refusal>
+    ensures { result ≡ solve_validity p room }
+{
+    if room < machine::TABLE_ROOM {
+        return Err(Refusal::ShortBuffer);
+    }
+    validity::pair_validity(p, Sets::Nonempty)
+}
+
 // Writes the ranks of two machines into a lent table of 28,672 entries or more: exactly n x P entries, and none beside a refusal.
 pub fn solve(p: Pair, table: &mut [u16]) -> Result<(), Refusal>
     ensures answer { result ≡ solve_validity p (length table.old) }
     ensures content { table.new ≡ solved_table p table.old }
 {
-    if table.len() < machine::TABLE_ROOM {
-        return Err(Refusal::ShortBuffer);
-    }
-    validity::pair_validity(p, Sets::Nonempty)?;
+    tests(p, table.len())?;
     rank_all(p, table);
     Ok(())
 }
@@ -418,19 +425,12 @@ fn turn_all(p: Pair, family: [u64; 448], table: &mut [u16]) -> [u64; 448]
 
 // Makes of a family of any rows the family of the turn after it, and the ranks over it in a lent table of 28,672 entries or more, exactly n x P of
 // them. Beside a refusal both stay as they were.
-pub fn turn_family(
-    p: Pair,
-    family: &mut [u64; 448],
-    table: &mut [u16],
-) -> Result<(), Refusal>
+pub fn turn_family(p: Pair, family: &mut [u64; 448], table: &mut [u16]) -> Result<(), Refusal>
     ensures answer { result ≡ solve_validity p (length table.old) }
     ensures family { family.new ≡ turned_family p family.old (length table.old) }
     ensures content { table.new ≡ turned_table p family.old table.old }
 {
-    if table.len() < machine::TABLE_ROOM {
-        return Err(Refusal::ShortBuffer);
-    }
-    validity::pair_validity(p, Sets::Nonempty)?;
+    tests(p, table.len())?;
     *family = turn_all(p, *family, table);
     Ok(())
 }
