@@ -1,6 +1,7 @@
 -- When two answers are the same, as tests: refusals by their four numbers, other answers by what is answered. AnswersLaws has that each is true exactly
 -- where the two are one.
 use Rattle.std.specs.Prelude.{Bool, true, false, ◌==◌, List, ℕ, bytes_eq, Ok, Err}
+use Rattle.std.specs.Result.{result_unwrap_or}
 use Rattle.std.proofs.Math.Bool.{beq}
 use Rattle.mask.specs.Logic.{and}
 use Rattle.machine.specs.declared.Pair.{Pair}
@@ -44,6 +45,5 @@ unfoldable pub check_answer : Pair → List ℕ → Answer Checked
 check_answer p T = pass_on (check_verdict p T) (λ v. Ok (record { verdict = v; empty_set = has_empty_set p.concrete }))
 
 -- yes: a turn is finished, a pair is still in
-unfoldable pub says_yes : Answer Bool → Bool
-says_yes (Ok b) = b
-says_yes (Err r) = false
+abbrev pub says_yes : Answer Bool → Bool
+says_yes x = result_unwrap_or x false

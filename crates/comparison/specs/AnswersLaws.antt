@@ -1,6 +1,6 @@
 -- Laws of answers that are compared.
 use Rattle.std.specs.Prelude.{◌≡◌, refl, Bool, true, false, cond, ◌==◌, ℕ, List, [], ◌∷◌, bytes_eq, Ok, Err}
-use Rattle.std.specs.Bool.{Decides, one_answer}
+use Rattle.std.specs.Bool.{Decides}
 use Rattle.std.specs.Cmp.{booleans_Decides}
 use Rattle.std.proofs.Common.{sym, ap, ◌∙◌}
 use Rattle.std.proofs.Math.Bool.{beq}
@@ -105,10 +105,6 @@ answers_same d (Ok a) (Ok b) = (λ h. ap Ok ((d a b).0 h), λ e. (d a b).1 (answ
 answers_same d (Ok a) (Err s) = (λ h. absurd (clash refl h), λ e. absurd (refused_not_answer (sym e)))
 answers_same d (Err r) (Ok b) = (λ h. absurd (clash refl h), λ e. absurd (refused_not_answer e))
 answers_same d (Err r) (Err s) = (λ h. ap Err ((refusals_same r s).0 h), λ e. (refusals_same r s).1 (refused_is e))
-
--- what `==` of the code says of two answers
-pub told_same : {A : Type 0} {f : A → A → Bool} {x y : Answer A} {r : Bool} → ((a b : A) → Decides (f a b) (a ≡ b)) → Decides r (x ≡ y) → r ≡ same_answer f x y
-told_same {x = x} {y = y} d e = one_answer _ _ e (answers_same d x y)
 
 -- ---- the check's answer, by its parts
 pub check_parts : (p : Pair) (T : List ℕ) (x : Answer Checked) → verdict_of x ≡ check_verdict p T → empty_set_of x ≡ check_empty_set p T → x ≡ check_answer p T

@@ -1,16 +1,18 @@
 -- The player beside the rule, on numbered lassos.
-use Rattle.std.specs.Prelude.{ℕ, ◌+◌, ◌*◌, ◌/◌, ◌%◌, min, Bool, cond, List, length, take, drop, ◌==◌, nat_eq, nat_le, slice_index}
+use Rattle.std.specs.Prelude.{ℕ, ◌+◌, ◌*◌, ◌/◌, ◌%◌, min, Bool, cond, List, length, take, drop, true, ◌==◌, nat_eq, nat_le, slice_index, Ok, Err}
+use Rattle.std.specs.Result.{is_ok}
 use Rattle.mask.specs.Bounded.{every}
-use Rattle.mask.specs.Logic.{not, and, or}
+use Rattle.mask.specs.Logic.{and}
 use Rattle.machine.specs.declared.Pair.{Pair}
-use Rattle.machine.specs.declared.Refusal.{Refusal}
+use Rattle.machine.specs.declared.Run.{Run}
+use Rattle.machine.specs.Refusals.{Answer}
 use Rattle.machine.specs.Machines.{observation, same_observation}
 use Rattle.machine.specs.WellFormed.{well_formed}
 use Rattle.machine.specs.Lassos.{Lasso, moment, is_play, given}
 use Rattle.machine.specs.Player.{place_at, player_answer, player_buffer, play_answer}
 use Rattle.brute.specs.Numbers.{states_of}
 use Rattle.comparison.specs.declared.tally.Tally.{Tally}
-use Rattle.comparison.specs.Answers.{played_four, same_four}
+use Rattle.comparison.specs.Answers.{same_answer, same_run}
 use Rattle.comparison.specs.Tallies.{total, of_lasso}
 use Rattle.comparison.specs.Tables.{zeros}
 
@@ -27,15 +29,20 @@ run_fits p T l B s q =
     (and (and (well_formed p) (every (s + q) (λ t. nat_eq (slice_index B t) (place_at p T l t).state)))
     (and (is_play p.abstraction k) (same_moments p l k (s + q))))
 
+-- if there is a run, that in B fits
+unfoldable pub answer_fits : Pair → List ℕ → Lasso → List ℕ → Answer Run → Bool
+answer_fits p T l B (Ok r) = run_fits p T l B r.stem r.cycle
+answer_fits p T l B (Err r) = true
+
 -- two answers are the same, and the run in B fits if there is one
-unfoldable pub lasso_agrees : Pair → List ℕ → Lasso → List ℕ → Refusal → Refusal → Bool
-lasso_agrees p T l B x y = and (same_four x y) (or (not (x.number == 0)) (run_fits p T l B x.first x.second))
+unfoldable pub lasso_agrees : Pair → List ℕ → Lasso → List ℕ → Answer Run → Answer Run → Bool
+lasso_agrees p T l B x y = and (same_answer same_run x y) (answer_fits p T l B x)
 
 -- one lasso, with a buffer of zeros
 unfoldable pub lasso_tally : Pair → List ℕ → Lasso → Tally
 lasso_tally p T l =
-    let v = played_four (player_answer p T l zeros) in
-    of_lasso (v.number == 0) (lasso_agrees p T l (player_buffer p T l zeros) v (played_four (play_answer p T l)))
+    let v = player_answer p T l zeros in
+    of_lasso (is_ok v) (lasso_agrees p T l (player_buffer p T l zeros) v (play_answer p T l))
 
 -- lasso number x of a stem of s states and a loop of q: its states are the digits of x, from 0 to `top`
 unfoldable pub numbered_lasso : ℕ → ℕ → ℕ → ℕ → Lasso

@@ -6,8 +6,7 @@ pub mod Lassos
 pub mod Turns
 pub mod Pairs
 -- laws
-pub mod TalliesLaws
-pub mod PairsLaws
-pub mod LassosLaws
+pub mod AnswersLaws
 pub mod TablesLaws
-pub mod TurnsLaws
+pub mod LassosLaws
+pub mod TalliesLaws

@@ -12,7 +12,7 @@ use Rattle.brute.specs.Ranking.{table_ranked}
 use Rattle.comparison.specs.declared.pairs.Series.{Series}
 use Rattle.comparison.specs.declared.pairs.Trial.{Trial}
 use Rattle.comparison.specs.declared.tally.Tally.{Tally}
-use Rattle.comparison.specs.Answers.{tested_four, same_four}
+use Rattle.comparison.specs.Answers.{same_answer, same_unit}
 use Rattle.comparison.specs.Tallies.{nothing, plus, total, of_pair, of_solution, of_unsolved}
 use Rattle.comparison.specs.Tables.{zeros, within, table_tally, tried_table}
 use Rattle.comparison.specs.Lassos.{lassos_tally}
@@ -52,8 +52,8 @@ module _ (t : Trial) where
   unfoldable pub pair_tally : Pair → Tally
   pair_tally p =
       let v = solve_validity p (length zeros) in
-      let rule = tested_four (nonempty_validity p) in
-      let tried = of_pair (same_four (tested_four v) rule) in
+      let rule = nonempty_validity p in
+      let tried = of_pair (same_answer same_unit v rule) in
       let S = solved_table p zeros in
       let solved = plus (plus tried (turns_tally p rule t.row t.families S)) (formed_tally p true S) in
       cond (is_valid v) solved (plus (plus tried (stopped_tally p rule)) (unsolved_tally p))

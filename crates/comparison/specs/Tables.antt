@@ -1,15 +1,19 @@
 -- The check beside the plain reading, on numbered tables.
-use Rattle.std.specs.Prelude.{ℕ, ◌+◌, ◌/◌, ◌%◌, Bool, cond, List, length, replicate, ◌==◌, nat_le, nat_lt, slice_index}
+use Rattle.std.specs.Prelude.{ℕ, ◌+◌, ◌/◌, ◌%◌, Bool, true, false, cond, List, length, replicate, ◌==◌, nat_lt, slice_index, Ok, Err}
+use Rattle.std.specs.Result.{is_ok}
 use Rattle.mask.specs.Bounded.{every}
 use Rattle.mask.specs.Logic.{not, and, or}
 use Rattle.mask.specs.Tables.{table}
 use Rattle.machine.specs.declared.Pair.{Pair}
-use Rattle.machine.specs.declared.Refusal.{Refusal}
+use Rattle.machine.specs.declared.Checked.{Checked}
+use Rattle.machine.specs.declared.Verdict.{Verdict}
+use Rattle.machine.specs.declared.Verdict.TheVariants.{Carried, NotCarried}
+use Rattle.machine.specs.Refusals.{Answer}
 use Rattle.machine.specs.Table.{blank, table_room}
-use Rattle.machine.specs.Verdict.{check_verdict, check_empty_set}
+use Rattle.machine.specs.Verdict.{empty_set_of}
 use Rattle.brute.specs.Numbers.{entry_of, numbered_table}
 use Rattle.comparison.specs.declared.tally.Tally.{Tally}
-use Rattle.comparison.specs.Answers.{verdict_four, same_four, says_empty}
+use Rattle.comparison.specs.Answers.{same_answer, same_checked, check_answer}
 use Rattle.comparison.specs.Tallies.{of_table}
 
 -- a table or a run's buffer, as it is lent; both have the same room
@@ -20,16 +24,25 @@ zeros = replicate table_room 0
 unfoldable pub within : ℕ → List ℕ → List ℕ → Bool
 within n T S = every n (λ e. or (slice_index T e == blank) (not (slice_index S e == blank)))
 
+unfoldable pub is_carried : Verdict → Bool
+is_carried (Carried count) = true
+is_carried (NotCarried c count) = false
+
+-- what is said of a table: that it is Carried
+unfoldable pub says_carried : Answer Checked → Bool
+says_carried (Ok c) = is_carried c.verdict
+says_carried (Err r) = false
+
 -- two answers about T are the same, and S covers it if it passes
-unfoldable pub table_agrees : ℕ → Refusal → Refusal → List ℕ → List ℕ → Bool
-table_agrees n x y S T = and (same_four x y) (or (nat_lt x.number 100) (within n T S))
+unfoldable pub table_agrees : ℕ → Answer Checked → Answer Checked → List ℕ → List ℕ → Bool
+table_agrees n x y S T = and (same_answer same_checked x y) (or (not (is_ok x)) (within n T S))
 
 -- one table T of n entries, S being the solver's, or of a pair that the solver refuses the lifted one; the contracts of check and plain reading
 -- have the same answer
 unfoldable pub table_tally : Pair → ℕ → List ℕ → List ℕ → Tally
 table_tally p n S T =
-    let v = verdict_four (check_verdict p T) (check_empty_set p T) in
-    of_table (nat_le 100 v.number) (v.number == 100) (says_empty v) (table_agrees n v v S T)
+    let v = check_answer p T in
+    of_table (is_ok v) (says_carried v) (empty_set_of v) (table_agrees n v v S T)
 
 -- the n entries of S, entry x / (top + 1) changed to what digit x % (top + 1) stands for, laid over the front of T
 unfoldable pub altered : ℕ → ℕ → ℕ → List ℕ → List ℕ → List ℕ

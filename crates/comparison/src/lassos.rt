@@ -17,7 +17,7 @@ struct Lasso<'a> {
 // Whether the front of a buffer is the rule's run, and with its stem a fair lasso of the abstract machine from a start state, with the
 // lasso's observations in the bits that are not hidden.
 fn run_fits(p: Pair, table: &[u16], lasso: Lasso, buffer: &[u8], run: Run) -> bool
-    ensures { result ≡ run_fits p table.now (given lasso.stem.now lasso.cycle.now) buffer.now run.stem run.cycle }
+    ensures { result ≡ run_fits p table.now (given lasso.entry.stem.now lasso.entry.cycle.now) buffer.now run.stem run.cycle }
 {
     if buffer.len() < run.stem || buffer.len() - run.stem < run.cycle {
         return false;
@@ -48,7 +48,7 @@ fn lasso_agrees(
     answer: Result<Run, Refusal>,
     plain: Result<Run, Refusal>,
 ) -> bool
-    ensures { result ≡ lasso_agrees p table.now (given lasso.stem.now lasso.cycle.now) buffer.now answer plain }
+    ensures { result ≡ lasso_agrees p table.now (given lasso.entry.stem.now lasso.entry.cycle.now) buffer.now answer plain }
 {
     answer == plain
         && match answer {
@@ -59,7 +59,7 @@ fn lasso_agrees(
 
 // One lasso.
 fn compare_lasso(p: Pair, table: &[u16], lasso: Lasso) -> Tally
-    ensures { result ≡ lasso_tally p table.now (given lasso.stem.now lasso.cycle.now) }
+    ensures { result ≡ lasso_tally p table.now (given lasso.entry.stem.now lasso.entry.cycle.now) }
 {
     let mut buffer = [0u8; player::RUN_ROOM];
     let answer = player::play(p, table, lasso.stem, lasso.cycle, &mut buffer);

@@ -1,20 +1,16 @@
 -- The invariant: the sum of the first x tables, and that a table laid over the used buffer is the one laid over the first.
-use Rattle.std.proofs.Common.{◌≡◌, ℕ, sym, ◌∙◌, arith, rules}
+use Rattle.std.proofs.Common.{◌≡◌, sym, ◌∙◌, arith, rules}
 use lib.ListN.{length-replicate}
+use Rattle.std.specs.Prelude.{ℕ}
 use Rattle.machine.specs.Table.{table_room}
+use Rattle.comparison.specs.Tallies.{nothing, total}
 use Rattle.comparison.specs.TablesLaws.{reused_start, reused_tally, reused_turn}
-use Rattle.comparison.specs.TalliesLaws.{total_more, total_start}
+use Rattle.comparison.specs.TalliesLaws.{total_more}
 use Rattle.comparison.proofs.tables.compare_tables.Goals as goal
 
 pub loop-x-init : goal.loop-x-init
-loop-x-init c = (search rules, reused_start _ _ _ _ _, total_start _ _ c.none-sum.ensures)
-
-pub slice_bounds-put_table-end : goal.slice_bounds-put_table-end
-slice_bounds-put_table-end c = sym (c.loop-x.invariant.1.size ∙ length-replicate {A = ℕ} table_room 0)
-
-pub slice_bounds-compare_table-end : goal.slice_bounds-compare_table-end
-slice_bounds-compare_table-end c =
-    sym (c.put_table.auto.table ∙ c.loop-x.invariant.1.size ∙ length-replicate {A = ℕ} table_room 0)
+unfolding total nothing
+loop-x-init c = (search rules, reused_start _ _ _ _ _, search rules)
 
 pub loop-x-preserved : goal.loop-x-preserved
 loop-x-preserved c =

@@ -1,13 +1,9 @@
-use Rattle.std.proofs.Common.{◌≡◌, ◌+◌, ◌-◌, ◌/◌, ◌%◌, ◌≤◌, min, cond, eqb, length, get_or}
+use Rattle.std.proofs.Common.{◌≡◌, ◌+◌, ◌/◌, ◌%◌, ◌≤◌, cond, eqb, length, get_or}
 use Rattle.mask.specs.Tables.{front}
 use Rattle.brute.specs.Numbers.{entry_of}
 use Rattle.comparison.proofs.tables.put_altered.Given as goal
 
 abbrev pub invariant-loop-e : goal.invariant-loop-e
 invariant-loop-e l =
-    (l.e ≤ l.end)
-    × (l.end ≡ min l.n (length l.initial.table))
+    (l.e ≤ l.e-end)
     × (l.table ≡ front l.e (λ k. cond (eqb k (l.x / (l.top + 1))) (entry_of (l.x % (l.top + 1))) (get_or l.solved k 0)) l.initial.table)
-
-abbrev pub decreases-loop-e : goal.decreases-loop-e
-decreases-loop-e l = l.end - l.e

@@ -1,7 +1,0 @@
-use Rattle.comparison.proofs.tally.one_unless.Goals as goal
-
-pub returns-then-b : goal.returns-then-b
-returns-then-b c = rw c.if-b.true
-
-pub returns-else-b : goal.returns-else-b
-returns-else-b c = rw c.if-b.false
