@@ -1,7 +1,7 @@
 -- Document 01, "Shelf examples", cases 1 to 12, as one fact about one list, by computation; and a second list of small cases with two
 -- concrete states, with more than one set, with an empty set, with a hidden mask or with several partners, which tell slips that cases 1 to 12 do
 -- not tell.
-use Rattle.std.specs.Prelude.{Bool, true, false, List, [], ◌∷◌, ◌≡◌, refl, ℕ, length, get_or, Err, Ok}
+use Rattle.std.specs.Prelude.{Bool, true, false, List, [], ◌∷◌, ◌≡◌, refl, ℕ, length, get_or, Result, Err, Ok}
 use Rattle.mask.specs.Logic.{not, and, or}
 use Rattle.mask.specs.Bits.{has_bit}
 use Rattle.mask.specs.Bounded.{every, some, first, sum, count, every_in, some_in}
@@ -9,18 +9,18 @@ use Rattle.mask.specs.Tables.{mask_of, table}
 use Rattle.machine.specs.declared.Machine.{Machine}
 use Rattle.machine.specs.declared.Pair.{Pair}
 use Rattle.machine.specs.Machines.{observation, successors, moves, starts, fair_set, in_fair_set, same_observation, pair_under, matched, next}
-use Rattle.machine.specs.Refusals.{and_then, pass_on, Answer}
+use Rattle.machine.specs.Refusals.{and_then, pass_on, four_numbers, Answer}
 use Rattle.machine.specs.WellFormed.{counts_ok, beyond, state_beyond, set_beyond, is_beyond_counts, first_empty, has_empty_set, content_validity, sets_validity, content_tests, pair_tests, nonempty_validity}
 use Rattle.machine.specs.Lassos.{Lasso, moment}
-use Rattle.machine.specs.Step.{steps, better, least, partner, staying, single_step, found, state_of}
+use Rattle.machine.specs.Step.{steps, better, least, partner, staying, single_step, found}
 use Rattle.machine.specs.Iteration.{iterate, settle}
 use Rattle.machine.specs.Game.{pair_set, mem, same_set, none, all_matched, goals, in_x, round_x, x_over, xs_over, union, level_over, levels, turn, first_family, same_family, family}
 use Rattle.machine.specs.Ranks.{level_of, set_of, tower_over, tower, rank_in, rank_table, solver_table}
 use Rattle.machine.specs.Table.{blank, entry_index, entry, covers, covered_count}
 use Rattle.machine.specs.Lines.{non_blank, lower, at_most, goal_line, rank_line, passes, lines_validity}
 use Rattle.machine.specs.Verdict.{start_covered, lacking_start, start_verdict, lines_verdict, empty_set_told}
-use Rattle.machine.specs.Player.{has_bad_length, bad_step, missed_set, lasso_validity, start_partner, start_validity, section_after, follow, step_to, place_at, same_place, last_round, earlier_round, stem_length, loop_length, run, play_validity, play_answer, Played, played}
-use Rattle.machine.specs.declared.Refusal.TheVariants.{EmptySet, FailingEntry, NoStartPartner, NoSuccessor, UnfairLasso}
+use Rattle.machine.specs.Player.{has_bad_length, bad_step, missed_set, lasso_validity, start_partner, start_validity, section_after, follow, step_to, place_at, same_place, last_round, earlier_round, stem_length, loop_length, run, play_validity, play_answer}
+use Rattle.machine.specs.declared.Run.{Run}
 use Rattle.machine.specs.declared.Verdict.{Verdict}
 use Rattle.machine.specs.declared.Verdict.TheVariants.{Carried, NotCarried}
 
@@ -57,32 +57,47 @@ Late = machine_of (0 ∷ 1 ∷ 2 ∷ 3 ∷ []) (2 ∷ 12 ∷ 4 ∷ 8 ∷ []) (15
 Early : Machine
 Early = machine_of (0 ∷ 1 ∷ 1 ∷ 2 ∷ 3 ∷ []) (6 ∷ 8 ∷ 16 ∷ 8 ∷ 16 ∷ []) (31 ∷ [])
 
+-- an answer, or a refusal as its four numbers
+abbrev Said : Type 0 → Type 0
+Said A = Result A (List ℕ)
+
+said : {A : Type 0} → Answer A → Said A
+said (Ok a) = Ok a
+said (Err r) = Err (four_numbers r)
+
+refused : {A : Type 0} → ℕ → ℕ → ℕ → ℕ → Said A
+refused number x y z = Err (number ∷ x ∷ y ∷ z ∷ [])
+
+-- stem length and loop length of a run
+played : ℕ → ℕ → Said Run
+played s q = Ok (record { stem = s; cycle = q })
+
 -- what a case asks, and what is answered: the solver's table, the check's verdict on a table and whether a concrete set is empty, the player's run;
 -- the ranks alone, of machines that the solver refuses or not, and what stops the player
 data Reply : Type 0 where
-  solves : Answer (List ℕ) → Reply
-  says : Answer Verdict → Bool → Reply
-  plays : Answer Played → List ℕ → Reply
+  solves : Said (List ℕ) → Reply
+  says : Said Verdict → Bool → Reply
+  plays : Said Run → List ℕ → Reply
   ranks : List ℕ → Reply
-  stops : Answer Played → Reply
+  stops : Said Run → Reply
 
 solve : Pair → Reply
-solve p = solves (and_then (nonempty_validity p) (Ok (solver_table p)))
+solve p = solves (said (and_then (nonempty_validity p) (Ok (solver_table p))))
 
 rank_all : Pair → Reply
 rank_all p = ranks (solver_table p)
 
 check : Pair → List ℕ → Reply
-check p T = let v = lines_verdict p T in says v (empty_set_told p v)
+check p T = let v = lines_verdict p T in says (said v) (empty_set_told p v)
 
 solve_and_check : Pair → Reply
 solve_and_check p = check p (solver_table p)
 
 play : Pair → List ℕ → Lasso → Reply
-play p T l = plays (play_answer p T l) (run p T l)
+play p T l = plays (said (play_answer p T l)) (run p T l)
 
 stop : Pair → List ℕ → Lasso → Reply
-stop p T l = stops (play_answer p T l)
+stop p T l = stops (said (play_answer p T l))
 
 -- cases 1 to 12; by document 02, No. 7, cases 2 and 3 are refusals
 asked : List Reply
@@ -105,22 +120,22 @@ asked =
 answered : List Reply
 answered =
     solves (Ok (0 ∷ []))
-    ∷ solves (Err (EmptySet 1 1))
-    ∷ solves (Err (EmptySet 0 1))
+    ∷ solves (refused 21 1 1 0)
+    ∷ solves (refused 21 0 1 0)
     ∷ solves (Ok (blank ∷ []))
     ∷ solves (Ok (2 ∷ 0 ∷ []))
     ∷ says (Ok (Carried 2)) false
     ∷ says (Ok (Carried 2)) false
-    ∷ says (Err (FailingEntry 1 0 0)) false
-    ∷ says (Err (FailingEntry 1 0 0)) false
+    ∷ says (refused 12 1 0 0) false
+    ∷ says (refused 12 1 0 0) false
     ∷ says (Ok (NotCarried 0 1)) false
-    ∷ plays (Ok (played 1 1)) (0 ∷ 1 ∷ [])
+    ∷ plays (played 1 1) (0 ∷ 1 ∷ [])
     ∷ says (Ok (NotCarried 0 2)) false
     ∷ says (Ok (Carried 5)) false
     ∷ []
 
 cases : asked ≡ answered
-unfolding machine_of ◌by◌ K S Late Early solve check solve_and_check play asked answered not and or has_bit every some first sum count every_in some_in mask_of table observation successors moves starts fair_set in_fair_set same_observation matched next and_then pass_on counts_ok beyond state_beyond set_beyond is_beyond_counts first_empty has_empty_set content_validity sets_validity content_tests pair_tests moment steps better least partner staying single_step found iterate settle pair_set mem same_set none all_matched goals in_x round_x x_over xs_over union level_over levels turn first_family same_family family level_of set_of tower_over tower rank_in rank_table solver_table entry_index entry covers covered_count non_blank lower at_most goal_line rank_line passes lines_validity start_covered lacking_start start_verdict lines_verdict empty_set_told has_bad_length bad_step missed_set lasso_validity start_partner start_validity section_after follow step_to place_at same_place last_round earlier_round stem_length loop_length run play_validity play_answer
+unfolding machine_of ◌by◌ K S Late Early said refused played four_numbers solve check solve_and_check play asked answered not and or has_bit every some first sum count every_in some_in mask_of table observation successors moves starts fair_set in_fair_set same_observation matched next and_then pass_on counts_ok beyond state_beyond set_beyond is_beyond_counts first_empty has_empty_set content_validity sets_validity content_tests pair_tests moment steps better least partner staying single_step found iterate settle pair_set mem same_set none all_matched goals in_x round_x x_over xs_over union level_over levels turn first_family same_family family level_of set_of tower_over tower rank_in rank_table solver_table entry_index entry covers covered_count non_blank lower at_most goal_line rank_line passes lines_validity start_covered lacking_start start_verdict lines_verdict empty_set_told has_bad_length bad_step missed_set lasso_validity start_partner start_validity section_after follow step_to place_at same_place last_round earlier_round stem_length loop_length run play_validity play_answer
 cases = refl
 
 -- a concrete machine of two states, 0 to 0 and 1 to 0, one observation
@@ -193,24 +208,24 @@ asked_more =
 answered_more : List Reply
 answered_more =
     ranks (1 ∷ 2 ∷ [])
-    ∷ says (Err (FailingEntry 1 1 0)) false
-    ∷ says (Err (FailingEntry 1 0 0)) false
+    ∷ says (refused 12 1 1 0) false
+    ∷ says (refused 12 1 0 0) false
     ∷ says (Ok (NotCarried 0 1)) true
-    ∷ says (Err (FailingEntry 2 0 0)) false
+    ∷ says (refused 12 2 0 0) false
     ∷ ranks (blank ∷ blank ∷ [])
     ∷ ranks (2 ∷ 2 ∷ [])
     ∷ ranks (blank ∷ [])
     ∷ says (Ok (NotCarried 0 0)) false
-    ∷ stops (Err NoStartPartner)
+    ∷ stops (refused 16 0 0 0)
     ∷ ranks (1 ∷ [])
     ∷ says (Ok (Carried 1)) true
-    ∷ stops (Err (UnfairLasso 1))
+    ∷ stops (refused 15 1 0 0)
     ∷ says (Ok (NotCarried 0 0)) true
-    ∷ says (Err (FailingEntry 1 0 0)) false
-    ∷ solves (Err (EmptySet 0 2))
-    ∷ solves (Err (NoSuccessor 1 0))
-    ∷ solves (Err (NoSuccessor 0 0))
-    ∷ solves (Err (EmptySet 1 2))
+    ∷ says (refused 12 1 0 0) false
+    ∷ solves (refused 21 0 2 0)
+    ∷ solves (refused 11 1 0 0)
+    ∷ solves (refused 11 0 0 0)
+    ∷ solves (refused 21 1 2 0)
     ∷ solves (Ok (0 ∷ []))
     ∷ says (Ok (Carried 1)) false
     ∷ solves (Ok (blank ∷ []))
@@ -218,16 +233,16 @@ answered_more =
     ∷ says (Ok (Carried 2)) false
     ∷ solves (Ok (0 ∷ blank ∷ blank ∷ blank ∷ blank ∷ 0 ∷ []))
     ∷ solves (Ok (0 ∷ 0 ∷ 0 ∷ 0 ∷ 0 ∷ 0 ∷ []))
-    ∷ plays (Ok (played 0 2)) (0 ∷ 2 ∷ [])
-    ∷ plays (Ok (played 0 2)) (0 ∷ 1 ∷ [])
+    ∷ plays (played 0 2) (0 ∷ 2 ∷ [])
+    ∷ plays (played 0 2) (0 ∷ 1 ∷ [])
     ∷ solves (Ok (0 ∷ 0 ∷ []))
-    ∷ plays (Ok (played 1 1)) (0 ∷ 1 ∷ [])
+    ∷ plays (played 1 1) (0 ∷ 1 ∷ [])
     ∷ solves (Ok (0 ∷ 2 ∷ []))
-    ∷ plays (Ok (played 0 2)) (0 ∷ 1 ∷ [])
+    ∷ plays (played 0 2) (0 ∷ 1 ∷ [])
     ∷ solves (Ok (0 ∷ 0 ∷ 0 ∷ []))
-    ∷ plays (Ok (played 0 2)) (0 ∷ 1 ∷ [])
+    ∷ plays (played 0 2) (0 ∷ 1 ∷ [])
     ∷ []
 
 cases_more : asked_more ≡ answered_more
-unfolding machine_of ◌by◌ K S Late Early solve rank_all check solve_and_check play stop asked_more answered_more Two Stuck under Lamp Choice Back Others not and or has_bit every some first sum count every_in some_in mask_of table observation successors moves starts fair_set in_fair_set same_observation matched next and_then pass_on counts_ok beyond state_beyond set_beyond is_beyond_counts first_empty has_empty_set content_validity sets_validity content_tests pair_tests moment steps better least partner staying single_step found iterate settle pair_set mem same_set none all_matched goals in_x round_x x_over xs_over union level_over levels turn first_family same_family family level_of set_of tower_over tower rank_in rank_table solver_table entry_index entry covers covered_count non_blank lower at_most goal_line rank_line passes lines_validity start_covered lacking_start start_verdict lines_verdict empty_set_told has_bad_length bad_step missed_set lasso_validity start_partner start_validity section_after follow step_to place_at same_place last_round earlier_round stem_length loop_length run play_validity play_answer
+unfolding machine_of ◌by◌ K S Late Early said refused played four_numbers solve rank_all check solve_and_check play stop asked_more answered_more Two Stuck under Lamp Choice Back Others not and or has_bit every some first sum count every_in some_in mask_of table observation successors moves starts fair_set in_fair_set same_observation matched next and_then pass_on counts_ok beyond state_beyond set_beyond is_beyond_counts first_empty has_empty_set content_validity sets_validity content_tests pair_tests moment steps better least partner staying single_step found iterate settle pair_set mem same_set none all_matched goals in_x round_x x_over xs_over union level_over levels turn first_family same_family family level_of set_of tower_over tower rank_in rank_table solver_table entry_index entry covers covered_count non_blank lower at_most goal_line rank_line passes lines_validity start_covered lacking_start start_verdict lines_verdict empty_set_told has_bad_length bad_step missed_set lasso_validity start_partner start_validity section_after follow step_to place_at same_place last_round earlier_round stem_length loop_length run play_validity play_answer
 cases_more = refl

@@ -1,9 +1,11 @@
 -- Laws of a line as a bound: its cases, that it is what document 01 asks of the entry, and what the walks of the check find.
-use Rattle.std.specs.Prelude.{Bool, false, List, ◌≡◌, refl, ℕ, ◌+◌, ◌-◌, ◌*◌, ◌^◌, ◌≤◌, ◌<◌, ltb, leb, eqb, length, get_or, take, drop}
+use Rattle.std.specs.Prelude.{Bool, false, cond, Option, Some, None, List, ◌≡◌, refl, ℕ, ◌+◌, ◌-◌, ◌*◌, ◌^◌, ◌≤◌, ◌<◌, ltb, leb, eqb, length, get_or, take, drop}
 use Rattle.std.proofs.Math.Bool.{true}
 use Rattle.std.proofs.Math.Path.{sym, ap}
 use Rattle.std.proofs.Common.{◌∙◌, pow_mono}
 use native.Mathlib.Omega.{arith}
+use Rattle.std.specs.Bool.{then_some}
+use Rattle.std.proofs.lemmas.Option.{none-some, same_Some}
 use borrow.Author.Tests.{lt-ltb, le-ltb, eq-eqb, ne_eqb, ltb-true, ltb-false, le-leb, lt-leb}
 use Rattle.mask.specs.Bits.{has_bit, lowest_of}
 use Rattle.mask.specs.BitsLaws.{has_lt, lowest_set}
@@ -26,42 +28,46 @@ use Rattle.linecheck.specs.declared.Line.{Line}
 use Rattle.linecheck.specs.Bounds.{line_of}
 
 -- ---- the cases of a line
-abbrev pub fails : Line
-fails = record { holds = false; section = 0; bound = 0 }
-
 module _ (m most j after c a e matched : ℕ) (concrete_sets : List ℕ) (abstract_set : ℕ) where
-  abbrev line : Line
+  abbrev line : Option Line
   line = line_of m most j after c a e matched concrete_sets abstract_set
 
-  pub line_unmatched : has_bit matched a ≡ false → line ≡ fails
+  pub line_unmatched : has_bit matched a ≡ false → None ≡ line
   unfolding line_of
   line_unmatched t = rw (not_i t)
 
-  pub line_above : has_bit matched a ≡ true → most < e → line ≡ fails
+  pub line_above : most < e → None ≡ line
   unfolding line_of
-  line_above t h = rw (not_f t, lt-ltb most e h)
+  line_above h = rw (lt-ltb most e h) (cond_cases (not (has_bit matched a)) (λ (o : Option Line). None ≡ o) _ _ (λ t. refl) (λ t. refl))
 
   pub line_goal : has_bit matched a ≡ true → e ≤ most → e ≡ 0 → (held : Bool) → held ≡ has_bit abstract_set a
-      → record { holds = held; section = after; bound = blank - 1 } ≡ line
+      → then_some held (record { section = after; bound = blank - 1 }) ≡ line
   unfolding line_of
-  line_goal t h z held i = rw (not_f t, le-ltb most e h, eq-eqb e 0 z, i)
+  line_goal t h z held i = rw (not_f t, le-ltb most e h, eq-eqb e 0 z, ← i) (then_some_is held)
+    where
+      then_some_is : (b : Bool) → then_some {T = Line} b (record { section = after; bound = blank - 1 }) ≡ cond b (Some (record { section = after; bound = blank - 1 })) None
+      then_some_is true = refl
+      then_some_is false = refl
 
   -- of an entry that is not 0: in set k the bound is below its level, elsewhere it is the entry
   module _ (t : has_bit matched a ≡ true) (h : e ≤ most) (z : e ≡ 0 → ⊥) (level set : ℕ) (l : level ≡ level_of m e) (k : set ≡ set_of m e) where
-    pub line_inside : has_bit (get_or concrete_sets set 0) c ≡ true → record { holds = true; section = j; bound = (level - 1) * m } ≡ line
+    pub line_inside : has_bit (get_or concrete_sets set 0) c ≡ true → Some (record { section = j; bound = (level - 1) * m }) ≡ line
     unfolding line_of
     line_inside i = rw (not_f t, le-ltb most e h, ne_eqb e 0 z, ← l, ← k, i)
 
-    pub line_outside : has_bit (get_or concrete_sets set 0) c ≡ false → record { holds = true; section = j; bound = e } ≡ line
+    pub line_outside : has_bit (get_or concrete_sets set 0) c ≡ false → Some (record { section = j; bound = e }) ≡ line
     unfolding line_of
     line_outside i = rw (not_f t, le-ltb most e h, ne_eqb e 0 z, ← l, ← k, i)
 
-  pub line_section : (n : ℕ) (L : Line) → L ≡ line → j < n → after < n → L.section < n
+  pub line_section : (n : ℕ) (L : Line) → Some L ≡ line → j < n → after < n → L.section < n
   unfolding line_of
-  line_section n L found h k =
-      let P : Line → Type 0 = λ L. L.section < n in
-      let z : 0 < n = omega arith in
-      rw found (cond_cases (not (has_bit matched a)) P _ _ (λ t. z) (λ t. cond_cases (ltb most e) P _ _ (λ t. z) (λ t. cond_cases (eqb e 0) P _ _ (λ t. k) (λ t. h))))
+  line_section n L made h k =
+      let P : Option Line → Type 0 = λ o. Some L ≡ o → L.section < n in
+      let fails : P None = λ e. absurd (none-some L (sym e)) in
+      let asks : (M : Line) → M.section < n → P (Some M) = λ M l e. omega (arith, ap (λ (M : Line). M.section) (same_Some L M e)) in
+      cond_cases (not (has_bit matched a)) P _ _ (λ t. fails) (λ t. cond_cases (ltb most e) P _ _ (λ t. fails) (λ t. cond_cases (eqb e 0) P _ _
+      (λ t. cond_cases (has_bit abstract_set a) P _ _ (λ t. asks _ k) (λ t. fails))
+      (λ t. asks _ h))) made
 
 -- ---- an entry's line
 module _ (p : Pair) (T : List ℕ) where
@@ -69,8 +75,14 @@ module _ (p : Pair) (T : List ℕ) where
   unfoldable pub serves : ℕ → ℕ → ℕ → ℕ → Bool
   serves moves section bound d = some_in (n_a p) moves (at_most p T section bound d)
 
-  abbrev asked : Line → ℕ → ℕ → Bool
-  asked L c a = and L.holds (steps p (at_most p T L.section L.bound) c a)
+  abbrev asked : Option Line → ℕ → ℕ → Bool
+  asked None c a = false
+  asked (Some L) c a = steps p (at_most p T L.section L.bound) c a
+
+  asked_if : (b : Bool) (L : Line) (c a : ℕ) → and b (steps p (at_most p T L.section L.bound) c a) ≡ asked (cond b (Some L) None) c a
+  unfolding and
+  asked_if true L c a = refl
+  asked_if false L c a = refl
 
 -- an entry has 16 bits
 pub entry_small : (p : Pair) (T : List ℕ) → ((i : ℕ) → get_or T i 0 ≤ blank) → (j c a : ℕ) → entry p T j c a ≤ blank
@@ -109,20 +121,20 @@ module _ (p : Pair) (T : List ℕ) (w : WellPair p) (small : (i : ℕ) → get_o
       let most = sets_c p * pairs p in
       let bit = has_matched_at p w c hc a ha in
       let fact = passes_covered p T j c a h in
-      let P : Line → Type 0 = λ L. passes p T j c a ≡ asked p T L c a in
-      cond_cases (not (has_bit (get_or (matched_masks p) c 0) a)) P fails _
-      (λ t. fact ∙ and_false_l _ (sym bit ∙ not_e _ t) ∙ sym (and_false_l _ refl))
+      let P : Option Line → Type 0 = λ o. passes p T j c a ≡ asked p T o c a in
+      let inside : Bool = has_bit (get_or p.concrete.fairness (set_of (sets_c p) e) 0) c in
+      cond_cases (not (has_bit (get_or (matched_masks p) c 0) a)) P _ _
+      (λ t. fact ∙ and_false_l _ (sym bit ∙ not_e _ t))
       (λ t.
       let held : matched p c a ≡ true = sym bit ∙ sym (not_not _) ∙ not_i t in
-      cond_cases (ltb most e) P fails _
-      (λ u. fact ∙ and_true_l _ held ∙ and_false_l _ (lt-leb e most (ltb-true most e u)) ∙ sym (and_false_l _ refl))
+      cond_cases (ltb most e) P _ _
+      (λ u. fact ∙ and_true_l _ held ∙ and_false_l _ (lt-leb e most (ltb-true most e u)))
       (λ u.
       let line = fact ∙ and_true_l _ held ∙ and_true_l _ (le-leb e most (ltb-false most e u)) in
       cond_cases (eqb e 0) P _ _
-      (λ z. line ∙ rw z (goal_bound p T j c a (entry_small p T small (next (sets_a p) j))))
-      (λ z. line ∙ rw z (cond_cases (has_bit (get_or p.concrete.fairness (set_of (sets_c p) e) 0) c)
-      (λ bound. rank_line p T j e c a ≡ steps p (at_most p T j bound) c a) _ _
-      (λ i. inside_bound p T j e c a w.concrete.sets_low i) (λ o. outside_bound p T j e c a o)) ∙ sym (and_true_l _ refl))))
+      (λ z. line ∙ rw z (goal_bound p T j c a (entry_small p T small (next (sets_a p) j)) ∙ asked_if p T _ _ c a))
+      (λ z. line ∙ rw z (cond_cases inside (λ bound. rank_line p T j e c a ≡ steps p (at_most p T j bound) c a) _ _
+      (λ i. inside_bound p T j e c a w.concrete.sets_low i) (λ o. outside_bound p T j e c a o)))))
 
   -- the entry at a place of the table
   module _ (j c a at : ℕ) (place : at ≡ entry_index (n_c p) (n_a p) j c a) where
@@ -134,20 +146,20 @@ module _ (p : Pair) (T : List ℕ) (w : WellPair p) (small : (i : ℕ) → get_o
     passes_if_blank e = blank_passes p T j c a (sym at_entry ∙ e)
 
     -- and its line, as the check finds it
-    module _ (masks : List ℕ) (after : ℕ) (L : Line) (made : masks ≡ matched_masks p) (later : after ≡ next (sets_a p) j) (hc : c < n_c p) (ha : a < n_a p) (covered : get_or T at 0 ≡ blank → ⊥)
-        (found : L ≡ line_of (sets_c p) (sets_c p * pairs p) j after c a (get_or T at 0) (get_or masks c 0) p.concrete.fairness (get_or p.abstraction.fairness j 0)) where
-      line_asks : passes p T j c a ≡ asked p T L c a
+    module _ (masks : List ℕ) (after : ℕ) (o : Option Line) (made : masks ≡ matched_masks p) (later : after ≡ next (sets_a p) j) (hc : c < n_c p) (ha : a < n_a p) (covered : get_or T at 0 ≡ blank → ⊥)
+        (found : o ≡ line_of (sets_c p) (sets_c p * pairs p) j after c a (get_or T at 0) (get_or masks c 0) p.concrete.fairness (get_or p.abstraction.fairness j 0)) where
+      line_asks : passes p T j c a ≡ asked p T o c a
       line_asks =
-          line_is j c a hc ha (λ e. covered (at_entry ∙ e)) ∙ ap (λ (L : Line). asked p T L c a) (rw (← at_entry, ← made, ← later) (sym found))
+          line_is j c a hc ha (λ e. covered (at_entry ∙ e)) ∙ ap (λ (o : Option Line). asked p T o c a) (rw (← at_entry, ← made, ← later) (sym found))
 
-      pub fails_if : L.holds ≡ false → passes p T j c a ≡ false
-      fails_if t = line_asks ∙ and_false_l _ t
+      pub fails_if : o ≡ None → passes p T j c a ≡ false
+      fails_if t = line_asks ∙ ap (λ (o : Option Line). asked p T o c a) t
 
       -- the successors of c are walked as a mask of 64 bits
-      pub passes_if : L.holds ≡ true → get_or p.concrete.successors c 0 < 2 ^ 64
+      pub passes_if : (L : Line) → o ≡ Some L → get_or p.concrete.successors c 0 < 2 ^ 64
           → passes p T j c a ≡ every_in 64 (get_or p.concrete.successors c 0) (serves p T (get_or p.abstraction.successors a 0) L.section L.bound)
       unfolding steps successors serves
-      passes_if t h = line_asks ∙ and_true_l _ t ∙ every_in_width (n_c p) 64 (get_or p.concrete.successors c 0) _ (moves_small p w c hc h) h
+      passes_if L t h = line_asks ∙ ap (λ (o : Option Line). asked p T o c a) t ∙ every_in_width (n_c p) 64 (get_or p.concrete.successors c 0) _ (moves_small p w c hc h) h
 
 -- the state that a walk takes of a mask of w bits
 pub taken_lt : (w m i : ℕ) → w ≤ 64 → 0 < m → m < 2 ^ w → i ≡ lowest_of 64 m → i < w

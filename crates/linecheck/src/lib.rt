@@ -20,10 +20,9 @@ ghost use Rattle.linecheck.specs.Reciprocal.{reciprocal_of};
 use machine::{Checked, Pair, Refusal, Verdict};
 use validity::Sets;
 
-// What an entry asks of each step: partners in `section` whose entry is at most `bound`; unless `holds`, the entry fails before any step.
+// What an entry asks of each step: partners in `section` whose entry is at most `bound`.
 #[derive(Clone, Copy)]
 struct Line {
-    holds: bool,
     section: usize,
     bound: u16,
 }
@@ -67,8 +66,8 @@ fn level_of(m: usize, e: u16) -> Level
     }
 }
 
-// What the entry e of (j, c, a) asks, by document 01's lines. `most` is m x P, `next` the section after j; `matched` has the states that
-// are matched with c.
+// What the entry e of (j, c, a) asks, by document 01's lines; nothing if it fails before any step. `most` is m x P, `next` the section after j;
+// `matched` has the states that are matched with c.
 fn line_of(
     m: usize,
     most: usize,
@@ -80,27 +79,19 @@ fn line_of(
     matched: u64,
     concrete_sets: &[u64; 8],
     abstract_set: u64,
-) -> Line
+) -> Option<Line>
     requires { (0 < m) × (m ≤ 8) }
     ensures { result ≡ line_of m most j next c a e matched concrete_sets.now abstract_set }
 {
-    let fails = Line {
-        holds: false,
-        section: 0,
-        bound: 0,
-    };
-    if !mask::has(matched, a) {
-        return fails;
-    }
-    if most < e as usize {
-        return fails;
+    if !mask::has(matched, a) || most < e as usize {
+        return None;
     }
     if e == 0 {
-        return Line {
-            holds: mask::has(abstract_set, a),
+        let goal = Line {
             section: next,
             bound: machine::BLANK - 1,
         };
+        return mask::has(abstract_set, a).then_some(goal);
     }
     let rank = level_of(m, e);
     let k = rank.set;
@@ -108,11 +99,7 @@ fn line_of(
     let lower = below as u16;
     let inside = mask::has(concrete_sets[k], c);
     let bound = if inside { lower } else { e };
-    Line {
-        holds: true,
-        section: j,
-        bound: bound,
-    }
+    Some(Line { section: j, bound })
 }
 
 // Whether each line of a table of well-formed machines holds, and if not where the first is that fails.
@@ -122,8 +109,6 @@ fn lines_validity(p: Pair, matched: [u64; 64], table: &[u16]) -> Result<(), Refu
 {
     let concrete = p.concrete;
     let abstraction = p.abstraction;
-    // for the loop's invariant alone, which speaks of the pair
-    let hidden = p.hidden;
     let nc = concrete.states;
     let na = abstraction.states;
     let m = concrete.sets;
@@ -144,7 +129,7 @@ fn lines_validity(p: Pair, matched: [u64; 64], table: &[u16]) -> Result<(), Refu
                         c,
                         a,
                     };
-                    let line = line_of(
+                    let Some(line) = line_of(
                         m,
                         most,
                         j,
@@ -155,11 +140,10 @@ fn lines_validity(p: Pair, matched: [u64; 64], table: &[u16]) -> Result<(), Refu
                         matched[c],
                         &concrete_sets,
                         abstraction.fairness[j],
-                    );
-                    if !line.holds {
+                    ) else {
                         answer = Err(spot);
                         break 'lines;
-                    }
+                    };
                     let section = line.section;
                     let bound = line.bound;
                     let moves = abstraction.successors[a];
@@ -181,15 +165,11 @@ fn lines_validity(p: Pair, matched: [u64; 64], table: &[u16]) -> Result<(), Refu
     answer
 }
 
-// How many of the first `entries` entries are not blank.
-fn covered_count(table: &[u16], entries: usize) -> usize
-    requires { entries ≤ length table.now }
-    ensures { result ≡ count entries (λ e. not (eqb (get_or table.now e 0) blank)) }
+// How many entries are not blank.
+fn covered_count(entries: &[u16]) -> usize
+    ensures { result ≡ count (length entries.now) (λ e. not (eqb (get_or entries.now e 0) blank)) }
 {
-    table[..entries]
-        .iter()
-        .filter(|e| **e != machine::BLANK)
-        .count()
+    entries.iter().filter(|e| **e != machine::BLANK).count()
 }
 
 // Whether c is a concrete start state without an abstract start state beside it that is not blank in section 1.
@@ -238,7 +218,7 @@ fn checked_of_starts(p: Pair, table: &[u16]) -> Checked
     let nc = concrete.states;
     let na = abstraction.states;
     let n = abstraction.sets;
-    let covered = covered_count(table, n * (nc * na));
+    let covered = covered_count(&table[..n * (nc * na)]);
     let verdict = match lacking_start(p, table) {
         Some(lacking) => Verdict::NotCarried { lacking, covered },
         None => Verdict::Carried { covered },

@@ -14,10 +14,8 @@ use Rattle.machine.specs.Table.{table_room}
 use Rattle.machine.specs.Lines.{lines_validity}
 use Rattle.machine.specs.Verdict.{lines_verdict, check_verdict}
 use Rattle.machine.specs.VerdictLaws.{lines_said}
-use Rattle.machine.specs.Player.{lasso_validity, start_partner, play_validity, run_room, all_validity, player_answer, player_buffer}
+use Rattle.machine.specs.Player.{lasso_validity, start_partner, play_validity, run_room, all_validity, run_lengths, player_answer, player_buffer}
 use Rattle.machine.specs.PlayerLaws.{play_ill, play_fails, play_unfit, play_alone, play_valid}
-use Rattle.player.specs.declared.Played.TheVariants.{Refused as NotPlayed}
-use Rattle.player.specs.Answers.{played_of, run_of}
 use Rattle.player.specs.Places.{written}
 use Rattle.machine.specs.declared.Refusal.TheVariants.{NoStartPartner, ShortBuffer}
 use Rattle.machine.specs.declared.Verdict.{Verdict}
@@ -40,8 +38,8 @@ module _ (p : Pair) (T : List ℕ) where
   module _ (l : Lasso) (buffer : List ℕ) where
     -- ---- where the call is stopped
     pub stopped_by : (r : Refusal) → all_validity p T l buffer ≡ Err r
-        → (played_of (NotPlayed r) ≡ player_answer p T l buffer) × (buffer ≡ player_buffer p T l buffer)
-    unfolding played_of player_answer player_buffer
+        → (Err r ≡ player_answer p T l buffer) × (buffer ≡ player_buffer p T l buffer)
+    unfolding player_answer player_buffer
     stopped_by r e = (sym (then_refused _ _ r e), sym (buffer_kept _ _ _ e))
 
     pub short_run : length buffer < run_room → all_validity p T l buffer ≡ Err ShortBuffer
@@ -79,8 +77,8 @@ module _ (p : Pair) (T : List ℕ) where
             all_valid = left h.long ∙ play_valid p T l h.pair h.lines tested a e
 
             -- ---- the run
-            pub run_answer : played_of (run_of p T l) ≡ player_answer p T l buffer
-            unfolding played_of run_of player_answer
+            pub run_answer : Ok (run_lengths p T l) ≡ player_answer p T l buffer
+            unfolding player_answer
             run_answer = sym (then_of _ _ all_valid)
 
             pub run_buffer : written p T l buffer ≡ player_buffer p T l buffer

@@ -1,12 +1,10 @@
 -- Laws of a lasso's states, moves and missed sets, as the code asks for them.
-use Rattle.std.specs.Prelude.{true, false, List, ◌≡◌, refl, ℕ, suc, ◌-◌, ◌≤◌, ◌<◌, length, get_or}
+use Rattle.std.specs.Prelude.{false, ◌≡◌, refl, ℕ, suc, ◌-◌, ◌≤◌, ◌<◌, length, get_or}
 use Rattle.std.proofs.Common.{sym, ap, ◌∙◌, arith}
 use Rattle.std.proofs.Math.ListN.{get_or-eq_default}
-use Rattle.mask.specs.LogicLaws.{not_i, not_f}
-use Rattle.mask.specs.Bits.{has_bit}
 use Rattle.mask.specs.BitsLaws.{has_none}
 use Rattle.mask.specs.Bounded.{first}
-use Rattle.mask.specs.BoundedLaws.{some_of, some_none, first_cong}
+use Rattle.mask.specs.BoundedLaws.{first_cong}
 use Rattle.machine.specs.declared.Machine.{Machine}
 use Rattle.machine.specs.Machines.{successors, moves, fair_set, in_fair_set}
 use Rattle.machine.specs.Lassos.{Lasso, lasso_length, moment}
@@ -37,11 +35,3 @@ missed_is m l k = refl
 -- the first set that the loop misses
 pub first_missed : (m : Machine) (l : Lasso) → first m.sets (λ k. none_in (get_or m.fairness k 0) l.loop) ≡ first m.sets (missed_set m l)
 first_missed m l = first_cong m.sets _ _ (λ k h. missed_is m l k)
-
-pub none_of : (members : ℕ) (cycle : List ℕ) → ((i : ℕ) → i < length cycle → has_bit members (get_or cycle i 0) ≡ false) → none_in members cycle ≡ true
-unfolding none_in
-none_of members cycle h = not_i (some_none (length cycle) _ h)
-
-pub none_not : (members : ℕ) (cycle : List ℕ) (i : ℕ) → i < length cycle → has_bit members (get_or cycle i 0) ≡ true → none_in members cycle ≡ false
-unfolding none_in
-none_not members cycle i h t = not_f (some_of (length cycle) _ i h t)

@@ -7,11 +7,9 @@ use Rattle.mask.specs.FrontLaws.{front_none, front_turn}
 use Rattle.machine.specs.declared.Pair.{Pair}
 use Rattle.machine.specs.WellFormedLaws.{mul_bound}
 use Rattle.machine.specs.Lassos.{Lasso}
-use Rattle.machine.specs.Player.{place_at, loop_start, last_round, earlier_round, stem_length, loop_length, run, run_room}
+use Rattle.machine.specs.Player.{place_at, loop_start, last_round, earlier_round, stem_length, loop_length, run, run_lengths, run_room}
 use Rattle.soundness.specs.PlayerLaws.{Playable, player_run}
 use Rattle.player.specs.declared.Place.{Place}
-use Rattle.player.specs.declared.Played.TheVariants.{Run}
-use Rattle.player.specs.Answers.{run_of}
 use Rattle.player.specs.Places.{moment_of, Placed, written_to, written}
 
 module _ (p : Pair) (T : List ℕ) (l : Lasso) where
@@ -28,8 +26,8 @@ module _ (p : Pair) (T : List ℕ) (l : Lasso) where
   unfolding written_to written run
   written_whole n buffer e = rw (e, table_length)
 
-  pub run_said : (x y : ℕ) → last_round p T l ≡ y → earlier_round p T l ≡ x → Run (length l.stem + x * length l.loop) ((y - x) * length l.loop) ≡ run_of p T l
-  unfolding run_of stem_length loop_length
+  pub run_said : (x y : ℕ) → last_round p T l ≡ y → earlier_round p T l ≡ x → record { stem = length l.stem + x * length l.loop; cycle = (y - x) * length l.loop } ≡ run_lengths p T l
+  unfolding stem_length loop_length
   run_said x y last earlier = rw (last, earlier)
 
 -- before the last round there is room

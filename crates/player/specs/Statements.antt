@@ -3,7 +3,7 @@ use Rattle.std.specs.Prelude.{true, List, ◌≡◌, ℕ, ◌+◌, ◌≤◌, le
 use Rattle.machine.specs.declared.Pair.{Pair}
 use Rattle.machine.specs.declared.Refusal.{Refusal}
 use Rattle.machine.specs.Lassos.{Lasso, is_play, SameObservations}
-use Rattle.machine.specs.Player.{run_room, played, player_answer, player_buffer}
+use Rattle.machine.specs.Player.{run_room, player_answer, player_buffer}
 
 -- the run in a buffer: its first s bytes are the stem, and the q after them the loop
 abbrev pub run_in : ℕ → ℕ → List ℕ → Lasso
@@ -23,7 +23,7 @@ pub record RunGiven (p : Pair) (T : List ℕ) (l : Lasso) (buffer : List ℕ) (s
   pub past : drop (s + q) (player_buffer p T l buffer) ≡ drop (s + q) buffer
 
 abbrev pub GivenRunIsRight : Type 0
-GivenRunIsRight = (p : Pair) (T : List ℕ) (l : Lasso) (buffer : List ℕ) (s q : ℕ) → player_answer p T l buffer ≡ Ok (played s q) → RunGiven p T l buffer s q
+GivenRunIsRight = (p : Pair) (T : List ℕ) (l : Lasso) (buffer : List ℕ) (s q : ℕ) → player_answer p T l buffer ≡ Ok (record { stem = s; cycle = q }) → RunGiven p T l buffer s q
 
 -- a refusal changes no buffer
 abbrev pub RefusalKeepsBuffer : Type 0

@@ -3,6 +3,7 @@ use Rattle.std.specs.Prelude.{List, ◌++◌, ◌≡◌, ℕ, ◌+◌, ◌≤◌
 use Rattle.std.proofs.Common.{ap, ◌∙◌, arith, length-append, length-drop, take_at, drop_at}
 use Rattle.std.proofs.lemmas.List.{take-append-le, drop-append-le}
 use Rattle.machine.specs.declared.Pair.{Pair}
+use Rattle.machine.specs.declared.Run.{Run}
 use Rattle.machine.specs.Refusals.{valid}
 use Rattle.machine.specs.RefusalsLaws.{then_answer, given_at, given_refused, buffer_room, buffer_made, buffer_kept}
 use Rattle.machine.specs.Lassos.{Lasso}
@@ -62,6 +63,6 @@ pub given_run_is_right : GivenRunIsRight
 unfolding player_answer
 given_run_is_right p T l buffer s q e =
     let u = given_at _ _ e in
-    let stem : stem_length p T l ≡ s = cc in
-    let loop : loop_length p T l ≡ q = cc in
+    let stem : stem_length p T l ≡ s = ap (λ (r : Run). r.stem) u.1 in
+    let loop : loop_length p T l ≡ q = ap (λ (r : Run). r.cycle) u.1 in
     rw (stem, loop) at (given p T l buffer u.0)

@@ -19,7 +19,7 @@ use Rattle.machine.specs.SingleStepLaws.{single_below}
 use Rattle.machine.specs.Table.{table_room, SameEntries}
 use Rattle.machine.specs.EntriesLaws.{entry_same, covers_same, lines_same}
 use Rattle.machine.specs.Lines.{non_blank}
-use Rattle.machine.specs.Player.{Place, start_partner, start_validity, section_after, follow, step_to, place_at, same_place, last_round, earlier_round, stem_length, loop_length, run, played, play_validity, all_validity, player_answer, player_buffer}
+use Rattle.machine.specs.Player.{Place, start_partner, start_validity, section_after, follow, step_to, place_at, same_place, last_round, earlier_round, stem_length, loop_length, run, run_lengths, play_validity, all_validity, player_answer, player_buffer}
 use Rattle.soundness.specs.PlayLaws.{play_at}
 use Rattle.soundness.specs.PlayerLaws.{GoodLasso, good_lasso, good_play, Playable, playable, playable_covered}
 
@@ -80,7 +80,7 @@ module _ (p : Pair) (T U : List ℕ) (same : SameEntries p T U) where
     unfolding earlier_round
     earlier_unread = rw last_unread (first_cong _ _ _ (λ x h. same_unread x (last_round p U l)))
 
-    lengths_unread : played (stem_length p T l) (loop_length p T l) ≡ played (stem_length p U l) (loop_length p U l)
+    lengths_unread : run_lengths p T l ≡ run_lengths p U l
     unfolding stem_length loop_length
     lengths_unread = rw (last_unread, earlier_unread)
 

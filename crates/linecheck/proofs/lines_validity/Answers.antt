@@ -11,7 +11,6 @@ use mir.Syntax.{w64}
 use mir.Val.{Fits}
 use borrow.Author.Count.{below_more, below_none}
 use borrow.Author.Rules.{rules}
-use borrow.Author.Tests.{not-true, not-false}
 use Rattle.mask.specs.BitsLaws.{rest_lt}
 use Rattle.mask.specs.Bounded.{every_in}
 use Rattle.mask.specs.BoundedLaws.{every_at, every_of, every_in_zero}
@@ -28,7 +27,7 @@ use Rattle.machine.specs.Lines.{passes, lines_validity}
 use Rattle.machine.specs.LinesLaws.{lines_fail, lines_valid, each_of}
 use Rattle.linecheck.specs.BoundsLaws.{place_at_lem, serves, line_section, moves_small, passes_if_blank, passes_if, fails_if, taken_lt, step_found}
 use Rattle.linecheck.proofs.lines_validity.Goals as goal
-use Rattle.linecheck.proofs.lines_validity.Goals.{After-entry_index-at, After-entry_index-from, After-line_of-line, else-e, then-e+else-not-line+else-loop-rest-test}
+use Rattle.linecheck.proofs.lines_validity.Goals.{After-entry_index-at, After-entry_index-from, After-line_of, else-e, then-e+in-Some+else-loop-rest-test}
 use Rattle.std.specs.Prelude.{Err}
 
 -- the entry's place
@@ -53,11 +52,11 @@ place_in c =
     )
 
 -- the section of an entry's line is one of the table's
-section_small : (c : After-entry_index-from) → c.line_of-line.result.section < 7
+section_small : (c : After-entry_index-from) → c.in-Some.line.section < 7
 section_small c =
     let n = sets_a c.args.p in
     let k : c.next_section-next.result < n = omega (arith, c.next_section-next.ensures, next_lt n c.lines.j c.lines-test.true) in
-    omega (arith, (well_pair c.args.p c.requires.0).abstraction.sets_high, line_section _ _ _ _ _ _ _ _ _ _ n c.line_of-line.result c.line_of-line.ensures c.lines-test.true k)
+    omega (arith, (well_pair c.args.p c.requires.0).abstraction.sets_high, line_section _ _ _ _ _ _ _ _ _ _ n c.in-Some.line (sym c.in-Some.is ∙ c.line_of.ensures) c.lines-test.true k)
 
 -- the state that the walk has taken is one of the concrete machine's
 taken_in : (c : After-entry_index-from) → c.lowest-d.result < n_c c.args.p
@@ -71,10 +70,10 @@ rest_fits p rest w h = omega (arith, pow_mono {i = n_c p} {j = 64} w.concrete.st
 -- the row that is looked in
 row_of : (c : After-entry_index-from)
     → let p = c.args.p in
-    c.entry_index-from.result ≡ entry_index (n_c p) (n_a p) c.line_of-line.result.section c.lowest-d.result 0
+    c.entry_index-from.result ≡ entry_index (n_c p) (n_a p) c.in-Some.line.section c.lowest-d.result 0
 row_of c =
     let p = c.args.p in
-    place_at_lem p (well_pair p c.requires.0) _ c.line_of-line.result.section c.lowest-d.result 0 c.entry_index-from.ensures (section_small c) (taken_in c) (omega arith)
+    place_at_lem p (well_pair p c.requires.0) _ c.in-Some.line.section c.lowest-d.result 0 c.entry_index-from.ensures (section_small c) (taken_in c) (omega arith)
 
 -- lies within the table
 row_in : (c : After-entry_index-from) → c.entry_index-from.result + n_a c.args.p ≤ length c.args.table.now
@@ -85,7 +84,7 @@ row_in c =
       arith,
       row_of c,
       c.requires.1.1,
-      row_room (n_c p) (n_a p) c.line_of-line.result.section c.lowest-d.result (section_small c) w.concrete.states_high w.abstraction.states_high (taken_in c),
+      row_room (n_c p) (n_a p) c.in-Some.line.section c.lowest-d.result (section_small c) w.concrete.states_high w.abstraction.states_high (taken_in c),
     )
 
 -- what the single step says of the taken state, whatever the present one
@@ -94,19 +93,19 @@ told : (c : After-entry_index-from)
     let T = c.args.table.now in
     let from = c.entry_index-from.result in
     let moves = get_or p.abstraction.successors c.loop-a.a 0 in
-    let L = c.line_of-line.result in
+    let L = c.in-Some.line in
     (present : ℕ) (entries : ℕ → ℕ)
     → found (single_step present moves (in_row (get_or c.args.matched c.lowest-d.result 0) (take (from + n_a p - from) (drop from T)) L.bound) entries)
     ≡ serves p T moves L.section L.bound c.lowest-d.result
 told c present entries =
     let p = c.args.p in
     let from = c.entry_index-from.result in
-    let L = c.line_of-line.result in
+    let L = c.in-Some.line in
     step_found p c.args.table.now (well_pair p c.requires.0) c.args.matched c.requires.1.0 L.section c.lowest-d.result from (from + n_a p) (row_of c) refl (row_in c) (taken_in c) present
     (get_or p.abstraction.successors c.loop-a.a 0) L.bound entries
 
 -- the first entry that fails is where the loops are left, with its spot
-stopped : (c : After-line_of-line)
+stopped : (c : After-line_of)
     → let x = c.args in
     passes x.p x.table.now c.lines.j c.loop-c.c c.loop-a.a ≡ false → Err (FailingEntry (c.lines.j + 1) c.loop-c.c c.loop-a.a) ≡ lines_validity x.p x.table.now
 stopped c e =
@@ -147,8 +146,8 @@ offset_bounds-abstraction-j c = omega (arith, (well_pair c.args.p c.requires.0).
 pub bounds-abstraction-j : goal.bounds-abstraction-j
 bounds-abstraction-j c = omega (arith, (well_pair c.args.p c.requires.0).abstraction.sets_high)
 
-pub line_of-line-requires : goal.line_of-line-requires
-line_of-line-requires c = let w = well_pair c.args.p c.requires.0 in (w.concrete.sets_low, w.concrete.sets_high)
+pub line_of-requires : goal.line_of-requires
+line_of-requires c = let w = well_pair c.args.p c.requires.0 in (w.concrete.sets_low, w.concrete.sets_high)
 
 pub offset_bounds-abstraction-a : goal.offset_bounds-abstraction-a
 offset_bounds-abstraction-a c = omega (arith, (well_pair c.args.p c.requires.0).abstraction.states_high)
@@ -169,8 +168,8 @@ loop-rest-init c =
     let fit : Fits w64 (get_or x.p.concrete.successors c.loop-c.c 0) = search rules in (
       moves_small x.p w c.loop-c.c c.loop-c-test.true fit.fits,
       passes_if x.p x.table.now w (λ i. omega (arith, c.type_inv.table i)) c.lines.j c.loop-c.c c.loop-a.a c.entry_index-at.result (place_of_lem (goal.at.loop-rest-init c).After-entry_index-at) x.matched
-          c.next_section-next.result c.line_of-line.result c.requires.1.0 c.next_section-next.ensures c.loop-c-test.true c.loop-a-test.true c.if-e.true c.line_of-line.ensures
-          (not-false _ c.if-not-line.false) fit.fits,
+          c.next_section-next.result c.line_of.result c.requires.1.0 c.next_section-next.ensures c.loop-c-test.true c.loop-a-test.true c.if-e.true c.line_of.ensures
+          c.in-Some.line c.in-Some.is fit.fits,
       refl,
     )
 
@@ -196,7 +195,7 @@ pub loop-rest-preserved : goal.loop-rest-preserved
 loop-rest-preserved c =
     let p = c.args.p in
     let T = c.args.table.now in
-    let L = c.line_of-line.result in
+    let L = c.in-Some.line in
     let t = c.loop-rest in
     let q = serves p T (get_or p.abstraction.successors c.loop-a.a 0) L.section L.bound in (
       omega (arith, c.rest-rest.ensures, t.invariant.0, rest_lt t.rest (omega arith)),
@@ -211,13 +210,13 @@ pub loop-a-preserved : goal.loop-a-preserved
 loop-a-preserved c =
     let x = c.args in (
       below_more _ _ c.loop-a.invariant.0 (elim c.if-e.branch [
-        | then-e+else-not-line+else-loop-rest-test w ↦ w.loop-rest.invariant.1 ∙ rw w.loop-rest-test.false (every_in_zero 64 _)
+        | then-e+in-Some+else-loop-rest-test w ↦ w.loop-rest.invariant.1 ∙ rw w.loop-rest-test.false (every_in_zero 64 _)
         | else-e w ↦
             passes_if_blank x.p x.table.now (well_pair x.p c.requires.0) (λ i. omega (arith, c.type_inv.table i)) c.lines.j c.loop-c.c c.loop-a.a c.entry_index-at.result
             (place_of_lem (goal.at.loop-a-preserved c).After-entry_index-at) w.if-e.false
       ]),
       elim c.if-e.branch [
-        | then-e+else-not-line+else-loop-rest-test w ↦ w.answer-is ∙ w.loop-rest.invariant.2
+        | then-e+in-Some+else-loop-rest-test w ↦ w.answer-is ∙ w.loop-rest.invariant.2
         | else-e w ↦ w.answer-is
       ] ∙ c.loop-a.invariant.1,
     )
@@ -241,20 +240,20 @@ returns-after-lines c =
     i.1
     ∙ sym (lines_valid x.p x.table.now (each_of x.p x.table.now (λ j k a hj hk ha. every_at _ _ (every_at _ _ (i.0 j (omega arith)) k hk) a ha)))
 
-pub returns-then-not-line : goal.returns-then-not-line
-returns-then-not-line c =
+pub returns-in_default : goal.returns-in_default
+returns-in_default c =
     let x = c.args in
-    stopped (goal.at.returns-then-not-line c).After-line_of-line
+    stopped (goal.at.returns-in_default c).After-line_of
     (fails_if x.p x.table.now (well_pair x.p c.requires.0) (λ i. omega (arith, c.type_inv.table i)) c.lines.j c.loop-c.c c.loop-a.a c.entry_index-at.result
-    (place_of_lem (goal.at.returns-then-not-line c).After-entry_index-at) x.matched c.next_section-next.result c.line_of-line.result c.requires.1.0 c.next_section-next.ensures c.loop-c-test.true
-    c.loop-a-test.true c.if-e.true c.line_of-line.ensures (not-true _ c.if-not-line.true))
+    (place_of_lem (goal.at.returns-in_default c).After-entry_index-at) x.matched c.next_section-next.result c.line_of.result c.requires.1.0 c.next_section-next.ensures c.loop-c-test.true
+    c.loop-a-test.true c.if-e.true c.line_of.ensures c.in_default.is)
 
 pub returns-then-not-has_partner : goal.returns-then-not-has_partner
 returns-then-not-has_partner c =
     let p = c.args.p in
-    let L = c.line_of-line.result in
+    let L = c.in-Some.line in
     let t = c.loop-rest in
     let q = serves p c.args.table.now (get_or p.abstraction.successors c.loop-a.a 0) L.section L.bound in
-    stopped (goal.at.returns-then-not-has_partner c).After-line_of-line (t.invariant.1
+    stopped (goal.at.returns-then-not-has_partner c).After-line_of (t.invariant.1
     ∙ every_in_miss 64 t.rest q c.lowest-d.result (omega arith) (rest_fits p t.rest (well_pair p c.requires.0) t.invariant.0) c.lowest-d.ensures
     (sym (c.has_partner.ensures 0 ∙ told (goal.at.returns-then-not-has_partner c).After-entry_index-from 0 _) ∙ c.if-not-has_partner.true))

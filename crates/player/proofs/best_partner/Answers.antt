@@ -3,6 +3,7 @@ use mathlib.Core.Path.{◌≡◌, refl, ◌∙◌}
 use Prim.Native.Nat.{◌+◌, ◌≤◌}
 use native.Mathlib.Omega.{arith}
 use Rattle.machine.specs.Machines.{n_c, n_a}
+use Rattle.machine.specs.Step.{present_of}
 use Rattle.machine.specs.Table.{table_room, entry_index}
 use Rattle.player.specs.RowLaws.{index_is, row_end, row_partner}
 use Rattle.player.proofs.best_partner.Goals as goal
@@ -37,4 +38,4 @@ returns c =
     let r = c.requires in
     let e : After-entry_index-from = (goal.at.returns c).After-entry_index-from in
     c.partner_within.ensures ∙ rw r.tabled.masks (row_partner x.p x.table.now r.tabled.well (λ i. omega (arith, c.type_inv.table i)) x.j x.d
-    c.entry_index-from.result (c.entry_index-from.result + n_a x.p) r.j_bound.1 (from e) refl (omega (arith, row_low e, r.tabled.long)) x.present x.moves r.appended)
+    c.entry_index-from.result (c.entry_index-from.result + n_a x.p) r.j_bound.1 (from e) refl (omega (arith, row_low e, r.tabled.long)) (present_of x.present) x.moves r.appended)

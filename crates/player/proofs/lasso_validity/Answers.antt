@@ -1,44 +1,49 @@
 -- The three tests are made in the order of the definition, and each return is the first that fails.
-use mathlib.Core.Path.{sym, ap, ◌∙◌}
+use mathlib.Core.Path.{refl, sym, ◌∙◌}
+use Prim.Native.Nat.{◌≤◌}
 use native.Mathlib.Omega.{arith}
-use Rattle.machine.specs.Refusals.{tested_of}
-use Rattle.machine.specs.Lassos.{given}
+use Rattle.mask.specs.Bounded.{first}
+use Rattle.mask.specs.BoundedLaws.{below_at, below_past}
+use Rattle.machine.specs.Lassos.{given, lasso_length}
+use Rattle.machine.specs.Player.{bad_step}
 use Rattle.machine.specs.PlayerLaws.{good_length, refused_length, refused_step, refused_set, not_refused}
 use Rattle.player.specs.LassoLaws.{first_missed}
-use Rattle.std.specs.Prelude.{Err}
 use Rattle.player.proofs.lasso_validity.Goals as goal
+use Rattle.player.proofs.lasso_validity.Goals.{After-first_missed_set}
 
 pub returns-then-bad_length : goal.returns-then-bad_length
-unfolding tested_of
 returns-then-bad_length c =
     let x = c.args in
-    ap Err c.refuse.ensures ∙ sym (refused_length x.m (given x.stem.now x.cycle.now) (sym c.bad_length.ensures ∙ c.if-bad_length.true))
+    sym (refused_length x.m (given x.stem.now x.cycle.now) (sym c.bad_length.ensures ∙ c.if-bad_length.true))
 
 -- 13 is not refused
-pub first_bad_step-i-requires : goal.first_bad_step-i-requires
-first_bad_step-i-requires c = good_length (given c.args.stem.now c.args.cycle.now) (sym c.bad_length.ensures ∙ c.if-bad_length.false)
+pub first_bad_step-requires : goal.first_bad_step-requires
+first_bad_step-requires c = good_length (given c.args.stem.now c.args.cycle.now) (sym c.bad_length.ensures ∙ c.if-bad_length.false)
 
-pub overflow_add-stem : goal.overflow_add-stem
-overflow_add-stem c = omega (arith, good_length (given c.args.stem.now c.args.cycle.now) (sym c.bad_length.ensures ∙ c.if-bad_length.false))
-
-pub returns-then-i-stem : goal.returns-then-i-stem
-unfolding tested_of
-returns-then-i-stem c =
+pub returns-in-Some : goal.returns-in-Some
+returns-in-Some c =
     let x = c.args in
-    ap Err c.refuse-then-i-stem.ensures
-    ∙ sym (refused_step x.m (given x.stem.now x.cycle.now) (sym c.bad_length.ensures ∙ c.if-bad_length.false) _ c.first_bad_step-i.ensures c.if-i-stem.true)
+    let at = below_at _ _ (sym c.first_bad_step.ensures ∙ c.in-Some.is) in
+    sym (refused_step x.m (given x.stem.now x.cycle.now) (sym c.bad_length.ensures ∙ c.if-bad_length.false) _ at.0 (rw at.0 at.1))
 
-pub returns-then-k-m : goal.returns-then-k-m
-unfolding tested_of
-returns-then-k-m c =
-    let x = c.args in
-    let l = given x.stem.now x.cycle.now in
-    ap Err c.refuse-then-k-m.ensures
-    ∙ sym (refused_set x.m l (sym c.bad_length.ensures ∙ c.if-bad_length.false) _ c.first_bad_step-i.ensures c.if-i-stem.false _ (c.first_missed_set-k.ensures ∙ first_missed x.m l) c.if-k-m.true)
+-- 14 is not refused
+past : (c : After-first_missed_set) → let l = given c.args.stem.now c.args.cycle.now in lasso_length l ≤ first (lasso_length l) (bad_step c.args.m l)
+past c = below_past _ _ (sym c.first_bad_step.ensures ∙ c.in_default.is)
 
-pub returns : goal.returns
-unfolding tested_of
-returns c =
+pub overflow_add-result : goal.overflow_add-result
+overflow_add-result c = let at = below_at _ _ (sym c.first_missed_set.ensures ∙ c.in-Some-first_missed_set.is) in omega (arith, at.0, at.1)
+
+pub returns-in-Some-first_missed_set : goal.returns-in-Some-first_missed_set
+returns-in-Some-first_missed_set c =
     let x = c.args in
     let l = given x.stem.now x.cycle.now in
-    sym (not_refused x.m l (sym c.bad_length.ensures ∙ c.if-bad_length.false) _ c.first_bad_step-i.ensures c.if-i-stem.false _ (c.first_missed_set-k.ensures ∙ first_missed x.m l) c.if-k-m.false)
+    let at = below_at _ _ (sym c.first_missed_set.ensures ∙ c.in-Some-first_missed_set.is) in
+    sym (refused_set x.m l (sym c.bad_length.ensures ∙ c.if-bad_length.false) _ refl (past (goal.at.returns-in-Some-first_missed_set c).After-first_missed_set) _
+    (at.0 ∙ first_missed x.m l) (rw at.0 at.1))
+
+pub returns-in-None : goal.returns-in-None
+returns-in-None c =
+    let x = c.args in
+    let l = given x.stem.now x.cycle.now in
+    sym (not_refused x.m l (sym c.bad_length.ensures ∙ c.if-bad_length.false) _ refl (past (goal.at.returns-in-None c).After-first_missed_set) _
+    (first_missed x.m l) (below_past _ _ (sym c.first_missed_set.ensures ∙ c.in-None.is)))

@@ -92,23 +92,18 @@ earlier_small c = earlier_low c.requires.playable c.loop-place.invariant c.if-pl
 turns_small : (c : Then-seen-ne0) (x : ℕ) → x ≤ c.loop-place.place.round → x * length c.args.cycle.now ≤ run_room
 turns_small c x h = let k = c.requires.playable in rounds_low k x (omega (arith, round_low k c.loop-place.invariant))
 
-pub overflow_mul-stem_length : goal.overflow_mul-stem_length
-overflow_mul-stem_length c =
-    let d : Then-seen-ne0 = (goal.at.overflow_mul-stem_length c).Then-seen-ne0 in
+pub overflow_mul-result : goal.overflow_mul-result
+overflow_mul-result c =
+    let d : Then-seen-ne0 = (goal.at.overflow_mul-result c).Then-seen-ne0 in
     omega (arith, turns_small d (earlier d) (omega (arith, earlier_small d)))
 
-pub overflow_add-stem_length : goal.overflow_add-stem_length
-overflow_add-stem_length c =
-    let d : Then-seen-ne0 = (goal.at.overflow_add-stem_length c).Then-seen-ne0 in
+pub overflow_add-result : goal.overflow_add-result
+overflow_add-result c =
+    let d : Then-seen-ne0 = (goal.at.overflow_add-result c).Then-seen-ne0 in
     omega (arith, turns_small d (earlier d) (omega (arith, earlier_small d)), c.requires.playable.good.short)
 
-pub overflow_sub-loop_length : goal.overflow_sub-loop_length
-overflow_sub-loop_length c = omega (arith, earlier_small (goal.at.overflow_sub-loop_length c).Then-seen-ne0)
-
-pub overflow_mul-loop_length : goal.overflow_mul-loop_length
-overflow_mul-loop_length c =
-    let d : Then-seen-ne0 = (goal.at.overflow_mul-loop_length c).Then-seen-ne0 in
-    omega (arith, turns_small d (d.loop-place.place.round - earlier d) (omega arith))
+pub overflow_sub-result : goal.overflow_sub-result
+overflow_sub-result c = omega (arith, earlier_small (goal.at.overflow_sub-result c).Then-seen-ne0)
 
 pub shape_of-run-then-seen-ne0 : goal.shape_of-run-then-seen-ne0
 shape_of-run-then-seen-ne0 c = c.loop-place.invariant.long

@@ -7,7 +7,7 @@ use lib.Dec.{eqb}
 use lib.ListN.{get_or}
 use Rattle.machine.specs.Machines.{n_c, n_a, sets_a, moves, successors, next}
 use Rattle.machine.specs.Lassos.{moment, given}
-use Rattle.machine.specs.Step.{single_step, state_of}
+use Rattle.machine.specs.Step.{present_of, single_step, state_of}
 use Rattle.machine.specs.Table.{table_room, entry_index, entry}
 use Rattle.machine.specs.Lines.{non_blank}
 use Rattle.machine.specs.PlayerLaws.{after_lt}
@@ -88,7 +88,7 @@ ruled_section c =
     ap (λ (i : ℕ). cond (eqb (get_or x.table.now i 0) 0) (next (sets_a x.p) j) j) i
 
 pub returns : goal.returns
-unfolding successors
+unfolding successors present_of
 returns c =
     let x = c.args in
     let r = c.requires in
@@ -98,7 +98,7 @@ returns c =
     let j = c.section_after-j.result in
     let m = successors x.p.abstraction x.self.a in
     let state =
-    c.state_of.ensures ∙ ap state_of (c.best_partner-found.ensures
+    c.unwrap_or.ensures ∙ ap state_of (c.best_partner-found.ensures
     ∙ ap (λ (b : ℕ). single_step x.self.a m (non_blank x.p x.table.now j b) (entry x.p x.table.now j b)) c.state_at-d.ensures) in
     record {
       on = steps_on r.playable r.on_play _ position round (c.section_after-j.ensures ∙ ruled_section (goal.at.returns c).After-entry_index) state;
