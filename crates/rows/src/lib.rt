@@ -12,20 +12,14 @@ ghost use Rattle.rows.specs.Largest.{Known, Largest};
 ghost use Rattle.rows.specs.Entries.{row_upto, upto_of, without, write_row, write_of, row_count};
 ghost use Rattle.rows.specs.Rows.{movers_of, predecessors_of, partners_of, partner_rows, meet_of, step_rows, goal_rows, join_rows, same_rows};
 
-// The count, 64 for one over 64.
-fn width(n: usize) -> usize
-    ensures { result ≡ min n 64 }
-{
-    if n < 64 { n } else { 64 }
-}
+use std::array;
 
 // The states below n that move to b.
 fn movers(n: usize, moves: &[u64; 64], b: usize) -> u64
     ensures { result ≡ movers_of n moves.now b }
 {
-    let end = width(n);
-    let mut m: u64 = 0;
-    for a in 0..end {
+    let mut m = 0;
+    for a in 0..n.min(64) {
         if mask::has(moves[a], b) {
             m = mask::with(m, a);
         }
@@ -37,30 +31,18 @@ fn movers(n: usize, moves: &[u64; 64], b: usize) -> u64
 pub fn predecessors(n: usize, moves: &[u64; 64]) -> [u64; 64]
     ensures { result ≡ predecessors_of n moves.now }
 {
-    let end = width(n);
-    let mut out = [0u64; 64];
-    for b in 0..end {
-        out[b] = movers(n, moves, b);
-    }
-    out
-}
-
-// The states that are in one of two masks.
-fn joined(x: u64, y: u64) -> u64
-    ensures { (result ≡ bit_or x y) × (result < 2 ^ 64) }
-{
-    x | y
+    array::from_fn(|b| if b < n { movers(n, moves, b) } else { 0 })
 }
 
 // The states that have a partner in the row: the predecessors of its states.
 pub fn partners(predecessors: &[u64; 64], row: u64) -> u64
     ensures { result ≡ partners_of predecessors.now row }
 {
-    let mut m: u64 = 0;
+    let mut m = 0;
     let mut left = row;
     while left != 0 {
         let b = mask::lowest(left);
-        m = joined(m, predecessors[b]);
+        m |= predecessors[b];
         left = mask::rest(left);
     }
     m
@@ -70,12 +52,11 @@ pub fn partners(predecessors: &[u64; 64], row: u64) -> u64
 pub fn partner_rows(nc: usize, predecessors: &[u64; 64], set: &[u64; 64]) -> [u64; 64]
     ensures { result ≡ partner_rows nc predecessors.now set.now }
 {
-    let end = width(nc);
-    let mut out = [0u64; 64];
-    for d in 0..end {
-        out[d] = partners(predecessors, set[d]);
-    }
-    out
+    array::from_fn(|d| if d < nc {
+        partners(predecessors, set[d])
+    } else {
+        0
+    })
 }
 
 // The states that are in the row of each of the moves.
@@ -86,7 +67,7 @@ pub fn meet(moves: u64, rows: &[u64; 64]) -> u64
     let mut left = moves;
     while left != 0 {
         let d = mask::lowest(left);
-        m = m & rows[d];
+        m &= rows[d];
         left = mask::rest(left);
     }
     m
@@ -102,47 +83,28 @@ pub fn step_rows(
     ensures { result ≡ step_rows nc moves.now predecessors.now set.now }
 {
     let rows = partner_rows(nc, predecessors, set);
-    let end = width(nc);
-    let mut out = [0u64; 64];
-    for c in 0..end {
-        out[c] = meet(moves[c], &rows);
-    }
-    out
+    array::from_fn(|c| if c < nc { meet(moves[c], &rows) } else { 0 })
 }
 
 // The goals of a section, from its set and from the pairs that step into the next section.
 pub fn goal_rows(matched: &[u64; 64], members: u64, steps: &[u64; 64]) -> [u64; 64]
     ensures { result ≡ goal_rows matched.now members steps.now }
 {
-    let mut out = [0u64; 64];
-    for c in 0..64 {
-        out[c] = matched[c] & (members & steps[c]);
-    }
-    out
+    array::from_fn(|c| matched[c] & (members & steps[c]))
 }
 
 // The matched pairs that are in one of two sets.
 pub fn join_rows(matched: &[u64; 64], x: &[u64; 64], y: &[u64; 64]) -> [u64; 64]
     ensures { result ≡ join_rows matched.now x.now y.now }
 {
-    let mut out = [0u64; 64];
-    for c in 0..64 {
-        out[c] = matched[c] & (x[c] | y[c]);
-    }
-    out
+    array::from_fn(|c| matched[c] & (x[c] | y[c]))
 }
 
 // Whether two sets have the same rows below nc.
 pub fn same_rows(nc: usize, x: &[u64; 64], y: &[u64; 64]) -> bool
     ensures { result ≡ same_rows nc x.now y.now }
 {
-    let end = width(nc);
-    for c in 0..end {
-        if x[c] != y[c] {
-            return false;
-        }
-    }
-    true
+    (0..nc.min(64)).all(|c| x[c] == y[c])
 }
 
 // ---- The largest set within a start
@@ -181,7 +143,7 @@ pub fn largest(
         if row != old {
             x[c] = row;
             reached[c] = partners(predecessors, row);
-            due = joined(due, dependents[c]);
+            due |= dependents[c];
         }
     }
     x
@@ -193,13 +155,11 @@ pub fn largest(
 fn row_count(nc: usize, na: usize, entries: usize) -> usize
     ensures { result ≡ row_count nc na entries }
 {
-    if 64 < nc {
-        return 0;
+    if nc <= 64 && na <= 64 && entries == nc * na {
+        nc
+    } else {
+        0
     }
-    if 64 < na {
-        return 0;
-    }
-    if entries == nc * na { nc } else { 0 }
 }
 
 // The states whose entry in the row is at most the bound.
@@ -207,7 +167,7 @@ fn row_upto(row: &[u16], bound: u16) -> u64
     requires { length row.now ≤ 64 }
     ensures { result ≡ row_upto row.now bound }
 {
-    let mut m: u64 = 0;
+    let mut m = 0;
     for a in 0..row.len() {
         if row[a] <= bound {
             m = mask::with(m, a);
@@ -234,9 +194,7 @@ pub fn upto(nc: usize, na: usize, part: &[u16], bound: u16) -> [u64; 64]
 pub fn clear(part: &mut [u16])
     ensures { part.new ≡ table (length part.old) (λ e. blank) }
 {
-    for e in 0..part.len() {
-        part[e] = machine::BLANK;
-    }
+    part.fill(machine::BLANK);
 }
 
 // The states of x that are not in y.

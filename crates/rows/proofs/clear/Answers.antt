@@ -1,25 +1,12 @@
--- At the loop's head all earlier entries are blank.
-use mathlib.Core.Path.{refl, ◌∙◌}
-use native.Mathlib.Omega.{arith}
-use lib.ListN.{length-set}
-use borrow.Author.Count.{below_none}
-use Rattle.mask.specs.TablesLaws.{fill_step, fill_done}
+use Rattle.std.proofs.Common.{◌∙◌, ap}
+use Rattle.std.proofs.lemmas.List.{get_or-replicate}
+use Rattle.std.specs.Prelude.{ℕ, List, length, get_or}
+use Rattle.mask.specs.TablesLaws.{fill_done}
 use Rattle.machine.specs.Table.{blank}
 use Rattle.rows.proofs.clear.Goals as goal
 
-pub loop-e-init : goal.loop-e-init
-loop-e-init c = (omega arith, refl, below_none _)
-
-pub bounds-part-e : goal.bounds-part-e
-bounds-part-e c = omega (arith, c.loop-e.invariant.1)
-
-pub loop-e-preserved : goal.loop-e-preserved
-loop-e-preserved c =
-    let l = c.loop-e in
-    (omega arith, length-set l.part l.e blank ∙ l.invariant.1, fill_step 0 l.part (λ k. blank) l.e blank (omega (arith, l.invariant.1)) refl l.invariant.2)
-
-pub shape_of-part : goal.shape_of-part
-shape_of-part c = c.loop-e.invariant.1
-
 pub returns : goal.returns
-returns c = let l = c.loop-e in fill_done 0 _ l.part (λ k. blank) l.invariant.1 (λ k h. l.invariant.2 k (omega arith))
+returns c =
+    let n = length c.args.part.now in
+    fill_done 0 n c.fill.new.self (λ e. blank) c.fill.ensures.len
+    (λ k l. ap (λ (xs : List ℕ). get_or xs k 0) (c.fill.ensures.after (λ y h. h)) ∙ get_or-replicate n k blank 0 l)

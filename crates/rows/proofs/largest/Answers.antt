@@ -5,7 +5,8 @@ use mathlib.Core.Path.{◌≡◌, ap, ◌∙◌}
 use Prim.Native.Nat.{◌<◌}
 use native.Mathlib.Omega.{arith}
 use lib.ListN.{get_or}
-use lib.Bits.{bit_and, bit_or, and_le_l}
+use lib.Bits.{bit_and, bit_or, and_le_l, or_lt}
+use Rattle.std.proofs.Common.{rules}
 use Rattle.mask.specs.Bits.{has_bit}
 use Rattle.mask.specs.BitsLaws.{rest_lt}
 use Rattle.mask.specs.Bounded.{sum}
@@ -77,8 +78,8 @@ bounds-dependents-c c = index (goal.at.bounds-dependents-c c).After-lowest-c
 pub loop-due-preserved-then-row-old : goal.loop-due-preserved-then-row-old
 loop-due-preserved-then-row-old c =
     let x = c.args in (
-      c.joined-due.ensures.1,
-      λ k. rw (c.joined-due.ensures.0, c.rest-due.ensures, c.partners.ensures)
+      or_lt 64 c.rest-due.result (get_or c.args.dependents.now c.lowest-c.result 0) (omega arith) (search rules),
+      λ k. rw (c.rest-due.ensures, c.partners.ensures)
           (shrinking_lowered x.nc x.moves.now x.predecessors.now x.base.now x.members k.few c.lowest-c.ensures c.loop-due-test.true (c.loop-due.invariant.1 k) (row_is (goal.at.loop-due-preserved-then-row-old c).After-rest-due) k.dependents_are),
     )
 
@@ -86,7 +87,7 @@ pub loop-due-smaller-then-row-old : goal.loop-due-smaller-then-row-old
 loop-due-smaller-then-row-old c =
     let l = c.loop-due in
     weight_falls (sum 64 (λ i. get_or l.x i 0)) _ l.due _
-    (lowered_falls l.x c.lowest-c.result _ (index (goal.at.loop-due-smaller-then-row-old c).After-lowest-c) (and_le_l _ _) c.if-row-old.true) c.joined-due.ensures.1
+    (lowered_falls l.x c.lowest-c.result _ (index (goal.at.loop-due-smaller-then-row-old c).After-lowest-c) (and_le_l _ _) c.if-row-old.true) (or_lt 64 c.rest-due.result (get_or c.args.dependents.now c.lowest-c.result 0) (omega arith) (search rules))
 
 pub loop-due-smaller : goal.loop-due-smaller
 loop-due-smaller c =

@@ -14,7 +14,7 @@ use Rattle.rows.proofs.movers.Goals.{else-has, then-has}
 
 pub loop-a-init : goal.loop-a-init
 unfolding mask_of
-loop-a-init c = (omega arith, c.width-end.ensures, refl)
+loop-a-init c = (omega arith, c.min-a-end.ensures, refl)
 
 pub bounds-moves-a : goal.bounds-moves-a
 bounds-moves-a c = omega (arith, c.loop-a.invariant.1)

@@ -1,6 +1,9 @@
 -- The states joined are those of the row's states passed; each turn takes the lowest state that is left.
 use Prim.Native.Nat.{◌<◌}
 use native.Mathlib.Omega.{arith}
+use lib.ListN.{get_or}
+use lib.Bits.{or_lt}
+use Rattle.std.proofs.Common.{rules}
 use Rattle.mask.specs.BitsLaws.{rest_lt}
 use Rattle.rows.specs.RowsLaws.{joining_start, joining_turn, joining_done, walk_index}
 use Rattle.rows.proofs.partners.Goals as goal
@@ -23,10 +26,9 @@ loop-left-smaller c = omega (arith, c.rest-left.ensures, rest_lt c.loop-left.lef
 
 pub loop-left-preserved : goal.loop-left-preserved
 loop-left-preserved c =
-    let j = c.joined-m in
     let l = c.loop-left in
     let lo = c.lowest-b in
-    rw (c.rest-left.ensures, j.ensures.0) (joining_turn lo.result lo.ensures c.loop-left-test.true (rw j.ensures.0 at j.ensures.1) l.invariant)
+    rw c.rest-left.ensures (joining_turn lo.result lo.ensures c.loop-left-test.true (or_lt 64 c.loop-left.m (get_or c.args.predecessors.now c.lowest-b.result 0) (omega arith) (search rules)) l.invariant)
 
 pub returns : goal.returns
 returns c = joining_done c.loop-left-test.false c.loop-left.invariant
