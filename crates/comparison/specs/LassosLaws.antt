@@ -1,6 +1,8 @@
 -- Laws of the player's comparison.
 use Rattle.std.specs.Prelude.{◌≡◌, ℕ, zero, suc, ◌+◌, ◌*◌, ◌^◌, ◌<◌, ◌≤◌, refl, Bool, true, List, length, take, drop, slice_index, nat_eq}
 use Rattle.std.proofs.Common.{◌∙◌, sym, le-leb, arith}
+use native.Mathlib.Nat.{pow-suc, one-mul}
+use native.Mathlib.Numerals.{unary_clauses}
 use Rattle.std.proofs.Math.Path.{ap}
 use Rattle.mask.specs.Bounded.{every}
 use Rattle.mask.specs.Logic.{and}
@@ -25,13 +27,14 @@ module _ (p : Pair) (T : List ℕ) (l : Lasso) (B : List ℕ) (s q n : ℕ) (h :
 -- how many numbers n digits have
 pub power_is : (base n : ℕ) → n ≤ 2 → base ^ n ≡ power base n
 unfolding power
-power_is base zero h = refl
-power_is base (suc zero) h = omega arith
-power_is base (suc (suc zero)) h = omega arith
+power_is base zero h = simp unary_clauses refl
+power_is base (suc zero) h = pow-suc base 0 ∙ simp unary_clauses (one-mul base)
+power_is base (suc (suc zero)) h = pow-suc base 1 ∙ ap (λ n. n * base) (pow-suc base 0 ∙ simp unary_clauses (one-mul base))
 power_is base (suc (suc (suc n))) h = absurd (omega arith)
 
-pub power_small : (base n : ℕ) → base ≤ 256 → n ≤ 2 → base ^ n ≤ 65536
+pub power_small : (base n : ℕ) → base ≤ 256 → n ≤ 2 → power base n ≤ 65536
+unfolding power
 power_small base zero b h = omega arith
 power_small base (suc zero) b h = omega arith
-power_small base (suc (suc zero)) b h = let m = mul_bound base base 256 256 b b in ?
+power_small base (suc (suc zero)) b h = mul_bound base base 256 256 b b
 power_small base (suc (suc (suc n))) b h = absurd (omega arith)

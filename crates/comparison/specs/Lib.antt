@@ -9,4 +9,6 @@ pub mod Pairs
 pub mod AnswersLaws
 pub mod TablesLaws
 pub mod LassosLaws
+pub mod TurnsLaws
+pub mod PairsLaws
 pub mod TalliesLaws

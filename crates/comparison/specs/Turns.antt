@@ -43,11 +43,13 @@ unfoldable pub table_fits : Pair → ℕ → Bool → List ℕ → List ℕ → 
 table_fits p n finished G T = cond finished (and (kept_from n T) (table_ranked p true G T)) (kept_from 0 T)
 
 module _ (k : Known) where
-  -- what a turn said, left and wrote, where nothing is refused: it is finished exactly if the rows are the same
+  -- what a turn left and wrote, where nothing is refused
+  unfoldable pub left_fits : Bool → List ℕ → List ℕ → List ℕ → Bool
+  left_fits finished F N T = let G = family_table k.pair F zeros in and (rows_fit k.pair G N) (table_fits k.pair k.entries finished G T)
+
+  -- and what it said: it is finished exactly if the rows are the same
   unfoldable pub made_agrees : Answer Bool → List ℕ → List ℕ → List ℕ → Bool
-  made_agrees said F N T =
-      let G = family_table k.pair F zeros in
-      and (same_answer beq said (Ok (same_rows F N))) (and (rows_fit k.pair G N) (table_fits k.pair k.entries (same_rows F N) G T))
+  made_agrees said F N T = and (same_answer beq said (Ok (same_rows F N))) (left_fits (same_rows F N) F N T)
 
   -- and beside a refusal: family and table are as they were
   unfoldable pub stopped_agrees : Refusal → Answer Bool → List ℕ → List ℕ → List ℕ → Bool

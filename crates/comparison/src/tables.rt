@@ -44,7 +44,7 @@ pub fn compare_table(p: Pair, n: usize, table: &[u16], solved: &[u16]) -> Tally
 fn put_altered(x: u64, top: u16, n: usize, solved: &[u16], table: &mut [u16])
     ensures { table.new ≡ altered top x n solved.now table.old }
 {
-    let base = u64::from(top) + 1;
+    let base = top as u64 + 1;
     let changed = x / base;
     let value = brute::entry_of((x % base) as u16);
     for e in 0..n.min(table.len()) {

@@ -5,7 +5,7 @@ ghost use Rattle.machine.specs.WellFormed.{well_formed};
 ghost use Rattle.machine.specs.Table.{table_room};
 ghost use Rattle.progress.specs.Turns.{turn_family};
 ghost use Rattle.comparison.specs.Answers.{says_yes};
-ghost use Rattle.comparison.specs.Turns.{marks, kept_from, same_entries, rows_fit, table_fits, turn_agrees, turn_said, turn_tally, in_range, plain_look_up, look_up_tally, look_ups_tally, family_tally, families_tally, first_fits, first_agrees, end_agrees, walk_tally, turns_tally, stopped_tally};
+ghost use Rattle.comparison.specs.Turns.{marks, kept_from, same_entries, rows_fit, table_fits, left_fits, turn_agrees, turn_said, turn_tally, in_range, plain_look_up, look_up_tally, look_ups_tally, family_tally, families_tally, first_fits, first_agrees, end_agrees, walk_tally, turns_tally, stopped_tally};
 
 use crate::tables::is_within;
 use crate::tally::{Tally, total};
@@ -71,6 +71,22 @@ fn table_fits(p: Pair, n: usize, finished: bool, given: &[u16], table: &[u16; 28
 }
 
 impl Known {
+    // Whether a turn of a pair that is not refused left a family and a table that fit.
+    fn left_fits(
+        &self,
+        finished: bool,
+        family: &[u64; 448],
+        next: &[u64; 448],
+        table: &[u16; 28672],
+    ) -> bool
+        ensures { result ≡ left_fits self.now finished family.now next.now table.now }
+    {
+        let mut given = [0u16; machine::TABLE_ROOM];
+        brute::put_family(self.pair, family, &mut given);
+        rows_fit(self.pair, &given, next)
+            && table_fits(self.pair, self.entries, finished, &given, table)
+    }
+
     // Whether a turn said what brute force says, and left the family and the table that it has to leave.
     fn turn_agrees(
         &self,
@@ -82,15 +98,10 @@ impl Known {
         ensures { result ≡ turn_agrees self.now said family.now next.now table.now }
     {
         let same = family == next;
-        if let Err(refusal) = self.plain {
-            return said == Err(refusal) && same && is_kept(0, table);
+        match self.plain {
+            Ok(()) => said == Ok(same) && self.left_fits(same, family, next, table),
+            Err(refusal) => said == Err(refusal) && same && is_kept(0, table),
         }
-        if said != Ok(same) {
-            return false;
-        }
-        let mut given = [0u16; machine::TABLE_ROOM];
-        brute::put_family(self.pair, family, &mut given);
-        rows_fit(self.pair, &given, next) && table_fits(self.pair, self.entries, same, &given, table)
     }
 
     // One turn.

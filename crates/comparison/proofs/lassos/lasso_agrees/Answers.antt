@@ -14,4 +14,4 @@ returns-in-Err c = sym (and_true_l _ (sym (runs_told _ _ c.eq.ensures) ∙ c.if-
 
 pub returns-else-eq : goal.returns-else-eq
 unfolding lasso_agrees
-returns-else-eq c = sym (and_false_l _ (sym (runs_told _ _ c.eq.ensures) ∙ ?) ∙ ?)
+returns-else-eq c = c.if-eq.false ∙ sym (and_false_l _ (sym (runs_told _ _ c.eq.ensures) ∙ c.if-eq.false))

@@ -12,7 +12,7 @@ unfolding and
 returns-after-agrees c =
     let own = c.check_table-answer.ensures in
     let other = c.plain_verdict.ensures in
-    passing_tally _ _ _ _ (check_parts _ _ _ own.verdict own.empty) (check_parts _ _ _ other.verdict other.empty) (checked_told _ _ c.eq-agrees.ensures) c.in-Ok.is (grind (arith, common_steps)) c.of_table.ensures
+    passing_tally _ _ _ _ (check_parts _ _ _ own.verdict own.empty) (check_parts _ _ _ other.verdict other.empty) (checked_told _ _ c.eq-agrees.ensures) c.in-Ok.is (grind (arith, common_steps)) (rw c.is_carried.ensures at c.of_table.ensures)
 
 pub returns-in-Err : goal.returns-in-Err
 returns-in-Err c =

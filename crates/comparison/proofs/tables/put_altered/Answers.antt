@@ -14,8 +14,8 @@ loop-e-preserved c =
     let l = c.loop-e in (
       search rules,
       front_turn _ _ l.invariant.1 (omega arith) (elim c.if-e-changed.branch [
-        | then-e-changed w ↦ entry_changed _ _ _ _ _ w.if-e-changed.true ?
-        | else-e-changed w ↦ entry_kept _ _ _ _ _ w.if-e-changed.false ?
+        | then-e-changed w ↦ entry_changed _ _ _ _ _ w.if-e-changed.true (search rules)
+        | else-e-changed w ↦ entry_kept _ _ _ _ _ w.if-e-changed.false (search rules)
       ]),
     )
 

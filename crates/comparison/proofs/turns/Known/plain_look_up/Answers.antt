@@ -1,4 +1,4 @@
-use Rattle.std.proofs.Common.{sym, ◌∙◌, arith, rules}
+use Rattle.std.proofs.Common.{◌≡◌, true, sym, ◌∙◌, arith}
 use Rattle.std.proofs.lemmas.Grind.{common_steps}
 use Rattle.mask.specs.Logic.{and, not}
 use Rattle.machine.specs.RefusalsLaws.{then_of, then_refused}
@@ -12,11 +12,12 @@ returns-in_err-self c = passed_on c.from_residual.ensures ∙ sym (then_refused 
 
 pub returns-then-not-in_range : goal.returns-then-not-in_range
 unfolding plain_look_up
-returns-then-not-in_range c = sym (then_of _ _ c.in_ok-self.was ∙ ?)
+returns-then-not-in_range c = sym (then_of _ _ c.in_ok-self.was ∙ rw (sym c.in_range.ensures ∙ c.if-not-in_range.true))
 
 pub overflow_sub-section : goal.overflow_sub-section
-overflow_sub-section c = ?
+unfolding in_range and not
+overflow_sub-section c = let e = sym c.in_range.ensures ∙ c.if-not-in_range.false in grind (arith, common_steps)
 
 pub returns : goal.returns
-unfolding plain_look_up
-returns c = ? ∙ sym (then_of _ _ c.in_ok-self.was ∙ ?)
+unfolding plain_look_up not
+returns c = sym (then_of _ _ c.in_ok-self.was ∙ rw (sym c.in_range.ensures ∙ c.if-not-in_range.false, c.value_at.ensures, c.entry_index-e.ensures, c.from-nc.ensures, c.from-na.ensures))

@@ -1,0 +1,75 @@
+-- Laws of what is compared of the solver by turns, case by case.
+use Rattle.std.specs.Prelude.{◌≡◌, ℕ, suc, ◌+◌, ◌*◌, ◌<◌, ◌≤◌, Bool, true, false, cond, List, length, ◌==◌, ◌≢◌, nat_lt, slice_index, Ok, Err}
+use Rattle.std.proofs.Common.{◌∙◌, sym, arith, eq-eqb, le-ltb, lt-ltb, ne_eqb}
+use Rattle.mask.specs.BoundedLaws.{every_not, every_of}
+use Rattle.std.proofs.Math.Bool.{beq}
+use Rattle.mask.specs.Logic.{and, or}
+use Rattle.mask.specs.LogicLaws.{or_false, or_l, or_r}
+use Rattle.machine.specs.declared.Refusal.{Refusal}
+use Rattle.machine.specs.Refusals.{Answer}
+use Rattle.machine.specs.Table.{table_room}
+use Rattle.progress.specs.Turns.{first_answer, turn_family}
+use Rattle.comparison.specs.declared.tally.Tally.{Tally}
+use Rattle.comparison.specs.declared.turns.Known.{Known}
+use Rattle.comparison.specs.Answers.{same_answer, says_yes}
+use Rattle.comparison.specs.Tallies.{nothing, of_test, plus}
+use Rattle.comparison.specs.Turns.{end_agrees, family_tally, kept_from, made_agrees, mark, marks, plain_agrees, left_fits, same_rows, stopped_agrees, turn_agrees, turn_said, walk_tally, walked, walked_from}
+
+-- ---- entries one after the other
+module _ (n : ℕ) (T : List ℕ) where
+  -- entry e is as it was lent, or before number n
+  abbrev pub kept_at : ℕ → Bool
+  kept_at e = or (nat_lt e n) (slice_index T e == mark)
+
+  pub kept_before : (e : ℕ) → e < n → kept_at e ≡ true
+  kept_before e h = or_l _ (lt-ltb e n h)
+
+  pub kept_mark : (e : ℕ) → slice_index T e ≡ mark → kept_at e ≡ true
+  kept_mark e h = or_r _ (eq-eqb _ _ h)
+
+  pub kept_not : (e : ℕ) → n ≤ e → e < table_room → (slice_index T e ≢ mark) → kept_from n T ≡ false
+  unfolding kept_from
+  kept_not e l h d = every_not table_room _ e h (or_false (le-ltb e n l) (ne_eqb _ _ d))
+
+  pub kept_all : ((e : ℕ) → e < table_room → kept_at e ≡ true) → kept_from n T ≡ true
+  unfolding kept_from
+  kept_all h = every_of table_room _ h
+
+-- how many look-ups there are of a section
+pub some_product : (x y : ℕ) → 0 < (x + 1) * (y + 1)
+some_product x y = omega arith
+
+-- ---- a turn beside brute force
+module _ (k : Known) (said : Answer Bool) (F N T : List ℕ) {same told : Bool} (es : same ≡ same_rows F N) where
+  pub stopped_is : {r : Refusal} → k.plain ≡ Err r → told ≡ same_answer beq said (Err r) → turn_agrees k said F N T ≡ and told (and same (kept_from 0 T))
+  unfolding turn_agrees plain_agrees stopped_agrees
+  stopped_is e t = rw (e, t, es)
+
+  pub made_is : k.plain ≡ Ok tt → told ≡ same_answer beq said (Ok same) → turn_agrees k said F N T ≡ and told (left_fits k same F N T)
+  unfolding turn_agrees plain_agrees made_agrees
+  made_is e t = rw (e, t, es)
+
+-- ---- the walk
+module _ (k : Known) where
+  -- ---- from the first to the finish: A is what is counted in the end
+  module _ (S : List ℕ) (n : ℕ) (F : List ℕ) (sum : Tally) {A : Tally} (a : walked k S n F sum ≡ A) where
+    pub walk_none : n ≡ 0 → {last r : Tally} → last ≡ of_test false → r ≡ plus sum last → r ≡ A
+    unfolding walked
+    walk_none z el er = er ∙ rw el (rw z at a)
+
+    module _ (m : ℕ) (z : n ≡ suc m) {finished : Bool} {N : List ℕ} {turned more : Tally} (ef : finished ≡ says_yes (turn_said k.pair F)) (e_n : N ≡ turn_family k.pair F (length marks))
+        (et : turned ≡ family_tally k F) (em : more ≡ plus sum turned) where
+      walk_at : cond finished (plus more (of_test (end_agrees k.pair k.entries N S))) (walked k S m N more) ≡ A
+      unfolding walked
+      walk_at = rw (em, et, e_n, ef) (rw z at a)
+
+      pub walk_last : finished ≡ true → {agrees : Bool} {last r : Tally} → agrees ≡ end_agrees k.pair k.entries N S → last ≡ of_test agrees → r ≡ plus more last → r ≡ A
+      walk_last t ea el er = er ∙ rw (el, ea) (rw t at walk_at)
+
+      pub walk_next : finished ≡ false → walked k S m N more ≡ A
+      walk_next t = rw t at walk_at
+
+  pub walk_start : (S : List ℕ) {v : Answer (List ℕ)} {F : List ℕ} {sum : Tally} → v ≡ first_answer k.pair → v ≡ Ok F → sum ≡ nothing
+      → walked k S (k.entries + 1) F sum ≡ walk_tally k S
+  unfolding walk_tally walked_from
+  walk_start S e f es = rw (es, sym e ∙ f)
