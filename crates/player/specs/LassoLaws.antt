@@ -1,17 +1,13 @@
--- Laws of a lasso's states, moves and missed sets, as the code asks for them.
-use Rattle.std.specs.Prelude.{false, ◌≡◌, refl, ℕ, suc, ◌-◌, ◌≤◌, ◌<◌, length, get_or}
+-- Laws of a lasso's states and moves, as the code asks for them.
+use Rattle.std.specs.Prelude.{false, ◌≡◌, ℕ, suc, ◌-◌, ◌≤◌, ◌<◌, length, get_or}
 use Rattle.std.proofs.Common.{sym, ap, ◌∙◌, arith}
 use Rattle.std.proofs.Math.ListN.{get_or-eq_default}
 use Rattle.mask.specs.BitsLaws.{has_none}
-use Rattle.mask.specs.Bounded.{first}
-use Rattle.mask.specs.BoundedLaws.{first_cong}
 use Rattle.machine.specs.declared.Machine.{Machine}
-use Rattle.machine.specs.Machines.{successors, moves, fair_set, in_fair_set}
+use Rattle.machine.specs.Machines.{successors, moves}
 use Rattle.machine.specs.Lassos.{Lasso, lasso_length, moment}
-use Rattle.machine.specs.Player.{missed_set}
 use Rattle.machine.specs.LassosLaws.{moment_loop}
 use Rattle.soundness.specs.PlayLaws.{moment_again}
-use Rattle.player.specs.Given.{none_in}
 
 -- ---- states and moves
 -- the state at a position of the loop
@@ -26,12 +22,3 @@ moment_closing l i e = ap (moment l) e ∙ moment_again l (length l.stem) (omega
 pub moves_past : (m : Machine) (s t : ℕ) → length m.successors ≤ s → moves m s t ≡ false
 unfolding moves successors
 moves_past m s t h = rw (get_or-eq_default m.successors 0 h) (has_none t)
-
--- ---- 15
-missed_is : (m : Machine) (l : Lasso) (k : ℕ) → none_in (get_or m.fairness k 0) l.loop ≡ missed_set m l k
-unfolding missed_set none_in in_fair_set fair_set
-missed_is m l k = refl
-
--- the first set that the loop misses
-pub first_missed : (m : Machine) (l : Lasso) → first m.sets (λ k. none_in (get_or m.fairness k 0) l.loop) ≡ first m.sets (missed_set m l)
-first_missed m l = first_cong m.sets _ _ (λ k h. missed_is m l k)

@@ -4,16 +4,17 @@ use Rattle.mask.specs.Tables.{front}
 use Rattle.machine.specs.declared.Pair.{Pair}
 use Rattle.machine.specs.Observed.{matched_masks}
 use Rattle.machine.specs.Lassos.{Lasso, lasso_length}
-use Rattle.machine.specs.Table.{table_room}
+use Rattle.machine.specs.Table.{table_room, AreEntries}
 use Rattle.machine.specs.Player.{place_at, loop_start, last_round, run}
 use Rattle.machine.specs.WellFormedLaws.{WellPair}
 use Rattle.player.specs.declared.Place.{Place}
 
--- what a search in the table needs: M has the matched masks
-pub record Tabled (p : Pair) (M T : List ℕ) : Type 0 where
+-- what a search in the table needs: M has the matched masks, and the entries have 16 bits, as their type gives them
+pub record IsTabled (p : Pair) (M T : List ℕ) : Type 0 where
   pub well : WellPair p
   pub masks : M ≡ matched_masks p
   pub long : table_room ≤ length T
+  pub entries : AreEntries T
 
 -- the moment of a place, of a lasso whose loop has q states: its position, after its rounds
 abbrev pub moment_of : ℕ → Place → ℕ

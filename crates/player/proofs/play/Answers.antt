@@ -41,24 +41,32 @@ returns-in_err-check_table c =
     (check_stops x.p x.table.now l x.run.now c.if-run-lt-RUN_ROOM.false _ (sym c.check_table.ensures.verdict ∙ ap verdict_of c.in_err-check_table.was)) in
     record { answer = passed_on c.from_residual.ensures ∙ s.0; buffer = s.1 }
 
-pub lasso_validity-requires : goal.lasso_validity-requires
-lasso_validity-requires c =
+pub validity-requires : goal.validity-requires
+validity-requires c =
     (well_valid c.args.p (passes c.args.p c.args.table.now c.check_table.ensures.verdict c.in_ok-check_table.was).pair).concrete.sets_high
 
-pub returns-in_err-lasso_validity : goal.returns-in_err-lasso_validity
-returns-in_err-lasso_validity c =
+pub returns-in_err-validity : goal.returns-in_err-validity
+returns-in_err-validity c =
     let x = c.args in
     let l = given x.stem.now x.cycle.now in
     let s = stopped_by x.p x.table.now l x.run.now _
     (lasso_stops x.p x.table.now l x.run.now c.if-run-lt-RUN_ROOM.false (passes x.p x.table.now c.check_table.ensures.verdict c.in_ok-check_table.was) _
-    (sym c.lasso_validity.ensures ∙ c.in_err-lasso_validity.was)) in
-    record { answer = passed_on c.from_residual-in_err-lasso_validity.ensures ∙ s.0; buffer = s.1 }
+    (sym c.validity.ensures ∙ c.in_err-validity.was)) in
+    record { answer = passed_on c.from_residual-in_err-validity.ensures ∙ s.0; buffer = s.1 }
 
 -- 13 to 15 are not refused
 pub state_at-c-requires : goal.state_at-c-requires
 state_at-c-requires c =
     let x = c.args in
-    omega (arith, (good_lasso x.p.concrete (given x.stem.now x.cycle.now) (sym c.lasso_validity.ensures ∙ c.in_ok-lasso_validity.was)).some_loop)
+    omega (arith, (good_lasso x.p.concrete (given x.stem.now x.cycle.now) (sym c.validity.ensures ∙ c.in_ok-validity.was)).some_loop)
+
+pub invariant_of-tabled : goal.invariant_of-tabled
+invariant_of-tabled c =
+    let x = c.args in
+    let h = passes x.p x.table.now c.check_table.ensures.verdict c.in_ok-check_table.was in
+    record {
+      is_tabled = record { well = well_valid x.p h.pair; masks = c.matched_masks-matched.ensures; long = h.long; entries = λ i. (c.type_inv.table i).fits };
+    }
 
 pub best_partner-requires : goal.best_partner-requires
 unfolding starts
@@ -66,9 +74,8 @@ best_partner-requires c =
     let x = c.args in
     let h = passes x.p x.table.now c.check_table.ensures.verdict c.in_ok-check_table.was in
     let w = well_valid x.p h.pair in
-    let good = good_lasso x.p.concrete (given x.stem.now x.cycle.now) (sym c.lasso_validity.ensures ∙ c.in_ok-lasso_validity.was) in
+    let good = good_lasso x.p.concrete (given x.stem.now x.cycle.now) (sym c.validity.ensures ∙ c.in_ok-validity.was) in
     record {
-      tabled = record { well = w; masks = c.matched_masks-matched.ensures; long = h.long };
       j_bound = (w.abstraction.sets_low, omega (arith, c.state_at-c.ensures, (good.right 0 (omega (arith, good.some_loop))).bound));
       appended = λ i h t. w.abstraction.start_bits i h t;
     }
@@ -78,7 +85,7 @@ passing : (c : After-best_partner) → Passes c.args.p c.args.table.now
 passing c = passes c.args.p c.args.table.now c.check_table.ensures.verdict c.in_ok-check_table.was
 
 tested : (c : After-best_partner) → let x = c.args in lasso_validity x.p.concrete (given x.stem.now x.cycle.now) ≡ valid
-tested c = sym c.lasso_validity.ensures ∙ c.in_ok-lasso_validity.was
+tested c = sym c.validity.ensures ∙ c.in_ok-validity.was
 
 -- the partner that is found is the definition's
 first_is : (c : After-best_partner) → let x = c.args in c.best_partner.result ≡ start_partner x.p x.table.now (moment (given x.stem.now x.cycle.now) 0)
@@ -106,7 +113,6 @@ write_run-requires c =
     let named = sym (first_is b) ∙ c.in-Some.is in
     let h = passing b in
     record {
-      tabled = record { well = well_valid x.p h.pair; masks = c.matched_masks-matched.ensures; long = h.long };
       playable =
           playable x.p x.table.now (given x.stem.now x.cycle.now)
           (play_valid x.p x.table.now (given x.stem.now x.cycle.now) h.pair h.lines (tested b) c.in-Some.first named);

@@ -3,7 +3,7 @@ use Rattle.std.proofs.Math.Bool as B
 use Rattle.mask.specs.LogicLaws.{not_is}
 use Rattle.mask.proofs.RangeLaws.{any_slice}
 use Rattle.player.specs.Given.{none_in}
-use Rattle.player.proofs.misses.Goals as goal
+use Rattle.player.proofs.Lasso.misses.Goals as goal
 
 pub returns : goal.returns
 unfolding none_in

@@ -4,7 +4,7 @@ use mathlib.Core.Path.{sym, subst}
 use Prim.Native.Nat.{ℕ, ◌-◌, ◌*◌, ◌≤◌, ◌<◌}
 use native.Mathlib.Omega.{arith}
 use lib.ListN.{length, get_or, replicate, length-replicate, get_or-replicate}
-use Rattle.machine.specs.Lassos.{given}
+use Rattle.player.specs.Given.{lent}
 use Rattle.machine.specs.Player.{run_room}
 use Rattle.player.specs.declared.Place.{Place}
 use Rattle.player.specs.Places.{Playing, NotEnded}
@@ -12,14 +12,14 @@ use Rattle.player.specs.PlaceLaws.{state_lt}
 use Rattle.player.specs.MarkLaws.{number_low}
 use Rattle.player.specs.RunLaws.{run_said, rounds_low}
 use Rattle.player.specs.PlayingLaws.{at_start, round_low, now_low, marks_low, met, earlier_low, run_written, marked_on, unmarked_on, room, plays_on}
-use Rattle.player.proofs.write_run.Goals as goal
-use Rattle.player.proofs.write_run.Goals.{After-number_of-number, Then-seen-ne0, At-loop-place, After-struct_known-in-loop-place-1, else-place-start, then-place-start+else-seen-ne0}
+use Rattle.player.proofs.TabledPair.write_run.Goals as goal
+use Rattle.player.proofs.TabledPair.write_run.Goals.{After-number_of-number, Then-seen-ne0, At-loop-place, After-struct_known-in-loop-place-1, else-place-start, then-place-start+else-seen-ne0}
 
 pub loop-place-init : goal.loop-place-init
 loop-place-init c =
     let x = c.args in
     let r = c.requires in
-    let Begun : Place → Type 0 = λ at. Playing x.p x.table.now (given x.stem.now x.cycle.now) x.run.now x.run.now (replicate 448 0) at 0 in
+    let Begun : Place → Type 0 = λ at. Playing x.self.now.pair.now x.self.now.table.now (lent x.lasso.now) x.run.now x.run.now (replicate 448 0) at 0 in
     subst Begun (sym c.new-place.ensures)
     (at_start r.playable x.run.now (replicate 448 0) x.first r.first_value (length-replicate {A = ℕ} 448 0) (λ i h. get_or-replicate {A = ℕ} 448 i 0 0 h))
 
@@ -29,7 +29,6 @@ round_small c = round_low c.requires.playable c.loop-place.invariant
 
 pub step-next-requires : goal.step-next-requires
 step-next-requires c = record {
-  tabled = c.requires.tabled;
   playable = c.requires.playable;
   on_play = c.loop-place.invariant.on;
   round_bound = round_small (goal.at.step-next-requires c).At-loop-place;
@@ -43,22 +42,22 @@ number_small c = let at = c.loop-place.place in omega (arith, c.number_of-number
 pub returns-then-seen-ne0 : goal.returns-then-seen-ne0
 returns-then-seen-ne0 c =
     let x = c.args in
-    let l = given x.stem.now x.cycle.now in
+    let l = lent x.lasso.now in
     let k = c.requires.playable in
     let h = c.loop-place.invariant in
     let e = met k h c.if-place-start.true c.number_of-number.result c.number_of-number.ensures c.if-seen-ne0.true in
-    record { answer = run_said x.p x.table.now l _ _ e.0 e.1; buffer = run_written k h c.if-place-start.true e.0 }
+    record { answer = run_said x.self.now.pair.now x.self.now.table.now l _ _ e.0 e.1; buffer = run_written k h c.if-place-start.true e.0 }
 
 -- no mark, or no loop start: the marks are as the next turn wants them
 abbrev Joined : Type 0
 Joined = After-struct_known-in-loop-place-1
 
-not_ended : (c : Joined) → let x = c.args in NotEnded x.p x.table.now (given x.stem.now x.cycle.now) c.if-place-start.marks c.loop-place.place
+not_ended : (c : Joined) → let x = c.args in NotEnded x.self.now.pair.now x.self.now.table.now (lent x.lasso.now) c.if-place-start.marks c.loop-place.place
 not_ended c =
     let x = c.args in
     let k = c.requires.playable in
     let h = c.loop-place.invariant in
-    let Goes : List ℕ → Type 0 = λ m. NotEnded x.p x.table.now (given x.stem.now x.cycle.now) m c.loop-place.place in
+    let Goes : List ℕ → Type 0 = λ m. NotEnded x.self.now.pair.now x.self.now.table.now (lent x.lasso.now) m c.loop-place.place in
     elim c.if-place-start.branch [
       | then-place-start+else-seen-ne0 w ↦
           subst Goes (sym w.marks-is) (marked_on k h w.if-place-start.true w.number_of-number.result w.number_of-number.ensures w.if-seen-ne0.false)
@@ -89,7 +88,7 @@ earlier c = get_or c.loop-place.marks c.number_of-number.result 0 - 1
 earlier_small : (c : Then-seen-ne0) → earlier c < c.loop-place.place.round
 earlier_small c = earlier_low c.requires.playable c.loop-place.invariant c.if-place-start.true c.number_of-number.result c.number_of-number.ensures c.if-seen-ne0.true
 
-turns_small : (c : Then-seen-ne0) (x : ℕ) → x ≤ c.loop-place.place.round → x * length c.args.cycle.now ≤ run_room
+turns_small : (c : Then-seen-ne0) (x : ℕ) → x ≤ c.loop-place.place.round → x * length c.args.lasso.now.cycle.now ≤ run_room
 turns_small c x h = let k = c.requires.playable in rounds_low k x (omega (arith, round_low k c.loop-place.invariant))
 
 pub overflow_mul-result : goal.overflow_mul-result
@@ -124,7 +123,7 @@ has_room : (c : Joined) → c.loop-place.t < run_room
 has_room c = room c.requires.playable c.loop-place.invariant (not_ended c)
 
 pub overflow_cast-run : goal.overflow_cast-run
-overflow_cast-run c = omega (arith, state_lt c.requires.playable c.loop-place.invariant.on, c.requires.tabled.well.abstraction.states_high)
+overflow_cast-run c = omega (arith, state_lt c.requires.playable c.loop-place.invariant.on, c.args.self.now.is_tabled.well.abstraction.states_high)
 
 pub bounds-run-t : goal.bounds-run-t
 bounds-run-t c = omega (arith, has_room c, c.loop-place.invariant.long, c.requires.run_room_in_bounds)
