@@ -52,11 +52,11 @@ pub fn partners(predecessors: &[u64; 64], row: u64) -> u64
 pub fn partner_rows(nc: usize, predecessors: &[u64; 64], set: &[u64; 64]) -> [u64; 64]
     ensures { result ≡ partner_rows nc predecessors.now set.now }
 {
-    array::from_fn(|d| if d < nc {
-        partners(predecessors, set[d])
-    } else {
-        0
-    })
+    let mut out = [0u64; 64];
+    for d in 0..nc.min(64) {
+        out[d] = partners(predecessors, set[d]);
+    }
+    out
 }
 
 // The states that are in the row of each of the moves.
@@ -83,7 +83,11 @@ pub fn step_rows(
     ensures { result ≡ step_rows nc moves.now predecessors.now set.now }
 {
     let rows = partner_rows(nc, predecessors, set);
-    array::from_fn(|c| if c < nc { meet(moves[c], &rows) } else { 0 })
+    let mut out = [0u64; 64];
+    for c in 0..nc.min(64) {
+        out[c] = meet(moves[c], &rows);
+    }
+    out
 }
 
 // The goals of a section, from its set and from the pairs that step into the next section.
