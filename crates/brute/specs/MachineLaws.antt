@@ -1,19 +1,21 @@
 -- Laws of what lies past an array's end, and of machines as the plain reading meets them.
-use Rattle.std.specs.Prelude.{true, false, List, ◌≡◌, ◌<◌, ◌≤◌, ℕ, eqb, get_or, leb, length, min}
-use Rattle.std.proofs.Common.{sym, ap, ◌∙◌, arith, eqb-true}
+use Rattle.std.specs.Prelude.{true, false, List, ◌≡◌, ◌<◌, ◌≤◌, ◌^◌, ℕ, eqb, get_or, leb, length, min, is_err, is_ok, refl, Ok, Err}
+use Rattle.std.proofs.Common.{sym, ap, ◌∙◌, arith, eq-eqb, ne_eqb, ⊎_elim}
 use Rattle.std.proofs.Math.Decide.{dec_lt}
 use Rattle.std.proofs.Math.Nat.{min-eq_left}
 use Rattle.std.proofs.Math.ListN.{get_or-eq_default}
-use Rattle.std.proofs.lemmas.Bool.{eqb-false, lt-leb}
+use Rattle.std.proofs.lemmas.Bool.{lt-leb}
 use Rattle.mask.specs.Bits.{full_mask, has_bit}
-use Rattle.mask.specs.BitsLaws.{full_lt, has_beyond, has_none}
-use Rattle.mask.specs.Bounded.{some_in}
-use Rattle.mask.specs.BoundedLaws.{some_none}
+use Rattle.mask.specs.BitsLaws.{full_lt, has_beyond, has_none, no_bits_zero}
+use Rattle.mask.specs.Bounded.{some, some_in}
+use Rattle.mask.specs.BoundedLaws.{some_none, some_at, none_at}
 use Rattle.mask.specs.Logic.{and, not}
-use Rattle.mask.specs.LogicLaws.{and_false_l, and_false_r, clash, not_e, not_false}
+use Rattle.mask.specs.LogicLaws.{and_false_l, and_false_r, both, clash, dec, not_f, not_i}
 use Rattle.machine.specs.WellFormed.{beyond}
 use Rattle.machine.specs.Machines.{fair_set, observation, successors}
+use Rattle.machine.specs.Refusals.{Tested, valid}
 use Rattle.machine.specs.declared.Machine.{Machine}
+use Rattle.machine.specs.declared.Refusal.{Refusal}
 
 -- an array has no element past its end
 pub past_end : (l : List ℕ) (n i : ℕ) → length l ≡ n → n ≤ i → 0 ≡ get_or l i 0
@@ -49,8 +51,25 @@ full_not_beyond n m h = some_none 64 _ (λ k l. go k l (dec_lt k n))
 pub state_nonzero : (members s : ℕ) → has_bit members s ≡ true → members ≡ 0 → ⊥
 state_nonzero members s t e = clash (has_none s) (ap (λ (x : ℕ). has_bit x s) (sym e) ∙ t)
 
-pub stateless_zero : (members : ℕ) → not (eqb members 0) ≡ false → members ≡ 0
-stateless_zero members t = eqb-true members 0 (not_false _ t)
+-- a set of 64 bits of which none is one is 0
+pub some_member : (members : ℕ) → members < 2 ^ 64 → some 64 (has_bit members) ≡ not (eqb members 0)
+some_member members h = both _ _
+    (λ t. let q = some_at 64 _ t in not_i (ne_eqb members 0 (state_nonzero members q.0 q.2)))
+    (λ t. ⊎_elim (λ u. u) (λ u. absurd (clash (not_f (eq-eqb members 0 (no_bits_zero 64 members h (none_at 64 _ u)))) t)) (dec (some 64 (has_bit members))))
 
-pub state_some : (members : ℕ) → not (eqb members 0) ≡ true → members ≡ 0 → ⊥
-state_some members t = eqb-false members 0 (not_e _ t)
+-- ---- what a test says, asked whether it refuses
+pub none_refused : (v : Tested) → is_err v ≡ false → v ≡ valid
+none_refused (Ok t) e = refl
+none_refused (Err r) e = absurd (clash e refl)
+
+pub some_refused : (v : Tested) → is_err v ≡ true → (r : Refusal) × (v ≡ Err r)
+some_refused (Ok t) e = absurd (clash refl e)
+some_refused (Err r) e = (r, refl)
+
+pub ok_passed : (v : Tested) → is_ok v ≡ true → v ≡ valid
+ok_passed (Ok t) e = refl
+ok_passed (Err r) e = absurd (clash refl e)
+
+pub ok_failed : (v : Tested) → is_ok v ≡ false → (r : Refusal) × (v ≡ Err r)
+ok_failed (Ok t) e = absurd (clash e refl)
+ok_failed (Err r) e = (r, refl)

@@ -1,13 +1,17 @@
 -- Laws of ranks that are found by brute force: the rule case by case, and what a turn of each loop does.
-use Rattle.std.specs.Prelude.{Bool, cond, true, List, ◌≡◌, eqb, get_or, length, replicate, set, Err}
+use Rattle.std.proofs.Math.Bool as B
+use Rattle.std.specs.Prelude.{Bool, None, Some, is_some, cond, true, List, ◌≡◌, eqb, get_or, length, replicate, set, Err}
 use Rattle.std.proofs.Math.Bool.{false}
-use Rattle.std.proofs.Common.{◌∙◌, add-one}
+use Rattle.std.proofs.Common.{◌∙◌, add-one, lt-ltb, le-ltb}
+use Rattle.std.proofs.Math.Decide.{dec_lt}
+use Rattle.std.proofs.Math.Logic.{by_cases}
 use Rattle.std.proofs.Math.Path.{refl, sym}
 use Prim.Native.Nat.{◌%◌, ◌*◌, ◌+◌, ◌-◌, ◌/◌, ◌<◌, ◌≤◌, min, suc, zero, ℕ}
 use native.Mathlib.Omega.{arith}
-use borrow.Author.Tests.{eq-eqb, le-leb, lt-leb, ne_eqb}
+use borrow.Author.Tests.{eq-eqb, le-leb, lt-leb, ne_eqb, not-false, not-true}
 use Rattle.mask.specs.Bits.{full_mask}
-use Rattle.mask.specs.BoundedLaws.{every_not, every_of, first_is, first_le, first_none}
+use Rattle.mask.specs.Bounded.{below}
+use Rattle.mask.specs.BoundedLaws.{below_at, below_past, first_le, is_below}
 use Rattle.mask.specs.Logic.{and, not}
 use Rattle.mask.specs.LogicLaws.{and_false_l, and_false_r, and_i, and_true_l, not_f, not_i, or_false_l, or_l, or_r}
 use Rattle.mask.specs.Tables.{front}
@@ -50,52 +54,20 @@ module _ (S : List ℕ) (r : ℕ) (R : List ℕ) where
   mark_done d h = front_end mark_at R d h
 
 module _ (p : Pair) (T : List ℕ) (j : ℕ) where
-  -- ---- the rule of X(l, k)
-  module _ (R : List ℕ) (low k : ℕ) (S : List ℕ) (c a : ℕ) where
-    pub keeps_unmatched : matched p c a ≡ false → keeps p T j R low k S c a ≡ false
-    unfolding keeps
-    keeps_unmatched t = and_false_l _ t
-
-    module _ (m : matched p c a ≡ true) where
-      pub keeps_goal : goal_line p T j c a ≡ true → keeps p T j R low k S c a ≡ true
-      unfolding keeps
-      keeps_goal t = and_i m (or_l _ t)
-
-      pub keeps_lower : steps p (in_target p R (AtMost low) 0) c a ≡ true → keeps p T j R low k S c a ≡ true
-      unfolding keeps
-      keeps_lower t = and_i m (or_r _ (or_l _ t))
-
-      module _ (g : goal_line p T j c a ≡ false) (l : steps p (in_target p R (AtMost low) 0) c a ≡ false) where
-        pub keeps_inside : in_fair_set p.concrete k c ≡ true → keeps p T j R low k S c a ≡ false
-        unfolding keeps
-        keeps_inside t = and_true_l _ m ∙ or_false_l _ g ∙ or_false_l _ l ∙ and_false_l _ (not_f t)
-
-        pub keeps_outside : in_fair_set p.concrete k c ≡ false → keeps p T j R low k S c a ≡ steps p (in_target p S NonBlank 0) c a
-        unfolding keeps
-        keeps_outside t = and_true_l _ m ∙ or_false_l _ g ∙ or_false_l _ l ∙ and_true_l _ (not_i t)
-
   -- ---- the sets that meet it, and the largest of them
   module _ (R : List ℕ) (i : ℕ) where
-    -- pair number e of a set does not meet the rule over it
-    abbrev pub unkept_at : List ℕ → ℕ → Bool
-    unkept_at S e = and (not (eqb (get_or S e 0) blank)) (not (keeps p T j R (i / sets_c p * sets_c p) (i % sets_c p) S (e / n_a p) (e % n_a p)))
-
-    pub unkept_is : (S : List ℕ) (e : ℕ) → e < pairs p → unkept_at S e ≡ true → ((k : ℕ) → k < e → unkept_at S k ≡ false) → unkept p T j R i S ≡ e
-    unfolding unkept
-    unkept_is S e h t b = first_is (pairs p) _ e h t b
-
-    pub unkept_none : (S : List ℕ) → ((k : ℕ) → k < pairs p → unkept_at S k ≡ false) → unkept p T j R i S ≡ pairs p
-    unfolding unkept
-    unkept_none S b = first_none (pairs p) _ b
-
     pub unkept_le : (S : List ℕ) → unkept p T j R i S ≤ pairs p
     unfolding unkept
     unkept_le S = first_le (pairs p) _
 
-    -- S is set number x as a table
-    pub closed_is : (x : ℕ) {S : List ℕ} {e : ℕ} → S ≡ numbered_table 1 x (pairs p) (replicate 64 blank) → e ≡ unkept p T j R i S → eqb e (pairs p) ≡ closed p T j R i x
+    -- S is set number x as a table, in which no pair is looked for in vain
+    pub closed_is : (x : ℕ) {S : List ℕ} {b : Bool} → S ≡ numbered_table 1 x (pairs p) (replicate 64 blank) → B.not b ≡ is_some (below (pairs p) (unkept p T j R i S)) → b ≡ closed p T j R i x
     unfolding closed as_table
-    closed_is x s q = rw (q, s)
+    closed_is x {S} {b} s q =
+        let t = q ∙ is_below (pairs p) (unkept p T j R i S) in
+        by_cases (dec_lt (unkept p T j R i S) (pairs p))
+        (λ l. not-true b (t ∙ lt-ltb _ _ l) ∙ rw (← s) (sym (ne_eqb _ _ (λ e. omega arith))))
+        (λ l. let e : unkept p T j R i S ≡ pairs p = omega (arith, unkept_le S) in not-false b (t ∙ le-ltb _ _ (omega arith)) ∙ rw (← s) (sym (eq-eqb _ _ e)))
 
     pub largest_found : (x : ℕ) → 0 < x → closed p T j R i x ≡ true → largest p T j R i x ≡ x
     unfolding largest
@@ -118,21 +90,23 @@ module _ (p : Pair) (T : List ℕ) (j : ℕ) where
       unfolding struck
       struck_none z = rw z at a
 
-      module _ {e : ℕ} (q : e ≡ unkept p T j R i S) where
-        pub struck_done : e ≡ pairs p → S ≡ A
-        unfolding struck
-        struck_done z = sym (still n) ∙ a
-          where
-            still : (k : ℕ) → struck p T j R i k S ≡ S
-            still zero = refl
-            still (suc k) = rw (eq-eqb _ _ (sym q ∙ z))
+      pub struck_done : None ≡ below (pairs p) (unkept p T j R i S) → S ≡ A
+      unfolding struck
+      struck_done q = sym (still n) ∙ a
+        where
+          all : unkept p T j R i S ≡ pairs p
+          all = omega (arith, below_past (pairs p) _ (sym q), unkept_le S)
 
-        pub struck_next : (k : ℕ) → (e ≡ pairs p → ⊥) → n ≡ suc k → struck p T j R i k (set S e blank) ≡ A
-        unfolding struck
-        struck_next k h z = go (rw z at a)
-          where
-            go : struck p T j R i (suc k) S ≡ A → struck p T j R i k (set S e blank) ≡ A
-            go b = rw q (rw (ne_eqb _ _ (λ y. h (q ∙ y))) at b)
+          still : (k : ℕ) → struck p T j R i k S ≡ S
+          still zero = refl
+          still (suc k) = rw (eq-eqb _ _ all)
+
+      pub struck_next : (k e : ℕ) → Some e ≡ below (pairs p) (unkept p T j R i S) → n ≡ suc k → struck p T j R i k (set S e blank) ≡ A
+      unfolding struck
+      struck_next k e q z = let at = below_at (pairs p) _ (sym q) in go at.0 at.1 (rw z at a)
+        where
+          go : e ≡ unkept p T j R i S → unkept p T j R i S < pairs p → struck p T j R i (suc k) S ≡ A → struck p T j R i k (set S e blank) ≡ A
+          go f l b = rw f (rw (ne_eqb (unkept p T j R i S) (pairs p) (λ y. omega arith)) at b)
 
     -- ---- few pairs and many
     module _ (S : List ℕ) {A : List ℕ} where
@@ -153,20 +127,6 @@ module _ (p : Pair) (T : List ℕ) (j : ℕ) where
   unfolding ranked
   ranked_step R₀ i e f a = rw (a, f, e, add-one)
 
-  -- ---- the rank of a pair
-  module _ (R : List ℕ) (e : ℕ) where
-    pub rank_goal : matched p (e / n_a p) (e % n_a p) ≡ true → goal_line p T j (e / n_a p) (e % n_a p) ≡ true → rank_of p T j R e ≡ 0
-    unfolding rank_of
-    rank_goal t g = rw (and_i t g)
-
-    pub rank_unmatched : matched p (e / n_a p) (e % n_a p) ≡ false → rank_of p T j R e ≡ get_or R e 0
-    unfolding rank_of
-    rank_unmatched t = let b : and (matched p (e / n_a p) (e % n_a p)) (goal_line p T j (e / n_a p) (e % n_a p)) ≡ false = and_false_l _ t in rw b
-
-    pub rank_entry : goal_line p T j (e / n_a p) (e % n_a p) ≡ false → rank_of p T j R e ≡ get_or R e 0
-    unfolding rank_of
-    rank_entry g = let b : and (matched p (e / n_a p) (e % n_a p)) (goal_line p T j (e / n_a p) (e % n_a p)) ≡ false = and_false_r _ g in rw b
-
 -- ---- what counts of an entry
 module _ (exact : Bool) (e : ℕ) where
   pub shown_all : exact ≡ true → e ≡ shown_entry exact e
@@ -181,27 +141,8 @@ module _ (exact : Bool) (e : ℕ) where
   unfolding shown_entry
   shown_covered t h = rw (t, ne_eqb e blank h)
 
--- ---- the ranks of a section
--- R has the ranks that were found; x and y are what counts of a pair's rank and of its entry
-module _ (p : Pair) (exact : Bool) (T S : List ℕ) (j : ℕ) {R : List ℕ} (r : R ≡ ranked p T j (sets_c p * pairs p) unranked) where
-  pub section_not : (e : ℕ) → e < pairs p → (shown_entry exact (rank_of p T j R e) ≡ shown_entry exact (get_or S (j * pairs p + e) 0) → ⊥) → section_ranked p exact T S j ≡ false
-  unfolding section_ranked
-  section_not e h n = rw (← r) (every_not (pairs p) _ e h (ne_eqb _ _ n))
-
-  pub section_all : ((e : ℕ) → e < pairs p → shown_entry exact (rank_of p T j R e) ≡ shown_entry exact (get_or S (j * pairs p + e) 0)) → section_ranked p exact T S j ≡ true
-  unfolding section_ranked
-  section_all h = rw (← r) (every_of (pairs p) _ (λ e l. eq-eqb _ _ (h e l)))
-
 -- ---- the ranks of a table
 module _ (p : Pair) (exact : Bool) (T S : List ℕ) where
   pub table_ill : (r : Refusal) → pair_validity p ≡ Err r → table_ranked p exact T S ≡ false
   unfolding table_ranked well_formed is_valid
   table_ill r e = and_false_l _ (rw e)
-
-  pub table_not : (j : ℕ) → j < sets_a p → section_ranked p exact T S j ≡ false → table_ranked p exact T S ≡ false
-  unfolding table_ranked
-  table_not j h t = and_false_r _ (every_not (sets_a p) _ j h t)
-
-  pub table_all : well_formed p ≡ true → ((j : ℕ) → j < sets_a p → section_ranked p exact T S j ≡ true) → table_ranked p exact T S ≡ true
-  unfolding table_ranked
-  table_all w h = and_i w (every_of (sets_a p) _ h)

@@ -1,14 +1,18 @@
 -- Laws of lassos and runs as the plain reading meets them.
-use Rattle.std.specs.Prelude.{false, true, List, [], ◌≡◌, ◌<◌, ◌≤◌, ℕ, length}
-use Rattle.std.proofs.Common.{◌∙◌, arith, le-ltb}
+use Rattle.std.specs.Prelude.{Bool, false, true, cond, List, [], ◌≡◌, ◌+◌, ◌-◌, ◌<◌, ◌≤◌, ℕ, eqb, leb, length, ltb}
+use Rattle.std.proofs.Common.{◌∙◌, sym, add-one, arith, eq-eqb, le-ltb, lt-ltb, ne_eqb}
+use Rattle.std.proofs.Math.Decide.{ℕ_discrete}
+use Rattle.std.proofs.Math.Logic.{by_cases}
 use Rattle.std.proofs.Math.Path.{refl}
 use Rattle.std.proofs.Math.ListN.{get_or-eq_default}
-use Rattle.mask.specs.Bounded.{first}
-use Rattle.mask.specs.LogicLaws.{and_false_l, and_false_r, and_true_l, refute}
+use Rattle.mask.specs.Bounded.{every, first}
+use Rattle.mask.specs.BoundedLaws.{every_cong}
+use Rattle.mask.specs.Logic.{and, not, or}
+use Rattle.mask.specs.LogicLaws.{and_false_l, and_false_r, and_true_l}
 use Rattle.machine.specs.Lassos.{Lasso, from_start, is_fair, is_lasso, is_play, lasso_length, moment, given}
-use Rattle.machine.specs.Machines.{starts}
-use Rattle.machine.specs.Player.{missed_set}
-use Rattle.machine.specs.LassosLaws.{Goes, lasso_goes, moment_round}
+use Rattle.machine.specs.Machines.{moves, starts}
+use Rattle.machine.specs.Player.{bad_step, missed_set}
+use Rattle.machine.specs.LassosLaws.{moment_round}
 use Rattle.machine.specs.declared.Machine.{Machine}
 
 -- of an empty loop there is 0 past the stem
@@ -21,8 +25,9 @@ module _ (m : Machine) (l : Lasso) where
   unfolding is_lasso
   lasso_empty e = and_false_l _ (le-ltb 0 (length l.loop) (omega arith))
 
-  pub lasso_not : (t : ℕ) → t < lasso_length l → (Goes m l t → ⊥) → is_lasso m l ≡ false
-  lasso_not t h f = refute _ (λ u. f (lasso_goes m l u t h))
+  pub lasso_each : 0 < length l.loop → every (lasso_length l) (λ t. and (ltb (moment l t) m.states) (moves m (moment l t) (moment l (t + 1)))) ≡ is_lasso m l
+  unfolding is_lasso
+  lasso_each h = every_cong _ _ _ (λ t k. rw add-one) ∙ sym (and_true_l _ (lt-ltb 0 _ h))
 
 -- ---- a play, part by part; the stem makes no difference to fairness
 module _ (m : Machine) (stem cycle : List ℕ) where
@@ -46,3 +51,12 @@ module _ (m : Machine) (stem cycle : List ℕ) where
     pub play_start : is_fair m (given stem cycle) ≡ true → is_play m (given stem cycle) ≡ starts m (moment (given stem cycle) 0)
     unfolding is_play from_start
     play_start u = and_true_l _ t ∙ and_true_l _ u
+
+-- ---- 14 at position i, as code asks for it: s is the state there, the tests tell whether it is entered rightly and whether it is the last one
+module _ (m : Machine) (l : Lasso) (i s : ℕ) (at : s ≡ moment l i) where
+  pub bad_is : {entered last : Bool} → entered ≡ cond (eqb i 0) (starts m s) (moves m (moment l (i - 1)) s) → last ≡ eqb (i + 1) (lasso_length l)
+      → bad_step m l i ≡ or (leb m.states s) (or (not entered) (and last (not (moves m s (moment l (i + 1))))))
+  unfolding bad_step
+  bad_is e f = rw (e, f, at, add-one) (by_cases (ℕ_discrete i 0)
+      (λ z. rw (eq-eqb i 0 z, z) refl)
+      (λ n. rw (ne_eqb i 0 n) refl))

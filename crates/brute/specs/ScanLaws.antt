@@ -1,24 +1,25 @@
 -- Laws of a scan of all states that keeps the best one so far, and of the player's places.
-use Rattle.std.specs.Prelude.{Bool, false, true, List, ◌≡◌, refl, eqb, get_or, length, Err, None, Ok, Option, Some, ℕ}
+use Rattle.std.specs.Prelude.{Bool, false, true, List, ◌≡◌, refl, eqb, get_or, length, Err, None, Ok, Option, Some, is_some, unwrap_or, ℕ}
 use Rattle.std.proofs.Math.Logic.{by_cases}
-use Rattle.std.proofs.Common.{⊎_elim, ◌∙◌, eq-eqb, ne_eqb}
+use Rattle.std.proofs.Common.{⊎_elim, ◌∙◌, sym, eq-eqb, eqb-true, le-ltb, lt-ltb, ne_eqb}
 use Prim.Native.Nat.{◌*◌, ◌+◌, ◌-◌, ◌<◌, ◌≤◌, suc, zero, ℕ}
 use Rattle.std.proofs.Math.Decide.{dec_lt}
 use Rattle.std.proofs.Math.Nat.{le_of_lt}
 use Rattle.std.proofs.Math.Numerals.{add-one}
 use native.Mathlib.Omega.{arith}
-use Rattle.mask.specs.Bounded.{first, some}
-use Rattle.mask.specs.BoundedLaws.{first_before, first_has, first_is, first_none, some_none, some_of}
-use Rattle.mask.specs.LogicLaws.{and_false_l, and_true_l, dec}
+use Rattle.mask.specs.Bounded.{below, first, some}
+use Rattle.mask.specs.BoundedLaws.{first_before, first_has, is_below, some_none, some_of}
+use Rattle.mask.specs.LogicLaws.{and_false_l, and_true_l, both, dec}
+use Rattle.std.specs.Option.{ok_or, option_eq}
 use Rattle.machine.specs.Lassos.{Lasso, moment}
 use Rattle.machine.specs.Lines.{non_blank}
 use Rattle.machine.specs.LinesLaws.{covers_at}
 use Rattle.machine.specs.Machines.{moves, n_a, n_c, sets_a, successors}
 use Rattle.machine.specs.PartnerLaws.{better_in, better_out, least_miss, least_step, limit_of, partner_view}
-use Rattle.machine.specs.Player.{Place, earlier_round, follow, last_round, loop_length, loop_start, place_at, play_validity, played, same_place, section_after, start_partner, stem_length, step_to, play_answer}
+use Rattle.machine.specs.Player.{Place, earlier_round, follow, last_round, loop_length, loop_start, place_at, play_validity, same_place, section_after, start_partner, stem_length, step_to, play_answer}
 use Rattle.machine.specs.Refusals.{valid}
 use Rattle.machine.specs.RefusalsLaws.{then_of, then_refused}
-use Rattle.machine.specs.Step.{least, partner, staying, single_step, state_of}
+use Rattle.machine.specs.Step.{least, partner, present_of, staying, single_step, state_of}
 use Rattle.machine.specs.Table.{blank, covers, entry, entry_index}
 use Rattle.machine.specs.PlayerLaws.{section_lt}
 use Rattle.machine.specs.declared.Pair.{Pair}
@@ -56,6 +57,12 @@ module _ (q : ℕ → Bool) (key : ℕ → ℕ) (bound : ℕ) where
         })
         (λ t. scan_miss t) (dec (q n))
 
+-- whether a state is the present one, as code asks for it
+pub present_told : (o : Option ℕ) (a : ℕ) → a < 64 → option_eq eqb o (Some a) ≡ eqb a (present_of o)
+unfolding present_of
+present_told (Some b) a h = both _ _ (λ t. eq-eqb a b (sym (eqb-true b a t))) (λ t. eq-eqb b a (sym (eqb-true a b t)))
+present_told None a h = sym (ne_eqb a 64 (λ e. omega arith))
+
 -- the key of a state from its entry
 pub keyed : (present : ℕ) (entries : ℕ → ℕ) (a e key : ℕ) → e ≡ entries a → key ≡ staying present (λ _. e) a → key ≡ staying present entries a
 unfolding staying
@@ -65,10 +72,10 @@ keyed present entries a e key h k = k ∙ rw h
 module _ (p : Pair) (T : List ℕ) (small : (i : ℕ) → get_or T i 0 ≤ blank) where
   pub entry_below : (j c a : ℕ) → covers p T j c a ≡ true → entry p T j c a < blank
   unfolding entry
-  entry_below j c a t = let h = covers_at p T j c a t in let s = small (entry_index (n_c p) (n_a p) j c a) in below _ s h
+  entry_below j c a t = let h = covers_at p T j c a t in let s = small (entry_index (n_c p) (n_a p) j c a) in lower _ s h
     where
-      below : (e : ℕ) → e ≤ blank → (e ≡ blank → ⊥) → e < blank
-      below e s h = by_cases (dec_lt e blank) (λ l. l) (λ l. absurd (h (omega arith)))
+      lower : (e : ℕ) → e ≤ blank → (e ≡ blank → ⊥) → e < blank
+      lower e s h = by_cases (dec_lt e blank) (λ l. l) (λ l. absurd (h (omega arith)))
 
 -- ---- places stay within the abstract machine's 64 states and its sections
 pub state_small : (moves : ℕ) (S : ℕ → Bool) (key : ℕ → ℕ) → state_of (partner moves S key) < 64
@@ -113,20 +120,26 @@ module _ (p : Pair) (T : List ℕ) (l : Lasso) where
     unfolding same_place
     place_same h = rw (← eu, ← ev) (and_true_l _ (eq-eqb _ _ h))
 
-  -- a search among the earlier rounds
-  pub round_found : (y : ℕ) → first y (λ x. same_place p T l x y) < y → some y (λ x. same_place p T l x y) ≡ true
-  round_found y h = some_of y _ _ h (first_has y _ h)
+-- what a search answers, with its end where there is none
+pub or_end : (n i : ℕ) → i ≤ n → unwrap_or (below n i) n ≡ i
+unfolding below
+or_end n i h = by_cases (dec_lt i n) (λ l. rw (lt-ltb i n l)) (λ l. rw (le-ltb i n (omega arith)) (omega arith))
 
-  pub round_none : (y : ℕ) → y ≤ first y (λ x. same_place p T l x y) → some y (λ x. same_place p T l x y) ≡ false
-  round_none y h = some_none y _ (λ x k. first_before y (λ x. same_place p T l x y) x (omega arith))
+-- there is a first exactly if there is one
+pub some_found : (n : ℕ) (q : ℕ → Bool) → is_some (below n (first n q)) ≡ some n q
+some_found n q =
+    is_below n _
+    ∙ by_cases (dec_lt (first n q) n) (λ l. lt-ltb _ n l ∙ sym (some_of n q _ l (first_has n q l)))
+    (λ l. le-ltb _ n (omega arith) ∙ sym (some_none n q (λ i k. first_before n q i (omega arith))))
 
-  pub last_is : (y : ℕ) → y < 449 → some y (λ x. same_place p T l x y) ≡ true → ((k : ℕ) → k < y → some k (λ x. same_place p T l x k) ≡ false) → last_round p T l ≡ y
-  unfolding last_round
-  last_is y h t b = first_is 449 _ y h t b
+-- ---- what a partner that is asked for says
+pub partner_none_lem : (o : Option ℕ) (s r : Refusal) → ok_or o s ≡ Err r → (o ≡ None) × (s ≡ r)
+partner_none_lem (Some a) s r e = (cc, cc)
+partner_none_lem None s r e = (refl, cc)
 
-  pub last_none : ((k : ℕ) → k < 449 → some k (λ x. same_place p T l x k) ≡ false) → last_round p T l ≡ 449
-  unfolding last_round
-  last_none b = first_none 449 _ b
+pub partner_some_lem : (o : Option ℕ) (s : Refusal) (a : ℕ) → ok_or o s ≡ Ok a → o ≡ Some a
+partner_some_lem (Some b) s a e = cc
+partner_some_lem None s a e = cc
 
 -- ---- the answer
 module _ (p : Pair) (T : List ℕ) (l : Lasso) where
@@ -135,6 +148,6 @@ module _ (p : Pair) (T : List ℕ) (l : Lasso) where
   played_refused r e = then_refused _ _ r e
 
   pub played_run : play_validity p T l ≡ valid → (x y : ℕ) → y ≡ last_round p T l → x ≡ first y (λ x. same_place p T l x y)
-      → play_answer p T l ≡ Ok (played (loop_start p T l x) ((y - x) * length l.loop))
+      → play_answer p T l ≡ Ok (record { stem = loop_start p T l x; cycle = (y - x) * length l.loop })
   unfolding play_answer stem_length loop_length earlier_round
   played_run v x y ey ex = then_of _ _ v ∙ rw (← ey, ← ex)

@@ -1,13 +1,15 @@
 -- Laws of an entry's l and k as they are counted down, of the place of an entry, and of the sets that a line steps into.
-use Rattle.std.specs.Prelude.{Bool, false, true, List, ◌≡◌, ◌*◌, ◌+◌, ◌-◌, ◌/◌, ◌<◌, ◌≤◌, ℕ, Err}
-use Rattle.std.proofs.Common.{◌∙◌, ap, mod-eq_of_lt, add-one, arith}
+use Rattle.std.specs.Prelude.{Bool, false, true, None, Option, Some, is_some, unwrap_or, List, ◌≡◌, ◌*◌, ◌+◌, ◌-◌, ◌/◌, ◌<◌, ◌≤◌, ℕ, Err}
+use Rattle.std.proofs.Common.{◌∙◌, ap, subst, mod-eq_of_lt, add-one, arith}
 use Rattle.std.proofs.Math.Path.{refl, sym}
+use Rattle.std.proofs.Math.Logic.{by_cases}
+use Rattle.std.proofs.Math.Decide.{dec_lt}
 use Rattle.std.proofs.Math.Nat.{add-mod_right, div-eq_of_lt, div-eq-sub-div}
 use borrow.Author.Tests.{eq-eqb, le-leb, le-ltb, lt-leb, lt-ltb, ne_eqb}
-use Rattle.mask.specs.Bounded.{every, first, some_in}
-use Rattle.mask.specs.BoundedLaws.{every_in_at, every_in_of, some_in_none, some_in_of}
+use Rattle.mask.specs.Bounded.{below, every, first, some_in}
+use Rattle.mask.specs.BoundedLaws.{below_at, below_past, first_all, first_has, first_some, is_below}
 use Rattle.mask.specs.Logic.{not}
-use Rattle.mask.specs.LogicLaws.{and_false_l, and_true_l, clash, not_f, refute}
+use Rattle.mask.specs.LogicLaws.{and_false_l, and_true_l, clash, not_e, not_f, not_i}
 use Rattle.machine.specs.Lines.{at_most, goal_line, lines_validity, lower, non_blank, passes, rank_line}
 use Rattle.machine.specs.Machines.{in_fair_set, matched, moves, n_a, n_c, next, pairs, sets_a, sets_c, starts, successors}
 use Rattle.machine.specs.Ranks.{level_of, set_of}
@@ -67,47 +69,6 @@ module _ (p : Pair) (T : List ℕ) where
   unfolding in_target hit at_most
   target_at_most j r c a = refl
 
-  pub target_in : (t : Target) (j c a : ℕ) {b : Bool} {e : ℕ} → matched p c a ≡ true → e ≡ entry p T j c a → hit t (sets_c p) e ≡ b → in_target p T t j c a ≡ b
-  unfolding in_target
-  target_in t j c a m e h = and_true_l _ m ∙ rw (← e) h
-
-  pub target_out : (t : Target) (j c a : ℕ) → matched p c a ≡ false → in_target p T t j c a ≡ false
-  unfolding in_target
-  target_out t j c a m = and_false_l _ m
-
--- ---- searches among successors and start states, as a loop over all states goes
-module _ (p : Pair) where
-  module _ (S : ℕ → Bool) (a : ℕ) where
-    pub partner_some : (b : ℕ) → b < n_a p → moves p.abstraction a b ≡ true → S b ≡ true → some_in (n_a p) (successors p.abstraction a) S ≡ true
-    unfolding moves
-    partner_some b h t s = some_in_of (n_a p) _ S b h t s
-
-    pub partner_no : ((b : ℕ) → b < n_a p → moves p.abstraction a b ≡ true → S b ≡ false) → some_in (n_a p) (successors p.abstraction a) S ≡ false
-    unfolding moves
-    partner_no h = some_in_none (n_a p) _ S h
-
-  module _ (S : ℕ → ℕ → Bool) (c a : ℕ) where
-    pub steps_not : (d : ℕ) → d < n_c p → moves p.concrete c d ≡ true → some_in (n_a p) (successors p.abstraction a) (S d) ≡ false → steps p S c a ≡ false
-    unfolding steps moves
-    steps_not d h t s = refute _ (λ u. clash s (every_in_at (n_c p) _ _ u d h t))
-
-    pub steps_all : ((d : ℕ) → d < n_c p → moves p.concrete c d ≡ true → some_in (n_a p) (successors p.abstraction a) (S d) ≡ true) → steps p S c a ≡ true
-    unfolding steps moves
-    steps_all h = every_in_of (n_c p) _ _ h
-
-  module _ (T : List ℕ) (c : ℕ) where
-    pub start_some : (a : ℕ) → a < n_a p → starts p.abstraction a ≡ true → covers p T 0 c a ≡ true → start_covered p T c ≡ true
-    unfolding start_covered starts
-    start_some a h t s = some_in_of (n_a p) _ _ a h t s
-
-    pub start_no : ((a : ℕ) → a < n_a p → starts p.abstraction a ≡ true → covers p T 0 c a ≡ false) → start_covered p T c ≡ false
-    unfolding start_covered starts
-    start_no h = some_in_none (n_a p) _ _ h
-
-    pub covers_not : (j a : ℕ) → entry p T j c a ≡ blank → covers p T j c a ≡ false
-    unfolding covers
-    covers_not j a e = not_f (eq-eqb _ _ e)
-
 -- ---- the lines, case by case
 module _ (p : Pair) (T : List ℕ) (j c a : ℕ) where
   pub goal_not : in_fair_set p.abstraction j a ≡ false → goal_line p T j c a ≡ false
@@ -141,12 +102,48 @@ module _ (p : Pair) (T : List ℕ) (j c a : ℕ) where
       pass_rank l z = passes_covered p T j c a h ∙ and_true_l _ t ∙ and_true_l _ (le-leb _ _ l) ∙ rw (ne_eqb _ _ z)
 
 -- ---- the first entry that fails, as nested searches find it
-module _ (p : Pair) (T : List ℕ) (j : ℕ) (ej : j ≡ first (sets_a p) (λ j. not (every (n_c p) (λ c. every (n_a p) (passes p T j c))))) where
-  pub lines_at_lem : (c a : ℕ) → c ≡ first (n_c p) (λ c. not (every (n_a p) (passes p T j c))) → a ≡ first (n_a p) (λ a. not (passes p T j c a))
-      → j < sets_a p → lines_validity p T ≡ Err (FailingEntry (j + 1) c a)
-  unfolding lines_validity
-  lines_at_lem c a ec ea h = rw (← ej, ← ec, ← ea, lt-ltb j (sets_a p) h, add-one)
+-- there is a first that fails exactly if not every one passes
+pub some_failing : (n : ℕ) (q : ℕ → Bool) → is_some (below n (first n (λ i. not (q i)))) ≡ not (every n q)
+some_failing n q =
+    is_below n _
+    ∙ by_cases (dec_lt (first n (λ i. not (q i))) n) (λ l. lt-ltb _ n l ∙ sym (not_i (first_some n q l)))
+    (λ l. le-ltb _ n (omega arith) ∙ sym (not_f (first_all n q (omega arith))))
 
-  pub lines_none : sets_a p ≤ j → lines_validity p T ≡ valid
+-- where not every one passes the first that fails is below the bound, and what a search answers
+failing_below : (n : ℕ) (q : ℕ → Bool) → not (every n q) ≡ true → first n (λ i. not (q i)) < n
+failing_below n q t = by_cases (dec_lt (first n (λ i. not (q i))) n) (λ l. l) (λ l. absurd (clash (not_e _ t) (first_all n q (omega arith))))
+
+below_is : (n i : ℕ) → i < n → unwrap_or (below n i) 0 ≡ i
+unfolding below
+below_is n i l = rw (lt-ltb i n l)
+
+pub below_le : (n i : ℕ) → unwrap_or (below n i) 0 ≤ n
+unfolding below
+below_le n i = by_cases (dec_lt i n) (λ l. rw (lt-ltb i n l) (omega arith)) (λ l. rw (le-ltb i n (omega arith)) (omega arith))
+
+module _ (p : Pair) (T : List ℕ) where
+  -- what the three searches look for
+  abbrev pub fails : ℕ → ℕ → ℕ → Bool
+  fails j c a = not (passes p T j c a)
+
+  abbrev pub row_fails : ℕ → ℕ → Bool
+  row_fails j c = not (every (n_a p) (passes p T j c))
+
+  abbrev pub section_fails : ℕ → Bool
+  section_fails j = not (every (n_c p) (λ c. every (n_a p) (passes p T j c)))
+
+  pub lines_at_lem : (j c a : ℕ) → Some j ≡ below (sets_a p) (first (sets_a p) section_fails)
+      → c ≡ unwrap_or (below (n_c p) (first (n_c p) (row_fails j))) 0 → a ≡ unwrap_or (below (n_a p) (first (n_a p) (fails j c))) 0
+      → lines_validity p T ≡ Err (FailingEntry (j + 1) c a)
   unfolding lines_validity
-  lines_none h = rw (← ej, le-ltb j (sets_a p) h)
+  lines_at_lem j c a ej ec ea =
+      let q = below_at (sets_a p) _ (sym ej) in
+      let l : first (n_c p) (row_fails j) < n_c p = failing_below (n_c p) _ (subst (λ k. section_fails k ≡ true) (sym q.0) (first_has (sets_a p) section_fails q.1)) in
+      let fc : c ≡ first (n_c p) (row_fails j) = ec ∙ below_is (n_c p) _ l in
+      let m : first (n_a p) (fails j c) < n_a p = failing_below (n_a p) _ (subst (λ k. row_fails j k ≡ true) (sym fc) (first_has (n_c p) (row_fails j) l)) in
+      let fa : a ≡ first (n_a p) (fails j c) = ea ∙ below_is (n_a p) _ m in
+      rw (← q.0, ← fc, ← fa, lt-ltb j (sets_a p) (rw q.0 q.1), add-one)
+
+  pub lines_none : None ≡ below (sets_a p) (first (sets_a p) section_fails) → lines_validity p T ≡ valid
+  unfolding lines_validity
+  lines_none e = rw (le-ltb _ (sets_a p) (below_past (sets_a p) _ (sym e)))

@@ -10,6 +10,7 @@ ghost use Rattle.brute.specs.Families.{is_pair, holds_pairs, family_entry, famil
 use crate::machines::{is_matched, validity};
 use crate::numbers::digit;
 use machine::Pair;
+use std::array;
 
 // ---- The table that covers what a family holds
 
@@ -24,10 +25,7 @@ fn family_entry(p: &Pair, family: &[u64; 448], e: usize) -> u16
     let j = e / pairs;
     let c = e % pairs / abstraction.states;
     let a = e % abstraction.states;
-    if !is_matched(p, c, a) {
-        return machine::BLANK;
-    }
-    if mask::has(family[j * 64 + c], a) {
+    if is_matched(p, c, a) && mask::has(family[j * 64 + c], a) {
         0
     } else {
         machine::BLANK
@@ -40,10 +38,7 @@ pub fn put_family(p: Pair, family: &[u64; 448], table: &mut [u16])
 {
     let concrete = &p.concrete;
     let abstraction = &p.abstraction;
-    if table.len() < machine::TABLE_ROOM {
-        return;
-    }
-    if validity(p).is_err() {
+    if table.len() < machine::TABLE_ROOM || validity(p).is_err() {
         return;
     }
     for e in 0..abstraction.sets * (concrete.states * abstraction.states) {
@@ -59,16 +54,7 @@ fn is_pair(p: &Pair, j: usize, c: usize, a: usize) -> bool
 {
     let concrete = &p.concrete;
     let abstraction = &p.abstraction;
-    if j >= abstraction.sets {
-        return false;
-    }
-    if c >= concrete.states {
-        return false;
-    }
-    if a >= abstraction.states {
-        return false;
-    }
-    is_matched(p, c, a)
+    j < abstraction.sets && c < concrete.states && a < abstraction.states && is_matched(p, c, a)
 }
 
 // Whether each bit of a row stands for such a pair.
@@ -76,29 +62,14 @@ fn row_holds(p: &Pair, j: usize, c: usize, row: u64) -> bool
     ensures { result ≡ every 64 (λ a. or (not (has_bit row a)) (is_pair p.now j c a)) }
 {
     // most rows have no bit at all
-    if row == 0 {
-        return true;
-    }
-    for a in 0..64 {
-        if mask::has(row, a) {
-            if !is_pair(p, j, c, a) {
-                return false;
-            }
-        }
-    }
-    true
+    row == 0 || (0..64).all(|a| !mask::has(row, a) || is_pair(p, j, c, a))
 }
 
 // Whether each bit of a family stands for such a pair: it has no stray bits.
 pub fn holds_pairs(p: Pair, family: &[u64; 448]) -> bool
     ensures { result ≡ holds_pairs p family.now }
 {
-    for e in 0..448 {
-        if !row_holds(&p, e / 64, e % 64, family[e]) {
-            return false;
-        }
-    }
-    true
+    (0..448).all(|e| row_holds(&p, e / 64, e % 64, family[e]))
 }
 
 // ---- Families from numbers
@@ -112,21 +83,16 @@ fn row_number(n: u8, nc: u8, e: usize) -> usize
     let width = nc as usize;
     let j = e / 64;
     let c = e % 64;
-    if j < sections {
-        if c < width {
-            return j * width + c;
-        }
+    if j < sections && c < width {
+        j * width + c
+    } else {
+        sections * width
     }
-    sections * width
 }
 
 // Family number x of n sections and nc concrete states: each of their rows is a digit from 0 to `top`, and all other rows are the digit after these.
 pub fn numbered_family(n: u8, nc: u8, top: u32, x: u64) -> [u64; 448]
     ensures { result ≡ numbered_family n nc top x }
 {
-    let mut out = [0u64; 448];
-    for e in 0..448 {
-        out[e] = digit(x, top, row_number(n, nc, e));
-    }
-    out
+    array::from_fn(|e| digit(x, top, row_number(n, nc, e)))
 }

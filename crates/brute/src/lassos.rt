@@ -15,7 +15,7 @@ pub fn moment_at(stem: &[u8], cycle: &[u8], t: usize) -> u8
     if t < stem.len() {
         return stem[t];
     }
-    if cycle.len() == 0 {
+    if cycle.is_empty() {
         return 0;
     }
     cycle[(t - stem.len()) % cycle.len()]
@@ -25,56 +25,34 @@ pub fn moment_at(stem: &[u8], cycle: &[u8], t: usize) -> u8
 fn is_lasso(m: &Machine, stem: &[u8], cycle: &[u8]) -> bool
     ensures { result ≡ is_lasso m.now (given stem.now cycle.now) }
 {
-    if cycle.len() == 0 {
-        return false;
-    }
-    for t in 0..stem.len() + cycle.len() {
-        let s = moment_at(stem, cycle, t) as usize;
-        if s >= m.states {
-            return false;
-        }
-        if !has_move(m, s, moment_at(stem, cycle, t + 1) as usize) {
-            return false;
-        }
-    }
-    true
+    !cycle.is_empty()
+        && (0..stem.len() + cycle.len()).all(|t| {
+            let s = moment_at(stem, cycle, t) as usize;
+            s < m.states && has_move(m, s, moment_at(stem, cycle, t + 1) as usize)
+        })
 }
 
 // Whether the loop has a state of set k.
 fn visits(m: &Machine, k: usize, cycle: &[u8]) -> bool
     ensures { result ≡ some (length cycle.now) (λ i. in_fair_set m.now k (get_or cycle.now i 0)) }
 {
-    for i in 0..cycle.len() {
-        if in_set(m, k, cycle[i] as usize) {
-            return true;
-        }
-    }
-    false
+    cycle.iter().any(|s| in_set(m, k, *s as usize))
 }
 
 // Whether the loop has a state of each set; the stem makes no difference.
 fn is_fair(m: &Machine, cycle: &[u8]) -> bool
     ensures { result ≡ is_fair m.now (given [] cycle.now) }
 {
-    for k in 0..m.sets {
-        if !visits(m, k, cycle) {
-            return false;
-        }
-    }
-    true
+    (0..m.sets).all(|k| visits(m, k, cycle))
 }
 
 // Whether stem and loop are a fair lasso from a start state.
 pub fn is_play(m: Machine, stem: &[u8], cycle: &[u8]) -> bool
     ensures { result ≡ is_play m (given stem.now cycle.now) }
 {
-    if !is_lasso(&m, stem, cycle) {
-        return false;
-    }
-    if !is_fair(&m, cycle) {
-        return false;
-    }
-    has_start(&m, moment_at(stem, cycle, 0) as usize)
+    is_lasso(&m, stem, cycle)
+        && is_fair(&m, cycle)
+        && has_start(&m, moment_at(stem, cycle, 0) as usize)
 }
 
 // Whether two lassos have the same observations, in the bits that are not hidden, at the first n moments.
@@ -91,14 +69,11 @@ pub fn same_until(
     ensures { result ≡ every n (λ t. same_observation hidden (observation m (moment (given stem.now cycle.now) t))
         (observation k (moment (given run.now round.now) t))) }
 {
-    for t in 0..n {
+    (0..n).all(|t| {
         let s = observed(&m, moment_at(stem, cycle, t) as usize);
         let u = observed(&k, moment_at(run, round, t) as usize);
-        if !machine::same_observation(hidden, s, u) {
-            return false;
-        }
-    }
-    true
+        machine::same_observation(hidden, s, u)
+    })
 }
 
 // ---- Refusals 13 to 15
@@ -108,24 +83,16 @@ fn bad_step(m: &Machine, stem: &[u8], cycle: &[u8], i: usize) -> bool
     ensures { result ≡ bad_step m.now (given stem.now cycle.now) i }
 {
     let s = moment_at(stem, cycle, i) as usize;
-    if s >= m.states {
-        return true;
-    }
-    if i == 0 {
-        if !has_start(m, s) {
-            return true;
-        }
+    let entered = if i == 0 {
+        has_start(m, s)
     } else {
-        if !has_move(m, moment_at(stem, cycle, i - 1) as usize, s) {
-            return true;
-        }
-    }
-    if i < stem.len() + cycle.len() {
-        if i + 1 == stem.len() + cycle.len() {
-            return !has_move(m, s, moment_at(stem, cycle, i + 1) as usize);
-        }
-    }
-    false
+        has_move(m, moment_at(stem, cycle, i - 1) as usize, s)
+    };
+    let length = stem.len() + cycle.len();
+    let is_last = i < length && i + 1 == length;
+    s >= m.states
+        || !entered
+        || (is_last && !has_move(m, s, moment_at(stem, cycle, i + 1) as usize))
 }
 
 // The lowest position at which 14 holds.
@@ -143,19 +110,16 @@ fn first_missed(m: &Machine, cycle: &[u8]) -> Option<usize>
 }
 
 // 13 to 15 of a lasso; the spot's set is counted from 1.
-pub fn lasso_fits(m: &Machine, stem: &[u8], cycle: &[u8]) -> Result<(), Refusal>
-    ensures { result ≡ lasso_validity m.now (given stem.now cycle.now) }
+pub fn lasso_fits(m: Machine, stem: &[u8], cycle: &[u8]) -> Result<(), Refusal>
+    ensures { result ≡ lasso_validity m (given stem.now cycle.now) }
 {
-    if cycle.len() == 0 {
+    if cycle.is_empty() || stem.len() + cycle.len() > 64 {
         return Err(Refusal::BadLassoLength);
     }
-    if stem.len() + cycle.len() > 64 {
-        return Err(Refusal::BadLassoLength);
-    }
-    if let Some(position) = first_bad(m, stem, cycle) {
+    if let Some(position) = first_bad(&m, stem, cycle) {
         return Err(Refusal::BadLassoStep { position });
     }
-    match first_missed(m, cycle) {
+    match first_missed(&m, cycle) {
         Some(k) => Err(Refusal::UnfairLasso { set: k + 1 }),
         None => Ok(()),
     }

@@ -63,10 +63,7 @@ pub fn lift(p: Pair, table: &mut [u16])
 {
     let concrete = &p.concrete;
     let abstraction = &p.abstraction;
-    if table.len() < machine::TABLE_ROOM {
-        return;
-    }
-    if validity(p).is_err() {
+    if table.len() < machine::TABLE_ROOM || validity(p).is_err() {
         return;
     }
     let pairs = concrete.states * abstraction.states;

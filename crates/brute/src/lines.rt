@@ -33,7 +33,7 @@ struct Level {
 pub fn value_at(table: &[u16], i: usize) -> u16
     ensures { result ≡ get_or table.now i 0 }
 {
-    if i < table.len() { table[i] } else { 0 }
+    table.get(i).copied().unwrap_or(0)
 }
 
 // The entry of (c, a) in section j.
@@ -65,13 +65,7 @@ fn hits(t: Target, m: usize, e: u16) -> bool
 {
     match t {
         Target::NonBlank => e != machine::BLANK,
-        Target::Lower(l) => {
-            if e == 0 {
-                return true;
-            }
-            let rank = level_of(m, e);
-            rank.level < l
-        }
+        Target::Lower(l) => { e == 0 || level_of(m, e).level < l }
         Target::AtMost(r) => e <= r,
     }
 }
@@ -83,16 +77,11 @@ fn finds(p: &Pair, table: &[u16], t: Target, j: usize, d: usize, a: usize) -> bo
 {
     let concrete = &p.concrete;
     let abstraction = &p.abstraction;
-    for b in 0..abstraction.states {
-        if has_move(abstraction, a, b) {
-            if is_matched(p, d, b) {
-                if hits(t, concrete.sets, entry_at(p, table, j, d, b)) {
-                    return true;
-                }
-            }
-        }
-    }
-    false
+    (0..abstraction.states).any(|b| {
+        has_move(abstraction, a, b)
+            && is_matched(p, d, b)
+            && hits(t, concrete.sets, entry_at(p, table, j, d, b))
+    })
 }
 
 // Whether (c, a) steps into the entries of section j that the line asks for.
@@ -101,14 +90,7 @@ pub fn steps_into(p: &Pair, table: &[u16], t: Target, j: usize, c: usize, a: usi
     ensures { result ≡ steps p.now (in_target p.now table.now t j) c a }
 {
     let concrete = &p.concrete;
-    for d in 0..concrete.states {
-        if has_move(concrete, c, d) {
-            if !finds(p, table, t, j, d, a) {
-                return false;
-            }
-        }
-    }
-    true
+    (0..concrete.states).all(|d| !has_move(concrete, c, d) || finds(p, table, t, j, d, a))
 }
 
 // Entry 0: a is in set j, and the pair steps into the non-blank pairs of the next section.
@@ -117,17 +99,8 @@ pub fn goal_holds(p: &Pair, table: &[u16], j: usize, c: usize, a: usize) -> bool
     ensures { result ≡ goal_line p.now table.now j c a }
 {
     let abstraction = &p.abstraction;
-    if !in_set(abstraction, j, a) {
-        return false;
-    }
-    steps_into(
-        p,
-        table,
-        Target::NonBlank,
-        machine::next_section(abstraction.sets, j),
-        c,
-        a,
-    )
+    let next = machine::next_section(abstraction.sets, j);
+    in_set(abstraction, j, a) && steps_into(p, table, Target::NonBlank, next, c, a)
 }
 
 // Entry e > 0: if c is in set k, the pair steps into entries that are 0 or have a smaller l, else into those that are at most e.
@@ -218,13 +191,10 @@ fn covered(p: &Pair, table: &[u16]) -> usize
 {
     let concrete = &p.concrete;
     let abstraction = &p.abstraction;
-    let mut found: usize = 0;
-    for e in 0..abstraction.sets * (concrete.states * abstraction.states) {
-        if value_at(table, e) != machine::BLANK {
-            found += 1;
-        }
-    }
-    found
+    let entries = abstraction.sets * (concrete.states * abstraction.states);
+    (0..entries)
+        .filter(|e| value_at(table, *e) != machine::BLANK)
+        .count()
 }
 
 // Whether c has an abstract start state beside it that is not blank in section 1.
@@ -233,14 +203,9 @@ fn start_covered(p: &Pair, table: &[u16], c: usize) -> bool
     ensures { result ≡ start_covered p.now table.now c }
 {
     let abstraction = &p.abstraction;
-    for a in 0..abstraction.states {
-        if has_start(abstraction, a) {
-            if entry_at(p, table, 0, c, a) != machine::BLANK {
-                return true;
-            }
-        }
-    }
-    false
+    (0..abstraction.states).any(|a| {
+        has_start(abstraction, a) && entry_at(p, table, 0, c, a) != machine::BLANK
+    })
 }
 
 // The lowest concrete start state that has none.

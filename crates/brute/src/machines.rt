@@ -11,7 +11,7 @@ use machine::{Machine, Pair, Refusal};
 pub fn successors_of(m: &Machine, s: usize) -> u64
     ensures { result ≡ successors m.now s }
 {
-    if s < 64 { m.successors[s] } else { 0 }
+    m.successors.get(s).copied().unwrap_or(0)
 }
 
 // Whether t is a successor of s.
@@ -32,7 +32,7 @@ pub fn has_start(m: &Machine, s: usize) -> bool
 pub fn set_of(m: &Machine, k: usize) -> u64
     ensures { result ≡ fair_set m.now k }
 {
-    if k < 8 { m.fairness[k] } else { 0 }
+    m.fairness.get(k).copied().unwrap_or(0)
 }
 
 // Whether s is in set k.
@@ -46,7 +46,7 @@ pub fn in_set(m: &Machine, k: usize, s: usize) -> bool
 pub fn observed(m: &Machine, s: usize) -> u8
     ensures { result ≡ observation m.now s }
 {
-    if s < 64 { m.observations[s] } else { 0 }
+    m.observations.get(s).copied().unwrap_or(0)
 }
 
 // Whether (c, a) is matched.
@@ -66,16 +66,7 @@ pub fn is_matched(p: &Pair, c: usize, a: usize) -> bool
 fn has_counts(limit: usize, m: &Machine) -> bool
     ensures { result ≡ counts_ok limit m.now.states m.now.sets }
 {
-    if m.states == 0 {
-        return false;
-    }
-    if m.states > 64 {
-        return false;
-    }
-    if m.sets == 0 {
-        return false;
-    }
-    m.sets <= limit
+    1 <= m.states && m.states <= 64 && 1 <= m.sets && m.sets <= limit
 }
 
 // Whether a mask has a state at or past n.
@@ -83,17 +74,7 @@ fn has_past(n: usize, m: u64) -> bool
     ensures { result ≡ beyond n m }
 {
     // most masks have states below n alone
-    if m <= mask::full(n) {
-        return false;
-    }
-    for s in 0..64 {
-        if mask::has(m, s) {
-            if n <= s {
-                return true;
-            }
-        }
-    }
-    false
+    m > mask::full(n) && (0..64).any(|s| mask::has(m, s) && n <= s)
 }
 
 // Whether state s has something beyond the counts: a successor, or anything at all where the machine has no such state.
@@ -101,24 +82,17 @@ fn state_past(m: &Machine, s: usize) -> bool
     ensures { result ≡ state_beyond m.now.states m.now.observations m.now.successors s }
 {
     if s < m.states {
-        return has_past(m.states, successors_of(m, s));
+        has_past(m.states, successors_of(m, s))
+    } else {
+        observed(m, s) != 0 || successors_of(m, s) != 0
     }
-    if observed(m, s) != 0 {
-        return true;
-    }
-    successors_of(m, s) != 0
 }
 
 // Whether some state has something beyond the counts.
 fn states_past(m: &Machine) -> bool
     ensures { result ≡ some 64 (state_beyond m.now.states m.now.observations m.now.successors) }
 {
-    for s in 0..64 {
-        if state_past(m, s) {
-            return true;
-        }
-    }
-    false
+    (0..64).any(|s| state_past(m, s))
 }
 
 // Whether set k has something beyond the counts: a state, or anything at all where the machine has no such set.
@@ -126,34 +100,24 @@ fn set_past(m: &Machine, k: usize) -> bool
     ensures { result ≡ set_beyond m.now.states m.now.sets m.now.fairness k }
 {
     if k < m.sets {
-        return has_past(m.states, set_of(m, k));
+        has_past(m.states, set_of(m, k))
+    } else {
+        set_of(m, k) != 0
     }
-    set_of(m, k) != 0
 }
 
 // Whether some set has something beyond the counts.
 fn sets_past(m: &Machine) -> bool
     ensures { result ≡ some 8 (set_beyond m.now.states m.now.sets m.now.fairness) }
 {
-    for k in 0..8 {
-        if set_past(m, k) {
-            return true;
-        }
-    }
-    false
+    (0..8).any(|k| set_past(m, k))
 }
 
 // Whether a bit or an entry of a machine lies beyond its counts.
 fn is_past(m: &Machine) -> bool
     ensures { result ≡ is_beyond_counts m.now }
 {
-    if has_past(m.states, m.start) {
-        return true;
-    }
-    if states_past(m) {
-        return true;
-    }
-    sets_past(m)
+    has_past(m.states, m.start) || states_past(m) || sets_past(m)
 }
 
 // The lowest state without a successor.
@@ -227,10 +191,7 @@ fn tests(nonempty: bool, p: &Pair) -> Result<(), Refusal>
 {
     let c = &p.concrete;
     let a = &p.abstraction;
-    if !has_counts(8, c) {
-        return Err(Refusal::BadCounts);
-    }
-    if !has_counts(7, a) {
+    if !has_counts(8, c) || !has_counts(7, a) {
         return Err(Refusal::BadCounts);
     }
     content_and_sets(nonempty, 0, c)?;

@@ -1,10 +1,10 @@
 // Machines, pairs, tables and lassos from numbers, so that all small ones can be gone through by counting.
-ghost use Rattle.std.specs.Prelude.{cond, ◌≡◌, ◌+◌, ◌≤◌, length, ltb};
+ghost use Rattle.std.specs.Prelude.{cond, ◌≡◌, ◌+◌, length};
 ghost use Rattle.mask.specs.Bits.{has_bit};
-ghost use Rattle.mask.specs.Tables.{table};
 ghost use Rattle.brute.specs.Numbers.{digit_of, entry_of, numbered_table, states_of, numbered_machine, numbered_pair};
 
 use machine::{Machine, Pair};
+use std::array;
 
 // How many states and sets a machine has; each of its masks is a digit from 0 to `top`. The observations of the states of `twos` have 2 added.
 #[derive(Clone, Copy)]
@@ -22,38 +22,25 @@ pub fn digit(x: u64, top: u32, i: usize) -> u64
     let base = top as u64 + 1;
     let mut rest = x;
     for _ in 0..i {
-        rest = rest / base;
+        rest /= base;
     }
     rest % base
 }
 
-// Fills `out` with the digits of x from place `at` on: n of them, and 0 after these.
-fn put_masks(x: u64, top: u32, at: usize, n: usize, out: &mut [u64])
-    requires { at ≤ 66 }
-    ensures { out.new ≡ table (length out.old) (λ s. cond (ltb s n) (digit_of top x (at + s)) 0) }
+// Digit i of x where a test holds, and else 0.
+fn digit_if(b: bool, x: u64, top: u32, i: usize) -> u64
+    ensures { result ≡ cond b (digit_of top x i) 0 }
 {
-    for s in 0..out.len() {
-        let v = if s < n { digit(x, top, at + s) } else { 0 };
-        out[s] = v;
-    }
+    if b { digit(x, top, i) } else { 0 }
 }
 
-// v where a test holds, and else 0.
-fn value_if(b: bool, v: u8) -> u8
-    ensures { result ≡ cond b v 0 }
+// The observation of state s: 1 for a state of the first mask, and 2 more for one of the second.
+fn observation_of(ones: u64, twos: u64, s: usize) -> u8
+    ensures { result ≡ cond (has_bit ones s) 1 0 + cond (has_bit twos s) 2 0 }
 {
-    if b { v } else { 0 }
-}
-
-// Fills `out` with observations: 1 for a state of the first mask, and 2 more for one of the second.
-fn put_observations(ones: u64, twos: u64, out: &mut [u8])
-    ensures { out.new ≡ table (length out.old) (λ s. cond (has_bit ones s) 1 0 + cond (has_bit twos s) 2 0) }
-{
-    for s in 0..out.len() {
-        let one = value_if(mask::has(ones, s), 1);
-        let two = value_if(mask::has(twos, s), 2);
-        out[s] = one + two;
-    }
+    let one = if mask::has(ones, s) { 1 } else { 0 };
+    let two = if mask::has(twos, s) { 2 } else { 0 };
+    one + two
 }
 
 // Machine number x of a shape: digit 0 is its start mask, digit 1 has the states of an odd observation, then come the successor masks, then
@@ -61,20 +48,15 @@ fn put_observations(ones: u64, twos: u64, out: &mut [u8])
 pub fn numbered_machine(shape: Shape, x: u64) -> Machine
     ensures { result ≡ numbered_machine shape x }
 {
-    let n = if shape.states < 64 { shape.states } else { 64 };
-    let mut observations = [0u8; 64];
-    put_observations(digit(x, shape.top, 1), shape.twos, &mut observations);
-    let mut successors = [0u64; 64];
-    put_masks(x, shape.top, 2, shape.states, &mut successors);
-    let mut fairness = [0u64; 8];
-    put_masks(x, shape.top, 2 + n, shape.sets, &mut fairness);
+    let ones = digit(x, shape.top, 1);
+    let first_set = 2 + shape.states.min(64);
     Machine {
         states: shape.states,
         sets: shape.sets,
         start: digit(x, shape.top, 0),
-        observations: observations,
-        successors: successors,
-        fairness: fairness,
+        observations: array::from_fn(|s| observation_of(ones, shape.twos, s)),
+        successors: array::from_fn(|s| digit_if(s < shape.states, x, shape.top, 2 + s)),
+        fairness: array::from_fn(|k| digit_if(k < shape.sets, x, shape.top, first_set + k)),
     }
 }
 
@@ -85,7 +67,7 @@ pub fn numbered_pair(concrete: Shape, abstraction: Shape, hidden: u8, x: u64, y:
     Pair {
         concrete: numbered_machine(concrete, x),
         abstraction: numbered_machine(abstraction, y),
-        hidden: hidden,
+        hidden,
     }
 }
 
@@ -100,10 +82,8 @@ pub fn entry_of(d: u16) -> u16
 pub fn put_entries(x: u64, top: u16, n: usize, table: &mut [u16])
     ensures { table.new ≡ numbered_table top x n table.old }
 {
-    let end = if n < table.len() { n } else { table.len() };
-    for e in 0..end {
-        let d = digit(x, top as u32, e);
-        table[e] = entry_of(d as u16);
+    for e in 0..n.min(table.len()) {
+        table[e] = entry_of(digit(x, top as u32, e) as u16);
     }
 }
 
@@ -111,8 +91,7 @@ pub fn put_entries(x: u64, top: u16, n: usize, table: &mut [u16])
 pub fn put_states(x: u64, top: u8, out: &mut [u8])
     ensures { out.new ≡ states_of top x (length out.old) }
 {
-    for i in 0..out.len() {
-        let d = digit(x, top as u32, i);
-        out[i] = d as u8;
+    for (i, state) in out.iter_mut().enumerate() {
+        *state = digit(x, top as u32, i) as u8;
     }
 }

@@ -3,6 +3,7 @@
 // covered comes from a lifted table.
 ghost use Rattle.std.specs.Prelude.{true, ◌≡◌, ◌*◌, ◌<◌, ◌≤◌, min, length};
 ghost use Rattle.mask.specs.Bits.{full_mask};
+ghost use Rattle.mask.specs.Bounded.{below};
 ghost use Rattle.machine.specs.Machines.{pairs, sets_a, sets_c};
 ghost use Rattle.machine.specs.WellFormed.{well_formed};
 ghost use Rattle.brute.specs.Ranking.{keeps, unkept, closed, largest, struck, largest_set, marked, ranked, rank_of, shown_entry, section_ranked, table_ranked};
@@ -39,42 +40,34 @@ fn is_kept(
     requires { (well_formed p.now ≡ true) × (j < sets_a p.now) }
     ensures { result ≡ keeps p.now lifted.now j ranks.now low k set.now c a }
 {
-    if !is_matched(p, c, a) {
-        return false;
-    }
-    if goal_holds(p, lifted, j, c, a) {
-        return true;
-    }
-    if steps_into(p, ranks, Target::AtMost(low), 0, c, a) {
-        return true;
-    }
-    if in_set(&p.concrete, k, c) {
-        return false;
-    }
-    steps_into(p, set, Target::NonBlank, 0, c, a)
+    is_matched(p, c, a)
+        && (goal_holds(p, lifted, j, c, a)
+            || steps_into(p, ranks, Target::AtMost(low), 0, c, a)
+            || (!in_set(&p.concrete, k, c) && steps_into(p, set, Target::NonBlank, 0, c, a)))
 }
 
-// The first pair of a set that does not meet the rule of X(l, k) over it, the number of pairs where each does; rank number i + 1 is that of l
-// and k.
-fn first_unkept(p: &Pair, lifted: &[u16], j: usize, ranks: &[u16], i: usize, set: &[u16]) -> usize
+// The first pair of a set that does not meet the rule of X(l, k) over it; rank number i + 1 is that of l and k.
+fn first_unkept(
+    p: &Pair,
+    lifted: &[u16],
+    j: usize,
+    ranks: &[u16],
+    i: usize,
+    set: &[u16],
+) -> Option<usize>
     requires { (well_formed p.now ≡ true) × ((j < sets_a p.now) × (i < sets_c p.now * pairs p.now)) }
-    ensures { result ≡ unkept p.now lifted.now j ranks.now i set.now }
+    ensures { result ≡ below (pairs p.now) (unkept p.now lifted.now j ranks.now i set.now) }
 {
     let concrete = &p.concrete;
     let abstraction = &p.abstraction;
     let pairs = concrete.states * abstraction.states;
-    let low = i / concrete.sets * concrete.sets;
+    let low = (i / concrete.sets * concrete.sets) as u16;
     let k = i % concrete.sets;
-    for e in 0..pairs {
-        if value_at(set, e) != machine::BLANK {
-            let c = e / abstraction.states;
-            let a = e % abstraction.states;
-            if !is_kept(p, lifted, j, ranks, low as u16, k, set, c, a) {
-                return e;
-            }
-        }
-    }
-    pairs
+    (0..pairs).find(|e| {
+        let c = *e / abstraction.states;
+        let a = *e % abstraction.states;
+        value_at(set, *e) != machine::BLANK && !is_kept(p, lifted, j, ranks, low, k, set, c, a)
+    })
 }
 
 // Whether each pair of set number x meets that rule over it.
@@ -87,7 +80,7 @@ fn is_closed(p: &Pair, lifted: &[u16], j: usize, ranks: &[u16], i: usize, x: u64
     let pairs = concrete.states * abstraction.states;
     let mut set = [machine::BLANK; 64];
     put_entries(x, 1, pairs, &mut set);
-    first_unkept(p, lifted, j, ranks, i, &set) == pairs
+    first_unkept(p, lifted, j, ranks, i, &set).is_none()
 }
 
 // The number of the largest such set: the greatest number, as the union of such sets is one.
@@ -97,12 +90,10 @@ fn largest_set(p: &Pair, lifted: &[u16], j: usize, ranks: &[u16], i: usize) -> u
 {
     let concrete = &p.concrete;
     let abstraction = &p.abstraction;
-    let mut x = mask::full(concrete.states * abstraction.states);
-    while x > 0 {
+    for x in (1..=mask::full(concrete.states * abstraction.states)).rev() {
         if is_closed(p, lifted, j, ranks, i, x) {
             return x;
         }
-        x -= 1;
     }
     0
 }
@@ -117,11 +108,10 @@ fn strike_out(p: &Pair, lifted: &[u16], j: usize, ranks: &[u16], i: usize, set: 
     let abstraction = &p.abstraction;
     let pairs = concrete.states * abstraction.states;
     for _ in 0..pairs {
-        let e = first_unkept(p, lifted, j, ranks, i, set);
-        if e == pairs {
-            return;
+        match first_unkept(p, lifted, j, ranks, i, set) {
+            Some(e) => set[e] = machine::BLANK,
+            None => return,
         }
-        set[e] = machine::BLANK;
     }
 }
 
@@ -146,10 +136,8 @@ fn mark(n: usize, set: &[u16], r: u16, ranks: &mut [u16])
     ensures { ranks.new ≡ marked n set.now r ranks.old }
 {
     for e in 0..n {
-        if value_at(set, e) != machine::BLANK {
-            if ranks[e] == machine::BLANK {
-                ranks[e] = r;
-            }
+        if value_at(set, e) != machine::BLANK && ranks[e] == machine::BLANK {
+            ranks[e] = r;
         }
     }
 }
@@ -177,12 +165,11 @@ fn rank_of(p: &Pair, lifted: &[u16], j: usize, ranks: &[u16], e: usize) -> u16
     let abstraction = &p.abstraction;
     let c = e / abstraction.states;
     let a = e % abstraction.states;
-    if is_matched(p, c, a) {
-        if goal_holds(p, lifted, j, c, a) {
-            return 0;
-        }
+    if is_matched(p, c, a) && goal_holds(p, lifted, j, c, a) {
+        0
+    } else {
+        value_at(ranks, e)
     }
-    value_at(ranks, e)
 }
 
 // An entry; where it need not be exact, 0 for each that is not blank.
@@ -197,13 +184,7 @@ fn shown(compared: Compared, e: u16) -> u16
 }
 
 // Whether section j of a table has the ranks; or, where they need not be exact, covers the pairs that have one.
-fn section_ranked(
-    p: &Pair,
-    compared: Compared,
-    lifted: &[u16],
-    j: usize,
-    table: &[u16],
-) -> bool
+fn section_ranked(p: &Pair, compared: Compared, lifted: &[u16], j: usize, table: &[u16]) -> bool
     requires { (well_formed p.now ≡ true) × (j < sets_a p.now) }
     ensures { result ≡ section_ranked p.now (is_exact compared) lifted.now table.now j }
 {
@@ -212,13 +193,10 @@ fn section_ranked(
     let pairs = concrete.states * abstraction.states;
     let mut ranks = [machine::BLANK; PAIR_ROOM];
     rank_pairs(p, lifted, j, &mut ranks);
-    for e in 0..pairs {
-        let rank = shown(compared, rank_of(p, lifted, j, &ranks, e));
-        if rank != shown(compared, value_at(table, j * pairs + e)) {
-            return false;
-        }
-    }
-    true
+    (0..pairs).all(|e| {
+        let rank = rank_of(p, lifted, j, &ranks, e);
+        shown(compared, rank) == shown(compared, value_at(table, j * pairs + e))
+    })
 }
 
 // Whether a table has the ranks of two well-formed machines, or covers the pairs that have one, where the lifted table tells what is covered. With the
@@ -227,13 +205,6 @@ pub fn is_ranked(p: Pair, compared: Compared, lifted: &[u16], table: &[u16]) -> 
     ensures { result ≡ table_ranked p (is_exact compared) lifted.now table.now }
 {
     let abstraction = &p.abstraction;
-    if validity(p).is_err() {
-        return false;
-    }
-    for j in 0..abstraction.sets {
-        if !section_ranked(&p, compared, lifted, j, table) {
-            return false;
-        }
-    }
-    true
+    validity(p).is_ok()
+        && (0..abstraction.sets).all(|j| section_ranked(&p, compared, lifted, j, table))
 }

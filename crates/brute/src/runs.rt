@@ -1,7 +1,7 @@
 // The plain reading of document 01's "Player", with the single step of document 02, No. 10.
 ghost use Rattle.std.specs.Prelude.{true, ◌≡◌, ◌+◌, ◌<◌, ◌≤◌, eqb, length, get_or};
 ghost use Rattle.machine.specs.Lassos.{given};
-ghost use Rattle.mask.specs.Bounded.{every, first};
+ghost use Rattle.mask.specs.Bounded.{every, some, first, below};
 ghost use Rattle.mask.specs.Logic.{and};
 ghost use Rattle.machine.specs.Machines.{sets_a};
 ghost use Rattle.machine.specs.WellFormed.{well_formed};
@@ -49,13 +49,11 @@ fn least_partner(
     // twice a blank entry: every other has a lower key
     let mut limit: u32 = 131070;
     for a in 0..64 {
-        if mask::has(moves, a) {
-            if is_matched(p, d, a) {
-                let key = staying_key(present, a, entry_at(p, table, j, d, a));
-                if key < limit {
-                    best = Some(a);
-                    limit = key;
-                }
+        if mask::has(moves, a) && is_matched(p, d, a) {
+            let key = staying_key(present, a, entry_at(p, table, j, d, a));
+            if key < limit {
+                best = Some(a);
+                limit = key;
             }
         }
     }
@@ -122,36 +120,31 @@ fn same_place(p: &Pair, table: &[u16], stem: &[u8], cycle: &[u8], x: usize, y: u
 {
     let u = place_at(p, table, stem, cycle, stem.len() + x * cycle.len());
     let v = place_at(p, table, stem, cycle, stem.len() + y * cycle.len());
-    if u.state != v.state {
-        return false;
-    }
-    u.section == v.section
+    u.state == v.state && u.section == v.section
 }
 
-// The first round with the same place as round y, y where none before it has.
-fn earlier_round(p: &Pair, table: &[u16], stem: &[u8], cycle: &[u8], y: usize) -> usize
+// The first round before round y with the same place.
+fn earlier_round(p: &Pair, table: &[u16], stem: &[u8], cycle: &[u8], y: usize) -> Option<usize>
     requires { (well_formed p.now ≡ true) × ((length stem.now + length cycle.now ≤ 64) × (y ≤ 449)) }
-    ensures { result ≡ first y (λ x. same_place p.now table.now (given stem.now cycle.now) x y) }
+    ensures { result ≡ below y (first y (λ x. same_place p.now table.now (given stem.now cycle.now) x y)) }
 {
-    for x in 0..y {
-        if same_place(p, table, stem, cycle, x, y) {
-            return x;
-        }
-    }
-    y
+    (0..y).find(|x| same_place(p, table, stem, cycle, *x, y))
+}
+
+// Whether a round before round y has the same place.
+fn recurs(p: &Pair, table: &[u16], stem: &[u8], cycle: &[u8], y: usize) -> bool
+    requires { (well_formed p.now ≡ true) × ((length stem.now + length cycle.now ≤ 64) × (y ≤ 449)) }
+    ensures { result ≡ some y (λ x. same_place p.now table.now (given stem.now cycle.now) x y) }
+{
+    earlier_round(p, table, stem, cycle, y).is_some()
 }
 
 // The first round whose place occurred before.
-fn last_round(p: &Pair, table: &[u16], stem: &[u8], cycle: &[u8]) -> usize
+fn last_round(p: &Pair, table: &[u16], stem: &[u8], cycle: &[u8]) -> Option<usize>
     requires { (well_formed p.now ≡ true) × (length stem.now + length cycle.now ≤ 64) }
-    ensures { result ≡ last_round p.now table.now (given stem.now cycle.now) }
+    ensures { result ≡ below 449 (last_round p.now table.now (given stem.now cycle.now)) }
 {
-    for y in 0..449 {
-        if earlier_round(p, table, stem, cycle, y) < y {
-            return y;
-        }
-    }
-    449
+    (0..449).find(|y| recurs(p, table, stem, cycle, *y))
 }
 
 // What the player says of any table and any lasso, where its buffers are long enough.
@@ -161,11 +154,11 @@ pub fn plain_play(p: Pair, table: &[u16], stem: &[u8], cycle: &[u8]) -> Result<R
     let abstraction = &p.abstraction;
     validity(p)?;
     lines(&p, table)?;
-    lasso_fits(&p.concrete, stem, cycle)?;
+    lasso_fits(p.concrete, stem, cycle)?;
     let first = moment_at(stem, cycle, 0) as usize;
     least_partner(&p, table, None, abstraction.start, 0, first).ok_or(Refusal::NoStartPartner)?;
-    let y = last_round(&p, table, stem, cycle);
-    let x = earlier_round(&p, table, stem, cycle, y);
+    let y = last_round(&p, table, stem, cycle).unwrap_or(449);
+    let x = earlier_round(&p, table, stem, cycle, y).unwrap_or(y);
     Ok(Run {
         stem: stem.len() + x * cycle.len(),
         cycle: (y - x) * cycle.len(),
@@ -176,7 +169,7 @@ pub fn plain_play(p: Pair, table: &[u16], stem: &[u8], cycle: &[u8]) -> Result<R
 fn byte_at(run: &[u8], i: usize) -> u8
     ensures { result ≡ get_or run.now i 0 }
 {
-    if i < run.len() { run[i] } else { 0 }
+    run.get(i).copied().unwrap_or(0)
 }
 
 // Whether a run of n states is that of the rule; of a pair that is not well formed there is none.
@@ -184,14 +177,6 @@ pub fn is_run(p: Pair, table: &[u16], stem: &[u8], cycle: &[u8], run: &[u8], n: 
     ensures { result ≡ and (well_formed p) (every n (λ t. eqb (get_or run.now t 0)
         (place_at p table.now (given stem.now cycle.now) t).state)) }
 {
-    if validity(p).is_err() {
-        return false;
-    }
-    for t in 0..n {
-        let at = place_at(&p, table, stem, cycle, t);
-        if byte_at(run, t) as usize != at.state {
-            return false;
-        }
-    }
-    true
+    validity(p).is_ok()
+        && (0..n).all(|t| { byte_at(run, t) as usize == place_at(&p, table, stem, cycle, t).state })
 }

@@ -1,40 +1,50 @@
--- The parts of 14 are asked in order: the state's number, how it is entered, and the closing step at the last position.
-use mathlib.Core.Bool.{not}
-use mathlib.Core.Path.{◌∙◌, ap}
-use native.Mathlib.Numerals.{add-one}
-use native.Mathlib.Omega.{arith}
+-- The three parts of 14: the state's number, how it is entered, and the closing step at the last position.
+use Rattle.std.proofs.Common.{arith, eq-eqb, le-ltb, sym, ◌∙◌}
+use borrow.Author.Tests.{ne_eqb}
+use Rattle.std.proofs.lemmas.Grind.{common_steps}
+use Rattle.std.specs.Prelude.{cond, eqb, false, true, ◌+◌, ◌-◌, ◌≡◌}
+use Rattle.mask.specs.Logic.{and, not, or}
+use Rattle.machine.specs.Machines.{moves, starts}
 use Rattle.machine.specs.Lassos.{given, moment}
-use Rattle.machine.specs.PlayerLaws.{Entered, bad_entry, bad_start, bad_state, closing, good_before, good_entry, good_start}
+use Rattle.std.specs.Prelude.{leb}
+use Rattle.machine.specs.Lassos.{lasso_length}
+use Rattle.machine.specs.Player.{bad_step}
+use Rattle.brute.specs.RunLaws.{bad_is}
+use Rattle.brute.proofs.lassos.bad_step.Goals.{then-i-length, else-i-length}
 use Rattle.brute.proofs.lassos.bad_step.Goals as goal
-use Rattle.brute.proofs.lassos.bad_step.Goals.{Joined-i-eq0, else-i-eq0+else-not-has_move, then-i-eq0+else-not-has_start}
+use Rattle.brute.proofs.lassos.bad_step.Goals.{Joined-i-eq0, Joined-i-length, Joined-s-m}
+use Rattle.brute.proofs.lassos.bad_step.Goals.{else-i-eq0, else-i-length, then-i-eq0, then-i-length}
 
-entered : (c : Joined-i-eq0) → let x = c.args in Entered x.m.now (given x.stem.now x.cycle.now) x.i
-entered c = elim c.if-i-eq0.branch [
-  | then-i-eq0+else-not-has_start w ↦ good_start _ _ _ _ c.moment_at-s.ensures w.if-i-eq0.true _ w.has_start.ensures (ap not w.if-not-has_start.false)
-  | else-i-eq0+else-not-has_move w ↦ good_entry _ _ _ _ c.moment_at-s.ensures w.if-i-eq0.false _ w.moment_at.ensures _ w.has_move.ensures (ap not w.if-not-has_move.false)
+entered_is : (c : Joined-i-eq0) → let x = c.args in
+    let l = given x.stem.now x.cycle.now in
+    c.if-i-eq0.entered ≡ cond (eqb x.i 0) (starts x.m.now c.moment_at-s.result) (moves x.m.now (moment l (x.i - 1)) c.moment_at-s.result)
+entered_is c = elim c.if-i-eq0.branch [
+  | then-i-eq0 w ↦ w.entered-is ∙ w.has_start-entered.ensures ∙ rw (eq-eqb _ 0 w.if-i-eq0.true)
+  | else-i-eq0 w ↦ w.entered-is ∙ w.has_move-entered.ensures ∙ rw (ne_eqb _ 0 w.if-i-eq0.false, w.moment_at.ensures)
 ]
 
-pub returns-then-s-m : goal.returns-then-s-m
-returns-then-s-m c = bad_state _ _ _ _ c.moment_at-s.ensures c.if-s-m.true
+last_is : (c : Joined-i-length) → let x = c.args in c.if-i-length.is_last ≡ eqb (x.i + 1) (lasso_length (given x.stem.now x.cycle.now))
+last_is c = elim c.if-i-length.branch [
+  | then-i-length w ↦ w.is_last-is
+  | else-i-length w ↦ w.is_last-is ∙ le-ltb _ _ w.if-i-length.false ∙ sym (ne_eqb _ _ (λ e. omega arith))
+]
 
-pub returns-then-not-has_start : goal.returns-then-not-has_start
-returns-then-not-has_start c =
-    bad_start _ _ _ _ c.moment_at-s.ensures c.if-i-eq0.true _ c.has_start.ensures (ap not c.if-not-has_start.true)
+told : (c : Joined-s-m) → let x = c.args in
+    let l = given x.stem.now x.cycle.now in
+    bad_step x.m.now l x.i
+    ≡ or (leb x.m.now.states c.moment_at-s.result) (or (not c.if-i-eq0.entered) (and c.if-i-length.is_last (not (moves x.m.now c.moment_at-s.result (moment l (x.i + 1))))))
+told c =
+    let x = c.args in
+    bad_is x.m.now (given x.stem.now x.cycle.now) x.i _ c.moment_at-s.ensures (entered_is (goal.at.Joined-s-m c).Joined-i-eq0) (last_is (goal.at.Joined-s-m c).Joined-i-length)
 
-pub returns-then-not-has_move : goal.returns-then-not-has_move
-returns-then-not-has_move c =
-    bad_entry _ _ _ _ c.moment_at-s.ensures c.if-i-eq0.false
-    _ c.moment_at.ensures _ c.has_move.ensures (ap not c.if-not-has_move.true)
+pub returns-then-not-entered : goal.returns-then-not-entered
+unfolding or and not
+returns-then-not-entered c = rw (told (goal.at.returns-then-not-entered c).Joined-s-m) (grind (arith, common_steps))
 
-pub returns-then-i-stem-2 : goal.returns-then-i-stem-2
-returns-then-i-stem-2 c =
-    closing _ _ _ _ c.moment_at-s.ensures c.if-s-m.false (entered (goal.at.returns-then-i-stem-2 c).Joined-i-eq0) (omega arith)
-    _ (c.moment_at-then-i-stem-2.ensures ∙ ap (moment _) (add-one _)) _ c.has_move-then-i-stem-2.ensures
+pub returns-then-is_last : goal.returns-then-is_last
+unfolding or and not
+returns-then-is_last c = rw (told (goal.at.returns-then-is_last c).Joined-s-m) (grind (arith, common_steps))
 
-pub returns-else-i-stem-2 : goal.returns-else-i-stem-2
-returns-else-i-stem-2 c =
-    good_before _ _ _ _ c.moment_at-s.ensures c.if-s-m.false (entered (goal.at.returns-else-i-stem-2 c).Joined-i-eq0) (λ e. c.if-i-stem-2.false (omega arith))
-
-pub returns-else-i-stem : goal.returns-else-i-stem
-returns-else-i-stem c =
-    good_before _ _ _ _ c.moment_at-s.ensures c.if-s-m.false (entered (goal.at.returns-else-i-stem c).Joined-i-eq0) (λ e. omega arith)
+pub returns-else-is_last : goal.returns-else-is_last
+unfolding or and not
+returns-else-is_last c = rw (told (goal.at.returns-else-is_last c).Joined-s-m) (grind (arith, common_steps))

@@ -1,53 +1,51 @@
 -- The tests are made in the order of the definition, and each return is the first that fails.
-use mathlib.Core.Bool.{false}
-use mathlib.Core.Path.{◌∙◌, ◌≡◌, ap, sym}
-use borrow.Author.Tests.{le-ltb}
+use Rattle.std.proofs.Common.{ap, arith, eqb-true, le-ltb, sym, ◌∙◌}
+use borrow.Author.Tests.{eqb-false}
+use Rattle.std.proofs.Math.Path.{refl}
+use Rattle.std.specs.Prelude.{false, true, ◌≡◌}
+use Rattle.mask.specs.Logic.{not}
+use Rattle.mask.specs.Bounded.{below, first}
+use Rattle.mask.specs.BoundedLaws.{below_at, below_past}
 use Rattle.machine.specs.Lassos.{given}
-use Rattle.mask.specs.Bounded.{first}
 use Rattle.machine.specs.Player.{has_bad_length, missed_set}
-use Rattle.machine.specs.Refusals.{tested_of}
 use Rattle.machine.specs.PlayerLaws.{length_empty, length_over, length_whole, not_refused, refused_length, refused_set, refused_step}
 use Rattle.brute.specs.RunLaws.{missed_loop}
 use Rattle.brute.proofs.lassos.lasso_fits.Goals as goal
-use Rattle.brute.proofs.lassos.lasso_fits.Goals.{After-first_missed-k, Else-stem-cycle-gt64}
-use Rattle.std.specs.Prelude.{Err}
+use Rattle.brute.proofs.lassos.lasso_fits.Goals.{After-first_missed, Else-stem-cycle-gt64}
+use Rattle.brute.proofs.lassos.lasso_fits.Goals.{then-is_empty-via-else-is_empty+then-stem-cycle-gt64, then-is_empty-via-then-is_empty}
 
 -- 13 is not refused
 fit : (c : Else-stem-cycle-gt64) → has_bad_length (given c.args.stem.now c.args.cycle.now) ≡ false
-fit c = length_whole (given c.args.stem.now c.args.cycle.now) c.if-cycle-eq0.false ∙ le-ltb 64 _ c.if-stem-cycle-gt64.false
+fit c = length_whole (given c.args.stem.now c.args.cycle.now) (eqb-false _ 0 (sym c.is_empty.ensures ∙ c.if-is_empty.false)) ∙ le-ltb 64 _ c.if-stem-cycle-gt64.false
 
-missed : (c : After-first_missed-k) → let x = c.args in c.first_missed-k.result ≡ first x.m.now.sets (missed_set x.m.now (given x.stem.now x.cycle.now))
-missed c = let x = c.args in c.first_missed-k.ensures ∙ missed_loop x.m.now x.stem.now x.cycle.now
+missed : (c : After-first_missed) → let x = c.args in c.first_missed.result ≡ below x.m.sets (first x.m.sets (missed_set x.m (given x.stem.now x.cycle.now)))
+missed c = let x = c.args in c.first_missed.ensures ∙ ap (below x.m.sets) (missed_loop x.m x.stem.now x.cycle.now)
 
-pub returns-then-cycle-eq0 : goal.returns-then-cycle-eq0
-unfolding tested_of
-returns-then-cycle-eq0 c =
+pub returns-then-is_empty : goal.returns-then-is_empty
+returns-then-is_empty c =
     let l = given c.args.stem.now c.args.cycle.now in
-    ap Err c.refuse.ensures ∙ sym (refused_length c.args.m.now l (length_empty l c.if-cycle-eq0.true))
+    elim c.then-is_empty.branch [
+      | then-is_empty-via-then-is_empty w ↦ sym (refused_length c.args.m l (length_empty l (eqb-true _ 0 (sym c.is_empty.ensures ∙ w.if-is_empty.true))))
+      | then-is_empty-via-else-is_empty+then-stem-cycle-gt64 w ↦ sym (refused_length c.args.m l (length_over l w.if-stem-cycle-gt64.true))
+    ]
 
-pub returns-then-stem-cycle-gt64 : goal.returns-then-stem-cycle-gt64
-unfolding tested_of
-returns-then-stem-cycle-gt64 c =
+pub returns-in-Some : goal.returns-in-Some
+returns-in-Some c =
     let l = given c.args.stem.now c.args.cycle.now in
-    ap Err c.refuse-then-stem-cycle-gt64.ensures ∙ sym (refused_length c.args.m.now l (length_over l c.if-stem-cycle-gt64.true))
+    let at = below_at _ _ (sym c.first_bad.ensures ∙ c.in-Some.is) in
+    sym (refused_step c.args.m l (fit (goal.at.returns-in-Some c).Else-stem-cycle-gt64) _ at.0 (rw at.0 at.1))
 
-pub returns-then-i-stem : goal.returns-then-i-stem
-unfolding tested_of
-returns-then-i-stem c =
-    let l = given c.args.stem.now c.args.cycle.now in
-    ap Err c.refuse-then-i-stem.ensures ∙ sym (refused_step c.args.m.now l (fit (goal.at.returns-then-i-stem c).Else-stem-cycle-gt64) _ c.first_bad-i.ensures c.if-i-stem.true)
+pub overflow_add-result : goal.overflow_add-result
+overflow_add-result c = let at = below_at _ _ (sym (missed (goal.at.overflow_add-result c).After-first_missed) ∙ c.in-Some-first_missed.is) in omega (arith, at.0, at.1)
 
-pub returns-then-k-m : goal.returns-then-k-m
-unfolding tested_of
-returns-then-k-m c =
+pub returns-in-Some-first_missed : goal.returns-in-Some-first_missed
+returns-in-Some-first_missed c =
     let l = given c.args.stem.now c.args.cycle.now in
-    let f = fit (goal.at.returns-then-k-m c).Else-stem-cycle-gt64 in
-    ap Err c.refuse-then-k-m.ensures
-    ∙ sym (refused_set c.args.m.now l f _ c.first_bad-i.ensures c.if-i-stem.false _ (missed (goal.at.returns-then-k-m c).After-first_missed-k) c.if-k-m.true)
+    let at = below_at _ _ (sym (missed (goal.at.returns-in-Some-first_missed c).After-first_missed) ∙ c.in-Some-first_missed.is) in
+    sym (refused_set c.args.m l (fit (goal.at.returns-in-Some-first_missed c).Else-stem-cycle-gt64) _ refl (below_past _ _ (sym c.first_bad.ensures ∙ c.in_default.is)) _ at.0 (rw at.0 at.1))
 
-pub returns : goal.returns
-unfolding tested_of
-returns c =
+pub returns-in-None : goal.returns-in-None
+returns-in-None c =
     let l = given c.args.stem.now c.args.cycle.now in
-    let f = fit (goal.at.returns c).Else-stem-cycle-gt64 in
-    sym (not_refused c.args.m.now l f _ c.first_bad-i.ensures c.if-i-stem.false _ (missed (goal.at.returns c).After-first_missed-k) c.if-k-m.false)
+    sym (not_refused c.args.m l (fit (goal.at.returns-in-None c).Else-stem-cycle-gt64) _ refl (below_past _ _ (sym c.first_bad.ensures ∙ c.in_default.is)) _ refl
+    (below_past _ _ (sym (missed (goal.at.returns-in-None c).After-first_missed) ∙ c.in-None.is)))

@@ -1,28 +1,38 @@
 -- The invariant: what is lifted from here in the turns that are left is the answer.
-use mathlib.Core.Path.{◌∙◌, ◌≡◌, refl, sym}
-use Prim.Native.Nat.{◌*◌, ◌+◌, ◌-◌, ◌≤◌}
-use native.Mathlib.Nat.{sub-zero}
-use native.Mathlib.Omega.{arith}
-use lib.ListN.{length}
-use borrow.Author.Rules.{rules}
-use Rattle.machine.specs.Machines.{pairs, sets_c}
+use Rattle.std.proofs.Common.{arith, rules, sym, ◌∙◌}
+use Rattle.std.proofs.Math.Path.{refl}
+use Rattle.std.specs.Prelude.{false, length, true, ◌*◌, ◌+◌, ◌-◌, ◌≡◌, ◌≤◌}
+use Rattle.mask.specs.Tables.{table}
 use Rattle.machine.specs.Refusals.{valid}
-use Rattle.machine.specs.RefusalsLaws.{tested_refused, tested_valid}
-use Rattle.machine.specs.Table.{entries, table_room}
+use Rattle.machine.specs.Machines.{pairs, sets_c}
 use Rattle.machine.specs.WellFormed.{pair_validity}
 use Rattle.machine.specs.WellFormedLaws.{WellPair, entries_small, pairs_small, ranks_small, valid_is_well, well_valid}
+use Rattle.machine.specs.Table.{entries, table_room}
+use native.Mathlib.Nat.{sub-zero}
+use Rattle.brute.specs.MachineLaws.{none_refused, ok_failed, ok_passed, some_refused}
 use Rattle.brute.specs.Lifting.{lifted, lifted_table}
 use Rattle.brute.specs.LiftingLaws.{lifted_done, lifted_ill, lifted_next, lifted_none, lifted_short, lifted_well, turns_small}
 use Rattle.brute.proofs.lifting.lift.Goals as goal
-use Rattle.brute.proofs.lifting.lift.Goals.{In_default, At-loop}
+use Rattle.brute.proofs.lifting.lift.Goals.{At-loop, Else-is_err}
+use Rattle.brute.proofs.lifting.lift.Goals.{then-table-lt-TABLE_ROOM-via-else-table-lt-TABLE_ROOM+then-is_err, then-table-lt-TABLE_ROOM-via-then-table-lt-TABLE_ROOM}
 
-formed : (c : In_default) → pair_validity c.args.p ≡ valid
-formed c = tested_valid c.validity-valid.ensures c.in_default.is
+formed : (c : Else-is_err) → pair_validity c.args.p ≡ valid
+formed c = sym c.validity.ensures ∙ none_refused _ (sym c.is_err.ensures.value ∙ c.if-is_err.false)
 
-well : (c : In_default) → WellPair c.args.p
+well : (c : Else-is_err) → WellPair c.args.p
 well c = well_valid _ (formed c)
 
-room : (c : In_default) → table_room ≤ length c.args.table.now
+pub returns-then-table-lt-TABLE_ROOM : goal.returns-then-table-lt-TABLE_ROOM
+returns-then-table-lt-TABLE_ROOM c =
+    let x = c.args in
+    elim c.then-table-lt-TABLE_ROOM.branch [
+      | then-table-lt-TABLE_ROOM-via-then-table-lt-TABLE_ROOM w ↦ lifted_short x.p x.table.now w.if-table-lt-TABLE_ROOM.true
+      | then-table-lt-TABLE_ROOM-via-else-table-lt-TABLE_ROOM+then-is_err w ↦
+          let r = some_refused _ (sym w.is_err.ensures.value ∙ w.if-is_err.true) in
+          lifted_ill x.p x.table.now w.if-table-lt-TABLE_ROOM.false r.0 (sym w.validity.ensures ∙ r.1)
+    ]
+
+room : (c : Else-is_err) → table_room ≤ length c.args.table.now
 room c = c.if-table-lt-TABLE_ROOM.false
 
 same : (c : At-loop) → length c.loop.table ≡ length c.args.table.now
@@ -33,65 +43,51 @@ answer : (c : At-loop) → let x = c.args in
     → c.loop.table ≡ lifted_table x.p x.table.now
 answer c e =
     let x = c.args in
-    lifted_well x.p x.table.now c.if-table-lt-TABLE_ROOM.false (tested_valid c.validity-valid.ensures c.in_default.is) c.put_zeros.ensures (sym e ∙ c.loop.invariant.2)
-
-pub returns-then-table-lt-TABLE_ROOM : goal.returns-then-table-lt-TABLE_ROOM
-returns-then-table-lt-TABLE_ROOM c = let x = c.args in lifted_short x.p x.table.now c.if-table-lt-TABLE_ROOM.true
-
-pub returns-in-Refused : goal.returns-in-Refused
-returns-in-Refused c =
-    let x = c.args in
-    lifted_ill x.p x.table.now c.if-table-lt-TABLE_ROOM.false _ (tested_refused c.validity-valid.ensures c.in-Refused.is)
+    lifted_well x.p x.table.now c.if-table-lt-TABLE_ROOM.false (sym c.validity.ensures ∙ none_refused _ (sym c.is_err.ensures.value ∙ c.if-is_err.false)) c.put_zeros.ensures (sym e ∙ c.loop.invariant.2)
 
 pub overflow_mul-pairs : goal.overflow_mul-pairs
-overflow_mul-pairs c = omega (arith, pairs_small _ (well (goal.at.overflow_mul-pairs c).In_default))
+overflow_mul-pairs c = omega (arith, pairs_small _ (well (goal.at.overflow_mul-pairs c).Else-is_err))
 
 pub overflow_mul-count : goal.overflow_mul-count
-overflow_mul-count c = omega (arith, entries_small _ (well (goal.at.overflow_mul-count c).In_default))
+overflow_mul-count c = omega (arith, entries_small _ (well (goal.at.overflow_mul-count c).Else-is_err))
 
 pub put_zeros-requires : goal.put_zeros-requires
-put_zeros-requires c = omega (arith, entries_small _ (well (goal.at.put_zeros-requires c).In_default), room (goal.at.put_zeros-requires c).In_default)
+put_zeros-requires c = omega (arith, entries_small _ (well (goal.at.put_zeros-requires c).Else-is_err), room (goal.at.put_zeros-requires c).Else-is_err)
 
 pub overflow_mul-end : goal.overflow_mul-end
-overflow_mul-end c = omega (arith, ranks_small _ (well (goal.at.overflow_mul-end c).In_default))
+overflow_mul-end c = omega (arith, ranks_small _ (well (goal.at.overflow_mul-end c).Else-is_err))
 
 pub overflow_add-end : goal.overflow_add-end
-overflow_add-end c = omega (arith, ranks_small _ (well (goal.at.overflow_add-end c).In_default))
+overflow_add-end c = omega (arith, ranks_small _ (well (goal.at.overflow_add-end c).Else-is_err))
 
 pub overflow_mul-end-2 : goal.overflow_mul-end-2
-overflow_mul-end-2 c = omega (arith, turns_small _ (well (goal.at.overflow_mul-end-2 c).In_default))
+overflow_mul-end-2 c = omega (arith, turns_small _ (well (goal.at.overflow_mul-end-2 c).Else-is_err))
 
 pub loop-init : goal.loop-init
 loop-init c = (search rules, refl, rw sub-zero)
 
-pub lines-passed-requires : goal.lines-passed-requires
-lines-passed-requires c = valid_is_well _ (formed (goal.at.lines-passed-requires c).In_default)
+pub lines-requires : goal.lines-requires
+lines-requires c = valid_is_well _ (formed (goal.at.lines-requires c).Else-is_err)
 
-pub shape_of-table-in-Valid : goal.shape_of-table-in-Valid
-shape_of-table-in-Valid c = same (goal.at.shape_of-table-in-Valid c).At-loop
-
-pub returns-in-Valid : goal.returns-in-Valid
-returns-in-Valid c =
-    answer (goal.at.returns-in-Valid c).At-loop (lifted_done _ c.loop.table _ (tested_valid c.lines-passed.ensures c.in-Valid.is))
+pub returns-then-is_ok : goal.returns-then-is_ok
+returns-then-is_ok c =
+    answer (goal.at.returns-then-is_ok c).At-loop (lifted_done _ c.loop.table _ (sym c.lines.ensures ∙ ok_passed _ (sym c.is_ok.ensures.value ∙ c.if-is_ok.true)))
 
 pub sweep-requires : goal.sweep-requires
 sweep-requires c =
-    let w = (goal.at.sweep-requires c).In_default in
+    let w = (goal.at.sweep-requires c).Else-is_err in
     (valid_is_well _ (formed w), omega (arith, entries_small _ (well w), room w, same (goal.at.sweep-requires c).At-loop))
 
 pub overflow_step : goal.overflow_step
-overflow_step c = omega (arith, turns_small _ (well (goal.at.overflow_step c).In_default))
+overflow_step c = omega (arith, turns_small _ (well (goal.at.overflow_step c).Else-is_err))
 
 pub loop-preserved : goal.loop-preserved
 loop-preserved c =
     let call = c.sweep in (
       search rules,
       call.auto.table ∙ c.loop.invariant.1,
-      lifted_next _ c.loop.table _ _ _ (tested_refused c.lines-passed.ensures c.in_default-passed.is) call.ensures (omega arith) ∙ c.loop.invariant.2,
+      let r = ok_failed _ (sym c.is_ok.ensures.value ∙ c.if-is_ok.false) in lifted_next _ c.loop.table _ _ r.0 (sym c.lines.ensures ∙ r.1) call.ensures (omega arith) ∙ c.loop.invariant.2,
     )
-
-pub shape_of-table : goal.shape_of-table
-shape_of-table c = same (goal.at.shape_of-table c).At-loop
 
 pub returns : goal.returns
 returns c = answer (goal.at.returns c).At-loop (lifted_none _ c.loop.table _ (omega arith))

@@ -1,27 +1,25 @@
--- The rows are looked at in order, so that the first with an entry that fails is the lowest.
-use mathlib.Core.Path.{sym}
-use native.Mathlib.Omega.{arith}
-use borrow.Author.Count.{below_more, below_none}
-use Rattle.mask.specs.BoundedLaws.{first_all, first_is, first_none, first_some}
-use Rattle.mask.specs.LogicLaws.{not_f, not_i}
-use Rattle.machine.specs.WellFormedLaws.{WellPair, well_pair}
+use Rattle.std.proofs.Common.{ap, rules, tests, ◌∙◌}
+use Rattle.std.proofs.lemmas.Iterator.{serves_from_Range}
+use Rattle.std.specs.Prelude.{is_some, ◌≡◌}
+use Rattle.mask.specs.Logic.{not}
+use Rattle.mask.specs.Bounded.{below, first}
+use Rattle.mask.specs.Tables.{table}
+use Rattle.mask.proofs.RangeLaws.{find_range}
+use Rattle.machine.specs.Machines.{n_a, n_c}
+use Rattle.machine.specs.WellFormedLaws.{well_pair}
+use Rattle.machine.specs.Lines.{passes}
+use Rattle.brute.specs.TargetLaws.{some_failing}
+use Rattle.mask.specs.BoundedLaws.{first_cong}
 use Rattle.brute.proofs.lines.failing_row.Goals as goal
-use Rattle.brute.proofs.lines.failing_row.Goals.{Start}
 
-well : (c : Start) → WellPair c.args.p.now
-well c = well_pair c.args.p.now c.requires.0
-
-pub loop-c-init : goal.loop-c-init
-loop-c-init c = below_none _
-
-pub failing_state-requires : goal.failing_state-requires
-failing_state-requires c = let w = well (goal.at.failing_state-requires c).Start in (c.requires.0, omega (arith, w.concrete.states_high))
-
-pub returns-then-failing_state-abstraction : goal.returns-then-failing_state-abstraction
-returns-then-failing_state-abstraction c = sym (first_is _ _ c.loop-c.c (omega arith) (not_i (first_some _ _ (rw (← c.failing_state.ensures) c.if-failing_state-abstraction.true))) c.loop-c.invariant)
-
-pub loop-c-preserved : goal.loop-c-preserved
-loop-c-preserved c = below_more _ _ c.loop-c.invariant (not_f (first_all _ _ (rw (← c.failing_state.ensures) c.if-failing_state-abstraction.false)))
+pub find-requires-clause-callable : goal.find-requires-clause-callable
+find-requires-clause-callable c =
+    let w = well_pair c.args.p.now c.requires.0 in
+    serves_from_Range (λ x q h. search rules) (λ x a b. search (rules, c.requires, w.concrete.states_high))
 
 pub returns : goal.returns
-returns c = sym (first_none _ _ (λ k h. c.loop-c.invariant k (omega arith)))
+returns c =
+    let p = c.args.p.now in
+    let e : c.find.result ≡ below (n_c p) (first (n_c p) (λ i. is_some (below (n_a p) (first (n_a p) (λ a. not (passes p c.args.table.now c.args.j i a)))))) =
+    find_range _ c.find.ensures.ran (search (rules, tests)) in
+    e ∙ ap (below (n_c p)) (first_cong (n_c p) _ _ (λ i l. some_failing (n_a p) (passes p c.args.table.now c.args.j i)))

@@ -1,27 +1,25 @@
--- The sections are looked at in order, so that the first with an entry that fails is the lowest.
-use mathlib.Core.Path.{sym}
-use native.Mathlib.Omega.{arith}
-use borrow.Author.Count.{below_more, below_none}
-use Rattle.mask.specs.BoundedLaws.{first_all, first_is, first_none, first_some}
-use Rattle.mask.specs.LogicLaws.{not_f, not_i}
-use Rattle.machine.specs.WellFormedLaws.{WellPair, well_pair}
+use Rattle.std.proofs.Common.{ap, rules, tests, ◌∙◌}
+use Rattle.std.proofs.lemmas.Iterator.{serves_from_Range}
+use Rattle.std.specs.Prelude.{is_some, ◌≡◌}
+use Rattle.mask.specs.Logic.{not}
+use Rattle.mask.specs.Bounded.{below, every, first}
+use Rattle.mask.specs.Tables.{table}
+use Rattle.mask.proofs.RangeLaws.{find_range}
+use Rattle.machine.specs.Machines.{n_a, n_c, sets_a}
+use Rattle.machine.specs.WellFormedLaws.{well_pair}
+use Rattle.machine.specs.Lines.{passes}
+use Rattle.brute.specs.TargetLaws.{some_failing}
+use Rattle.mask.specs.BoundedLaws.{first_cong}
 use Rattle.brute.proofs.lines.failing_section.Goals as goal
-use Rattle.brute.proofs.lines.failing_section.Goals.{Start}
 
-well : (c : Start) → WellPair c.args.p.now
-well c = well_pair c.args.p.now c.requires
-
-pub loop-j-init : goal.loop-j-init
-loop-j-init c = below_none _
-
-pub failing_row-requires : goal.failing_row-requires
-failing_row-requires c = let w = well (goal.at.failing_row-requires c).Start in (c.requires, omega (arith, w.abstraction.sets_high))
-
-pub returns-then-failing_row-concrete : goal.returns-then-failing_row-concrete
-returns-then-failing_row-concrete c = sym (first_is _ _ c.loop-j.j (omega arith) (not_i (first_some _ _ (rw (← c.failing_row.ensures) c.if-failing_row-concrete.true))) c.loop-j.invariant)
-
-pub loop-j-preserved : goal.loop-j-preserved
-loop-j-preserved c = below_more _ _ c.loop-j.invariant (not_f (first_all _ _ (rw (← c.failing_row.ensures) c.if-failing_row-concrete.false)))
+pub find-requires-clause-callable : goal.find-requires-clause-callable
+find-requires-clause-callable c =
+    let w = well_pair c.args.p.now c.requires in
+    serves_from_Range (λ x q h. search rules) (λ x a b. search (rules, c.requires, w.abstraction.sets_high))
 
 pub returns : goal.returns
-returns c = sym (first_none _ _ (λ k h. c.loop-j.invariant k (omega arith)))
+returns c =
+    let p = c.args.p.now in
+    let e : c.find.result ≡ below (sets_a p) (first (sets_a p) (λ j. is_some (below (n_c p) (first (n_c p) (λ i. not (every (n_a p) (passes p c.args.table.now j i))))))) =
+    find_range _ c.find.ensures.ran (search (rules, tests)) in
+    e ∙ ap (below (sets_a p)) (first_cong (sets_a p) _ _ (λ j l. some_failing (n_c p) (λ i. every (n_a p) (passes p c.args.table.now j i))))

@@ -1,35 +1,36 @@
 -- The three searches are nested as in the definition: section, then row, then state.
-use mathlib.Core.Path.{◌∙◌, ap, sym}
-use native.Mathlib.Nat.{le_trans}
-use Rattle.mask.specs.BoundedLaws.{first_le}
-use Rattle.machine.specs.Refusals.{tested_of}
-use Rattle.machine.specs.WellFormedLaws.{WellPair, well_pair}
-use Rattle.brute.specs.TargetLaws.{lines_at_lem, lines_none}
+use Rattle.std.proofs.Common.{ap, arith, sym, ◌∙◌}
+use Rattle.std.specs.Prelude.{unwrap_or, ℕ, ◌<◌}
+use Rattle.mask.specs.Bounded.{first}
+use Rattle.mask.specs.BoundedLaws.{below_at}
+use Rattle.mask.specs.Tables.{table}
+use Rattle.machine.specs.Machines.{n_c, sets_a}
+use Rattle.machine.specs.WellFormedLaws.{well_pair}
+use Rattle.std.specs.Prelude.{Option}
+use Rattle.brute.specs.TargetLaws.{below_le, lines_at_lem, lines_none, row_fails}
 use Rattle.brute.proofs.lines.lines.Goals as goal
-use Rattle.brute.proofs.lines.lines.Goals.{Start}
-use Rattle.std.specs.Prelude.{Err}
+use Rattle.brute.proofs.lines.lines.Goals.{In-Some}
 
-well : (c : Start) → WellPair c.args.p.now
-well c = well_pair c.args.p.now c.requires
+found : (c : In-Some) → let p = c.args.p.now in c.in-Some.j < sets_a p
+found c = let at = below_at (sets_a c.args.p.now) _ (sym c.failing_section.ensures ∙ c.in-Some.is) in rw at.0 at.1
 
-pub failing_section-j-requires : goal.failing_section-j-requires
-failing_section-j-requires c = c.requires
+pub returns-in_default : goal.returns-in_default
+returns-in_default c = let x = c.args in sym (lines_none x.p.now x.table.now (sym c.in_default.is ∙ c.failing_section.ensures))
 
-pub failing_row-c-requires : goal.failing_row-c-requires
-failing_row-c-requires c = (c.requires, c.if-j-abstraction.true)
+pub failing_row-requires : goal.failing_row-requires
+failing_row-requires c = (c.requires, found c)
 
-pub failing_state-a-requires : goal.failing_state-a-requires
-failing_state-a-requires c = let w = well (goal.at.failing_state-a-requires c).Start in (c.requires, (c.if-j-abstraction.true, rw c.failing_row-c.ensures (le_trans (first_le _ _) w.concrete.states_high)))
+pub failing_state-requires : goal.failing_state-requires
+failing_state-requires c =
+    let w = well_pair c.args.p.now c.requires in
+    (c.requires, (found (goal.at.failing_state-requires c).In-Some, omega (arith, w.concrete.states_high, c.unwrap_or-c.ensures ∙ ap (λ (o : Option ℕ). unwrap_or o 0) c.failing_row.ensures, below_le (n_c c.args.p.now) (first (n_c c.args.p.now) (row_fails c.args.p.now c.args.table.now c.in-Some.j)))))
 
-pub returns-then-j-abstraction : goal.returns-then-j-abstraction
-unfolding tested_of
-returns-then-j-abstraction c =
-    let x = c.args in
-    ap Err c.refuse.ensures
-    ∙ sym (lines_at_lem x.p.now x.table.now _ c.failing_section-j.ensures _ _ c.failing_row-c.ensures c.failing_state-a.ensures c.if-j-abstraction.true)
+pub overflow_add-result : goal.overflow_add-result
+overflow_add-result c = let w = well_pair c.args.p.now c.requires in omega (arith, w.abstraction.sets_high, found (goal.at.overflow_add-result c).In-Some)
 
 pub returns : goal.returns
-unfolding tested_of
 returns c =
     let x = c.args in
-    sym (lines_none x.p.now x.table.now _ c.failing_section-j.ensures c.if-j-abstraction.false)
+    sym (lines_at_lem x.p.now x.table.now _ _ _ (sym c.in-Some.is ∙ c.failing_section.ensures)
+    (c.unwrap_or-c.ensures ∙ ap (λ (o : Option ℕ). unwrap_or o 0) c.failing_row.ensures)
+    (c.unwrap_or-a.ensures ∙ ap (λ (o : Option ℕ). unwrap_or o 0) c.failing_state.ensures))

@@ -1,9 +1,9 @@
-use mathlib.Core.Path.{ap}
-use Prim.Native.Nat.{ℕ}
-use lib.Dec.{ltb}
+use Rattle.std.proofs.Common.{ap, ◌∙◌}
+use Rattle.std.specs.Prelude.{is_some}
+use Rattle.mask.specs.BoundedLaws.{is_below}
 use Rattle.machine.specs.WellFormed.{has_empty_set}
 use Rattle.brute.proofs.machines.has_empty_set.Goals as goal
 
 pub returns : goal.returns
 unfolding has_empty_set
-returns c = ap (λ (k : ℕ). ltb k 8) c.empty_set.ensures
+returns c = c.is_some.ensures ∙ ap is_some c.empty_set.ensures ∙ is_below 8 _

@@ -1,4 +1,4 @@
-use mathlib.Core.Path.{◌∙◌}
+use Rattle.std.proofs.Common.{◌∙◌}
 use Rattle.machine.specs.Machines.{moves}
 use Rattle.brute.proofs.machines.has_move.Goals as goal
 

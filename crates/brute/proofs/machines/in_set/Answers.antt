@@ -1,4 +1,4 @@
-use mathlib.Core.Path.{◌∙◌}
+use Rattle.std.proofs.Common.{◌∙◌}
 use Rattle.machine.specs.Machines.{in_fair_set}
 use Rattle.brute.proofs.machines.in_set.Goals as goal
 

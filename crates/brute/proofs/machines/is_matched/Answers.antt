@@ -1,5 +1,5 @@
-use mathlib.Core.Path.{◌∙◌}
-use Rattle.machine.specs.Machines.{matched}
+use Rattle.std.proofs.Common.{◌∙◌}
+use Rattle.machine.specs.Machines.{matched, same_observation}
 use Rattle.brute.proofs.machines.is_matched.Goals as goal
 
 pub returns : goal.returns

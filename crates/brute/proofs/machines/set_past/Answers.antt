@@ -1,7 +1,5 @@
--- A set below the count is asked for its states, one past the count for being empty.
-use mathlib.Core.Path.{◌≡◌, sym}
-use lib.ListN.{get_or}
-use borrow.Author.Tests.{le-ltb, lt-ltb}
+use Rattle.std.proofs.Common.{le-ltb, lt-ltb, sym}
+use Rattle.std.specs.Prelude.{false, get_or, true, ◌≡◌}
 use Rattle.mask.specs.LogicLaws.{not_is}
 use Rattle.machine.specs.WellFormed.{set_beyond}
 use Rattle.brute.specs.MachineLaws.{fair_at}
@@ -13,8 +11,8 @@ returns-then-k-m c =
     let e : c.set_of.result ≡ get_or c.args.m.now.fairness c.args.k 0 = fair_at _ _ c.set_of.ensures in
     rw (lt-ltb _ _ c.if-k-m.true, ← e) c.has_past.ensures
 
-pub returns : goal.returns
+pub returns-else-k-m : goal.returns-else-k-m
 unfolding set_beyond
-returns c =
-    let e : c.set_of-2.result ≡ get_or c.args.m.now.fairness c.args.k 0 = fair_at _ _ c.set_of-2.ensures in
+returns-else-k-m c =
+    let e : c.set_of-else-k-m.result ≡ get_or c.args.m.now.fairness c.args.k 0 = fair_at _ _ c.set_of-else-k-m.ensures in
     rw (le-ltb _ _ c.if-k-m.false, ← e) (sym (not_is _))

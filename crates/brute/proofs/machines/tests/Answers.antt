@@ -1,24 +1,23 @@
 -- The counts of both machines are tested first; then the concrete machine, and where nothing of it is refused, the abstract one.
-use mathlib.Core.Path.{◌∙◌, ap, sym}
-use Rattle.machine.specs.Refusals.{tested_of}
-use Rattle.machine.specs.RefusalsLaws.{tested_valid, tested_refused}
-use Rattle.machine.specs.WellFormedLaws.{bad_concrete_counts, bad_abstract_counts, bad_concrete, good_concrete}
-use Rattle.std.specs.Prelude.{Err}
+use Rattle.std.proofs.Common.{sym, ◌∙◌}
+use Rattle.std.specs.Prelude.{false, true}
+use Rattle.machine.proofs.Passing.{passed_on}
+use Rattle.machine.specs.WellFormedLaws.{bad_abstract_counts, bad_concrete, bad_concrete_counts, good_concrete}
 use Rattle.brute.proofs.machines.tests.Goals as goal
+use Rattle.brute.proofs.machines.tests.Goals.{then-not-has_counts-via-else-not-has_counts+then-not-has_counts-2, then-not-has_counts-via-then-not-has_counts}
 
 pub returns-then-not-has_counts : goal.returns-then-not-has_counts
-unfolding tested_of
-returns-then-not-has_counts c = ap Err c.refuse.ensures ∙ sym (bad_concrete_counts _ _ (sym c.has_counts.ensures ∙ c.if-not-has_counts.true))
+returns-then-not-has_counts c = elim c.then-not-has_counts.branch [
+  | then-not-has_counts-via-then-not-has_counts w ↦ sym (bad_concrete_counts _ _ (sym c.has_counts.ensures ∙ w.if-not-has_counts.true))
+  | then-not-has_counts-via-else-not-has_counts+then-not-has_counts-2 w ↦ sym (bad_abstract_counts _ _ (sym w.has_counts-else-not-has_counts.ensures ∙ w.if-not-has_counts-2.true))
+]
 
-pub returns-then-not-has_counts-2 : goal.returns-then-not-has_counts-2
-unfolding tested_of
-returns-then-not-has_counts-2 c = ap Err c.refuse-then-not-has_counts-2.ensures ∙ sym (bad_abstract_counts _ _ (sym c.has_counts-2.ensures ∙ c.if-not-has_counts-2.true))
+pub returns-in_err-content_and_sets : goal.returns-in_err-content_and_sets
+returns-in_err-content_and_sets c =
+    passed_on c.from_residual.ensures
+    ∙ sym (bad_concrete _ _ (sym c.has_counts.ensures ∙ c.if-not-has_counts.false) (sym c.has_counts-else-not-has_counts.ensures ∙ c.if-not-has_counts-2.false) _ (sym c.content_and_sets.ensures ∙ c.in_err-content_and_sets.was))
 
-pub returns-in-Refused : goal.returns-in-Refused
-unfolding tested_of
-returns-in-Refused c =
-    sym (bad_concrete _ _ (sym c.has_counts.ensures ∙ c.if-not-has_counts.false) (sym c.has_counts-2.ensures ∙ c.if-not-has_counts-2.false) _ (tested_refused c.content_and_sets-first.ensures c.in-Refused.is))
-
-pub returns-in-Valid : goal.returns-in-Valid
-returns-in-Valid c =
-    c.content_and_sets.ensures ∙ sym (good_concrete _ _ (sym c.has_counts.ensures ∙ c.if-not-has_counts.false) (sym c.has_counts-2.ensures ∙ c.if-not-has_counts-2.false) (tested_valid c.content_and_sets-first.ensures c.in-Valid.is))
+pub returns : goal.returns
+returns c =
+    c.content_and_sets-2.ensures
+    ∙ sym (good_concrete _ _ (sym c.has_counts.ensures ∙ c.if-not-has_counts.false) (sym c.has_counts-else-not-has_counts.ensures ∙ c.if-not-has_counts-2.false) (sym c.content_and_sets.ensures ∙ c.in_ok-content_and_sets.was))

@@ -1,17 +1,18 @@
--- Each part is filled by a call whose contract is that part of the definition.
-use mathlib.Core.Path.{◌∙◌, ◌≡◌}
-use Prim.Native.Nat.{min}
-use native.Mathlib.Omega.{arith}
+use Rattle.std.proofs.Common.{arith, rules, tests}
+use Rattle.std.specs.Prelude.{min, ◌≡◌}
 use Rattle.brute.specs.NumbersLaws.{machine_is}
+use Rattle.brute.proofs.MadeLaws.{made_table}
+use Rattle.std.proofs.iter.Serving.{serving}
 use Rattle.brute.proofs.numbers.numbered_machine.Goals as goal
-use Rattle.brute.proofs.numbers.numbered_machine.Goals.{else-shape-lt64, then-shape-lt64}
+
+pub from_fn-requires-3 : goal.from_fn-requires-3
+from_fn-requires-3 c = (omega arith, let h = c.min.ensures in grind (serving, h))
 
 pub returns : goal.returns
 returns c =
     let x = c.args in
-    let n_is : c.if-shape-lt64.n ≡ min x.shape.states 64 = elim c.if-shape-lt64.branch [
-      | then-shape-lt64 w ↦ omega arith
-      | else-shape-lt64 w ↦ omega arith
-    ] in
-    machine_is x.shape x.x c.if-shape-lt64.n _ _ _ _ n_is c.digit-2.ensures
-    (c.put_observations.ensures ∙ rw c.digit.ensures) c.put_masks.ensures c.put_masks-2.ensures
+    let n_is : c.min.result ≡ min x.shape.states 64 = c.min.ensures in
+    machine_is x.shape x.x c.min.result _ _ _ _ n_is c.digit.ensures
+    (made_table c.from_fn.ensures.items (search (rules, tests)))
+    (made_table c.from_fn-2.ensures.items (search (rules, tests)))
+    (made_table c.from_fn-3.ensures.items (search (rules, tests)))

@@ -1,37 +1,36 @@
--- Each section passed has the ranks; the first that has not ends the search.
-use mathlib.Core.Bool.{true}
-use mathlib.Core.Path.{◌∙◌, ◌≡◌, sym}
-use native.Mathlib.Omega.{arith}
-use borrow.Author.Count.{below_more, below_none}
-use borrow.Author.Rules.{rules}
-use Rattle.machine.specs.RefusalsLaws.{tested_refused, tested_valid}
+-- Only well-formed machines are asked for their sections.
+use Rattle.std.proofs.Common.{rules, sym, tests, ◌∙◌}
+use Rattle.std.proofs.lemmas.Iterator.{serves_from_Range}
+use Rattle.std.specs.Prelude.{false, true, ◌≡◌}
+use Rattle.mask.specs.LogicLaws.{and_true_l}
+use Rattle.mask.specs.Bounded.{every}
+use Rattle.mask.specs.Tables.{table}
+use Rattle.mask.proofs.RangeLaws.{all_range}
+use Rattle.machine.specs.Machines.{sets_a}
 use Rattle.machine.specs.WellFormed.{well_formed}
 use Rattle.machine.specs.WellFormedLaws.{valid_is_well}
-use Rattle.brute.specs.RankingLaws.{table_all, table_ill, table_not}
+use Rattle.brute.specs.Comparing.{is_exact}
+use Rattle.brute.specs.Ranking.{section_ranked, table_ranked}
+use Rattle.brute.specs.MachineLaws.{ok_failed, ok_passed}
+use Rattle.brute.specs.RankingLaws.{table_ill}
 use Rattle.brute.proofs.ranking.is_ranked.Goals as goal
-use Rattle.brute.proofs.ranking.is_ranked.Goals.{In_default}
+use Rattle.brute.proofs.ranking.is_ranked.Goals.{Then-is_ok}
 
-well : (c : In_default) → well_formed c.args.p ≡ true
-well c = valid_is_well _ (tested_valid c.validity-valid.ensures c.in_default.is)
+well : (c : Then-is_ok) → well_formed c.args.p ≡ true
+well c = valid_is_well _ (sym c.validity.ensures ∙ ok_passed _ (sym c.is_ok.ensures.value ∙ c.if-is_ok.true))
 
-pub returns-in-Refused : goal.returns-in-Refused
-returns-in-Refused c = let x = c.args in sym (table_ill x.p x.exact x.lifted.now x.table.now _ (tested_refused c.validity-valid.ensures c.in-Refused.is))
+pub all-requires-clause-callable : goal.all-requires-clause-callable
+all-requires-clause-callable c = let w = well (goal.at.all-requires-clause-callable c).Then-is_ok in serves_from_Range (λ x q h. search rules) (λ x a b. search (rules, w))
 
-pub loop-j-init : goal.loop-j-init
-loop-j-init c = (search rules, below_none _)
-
-pub section_ranked-requires : goal.section_ranked-requires
-section_ranked-requires c = (well (goal.at.section_ranked-requires c).In_default, c.loop-j-test.true)
-
-pub returns-then-not-section_ranked : goal.returns-then-not-section_ranked
-returns-then-not-section_ranked c =
+pub returns-then-is_ok : goal.returns-then-is_ok
+unfolding table_ranked
+returns-then-is_ok c =
     let x = c.args in
-    sym (table_not x.p x.exact x.lifted.now x.table.now c.loop-j.j c.loop-j-test.true (sym c.section_ranked.ensures ∙ c.if-not-section_ranked.true))
+    let e : c.all.result ≡ every (sets_a x.p) (section_ranked x.p (is_exact x.compared) x.lifted.now x.table.now) = all_range c.all.ensures.ran (search (rules, tests)) in
+    e ∙ sym (and_true_l _ (well (goal.at.returns-then-is_ok c).Then-is_ok))
 
-pub loop-j-preserved : goal.loop-j-preserved
-loop-j-preserved c = (search rules, below_more _ _ c.loop-j.invariant.1 (sym c.section_ranked.ensures ∙ c.if-not-section_ranked.false))
-
-pub returns : goal.returns
-returns c =
+pub returns-else-is_ok : goal.returns-else-is_ok
+returns-else-is_ok c =
     let x = c.args in
-    sym (table_all x.p x.exact x.lifted.now x.table.now (well (goal.at.returns c).In_default) (λ k h. c.loop-j.invariant.1 k (omega arith)))
+    let r = ok_failed _ (sym c.is_ok.ensures.value ∙ c.if-is_ok.false) in
+    rw c.if-is_ok.false (sym (table_ill x.p (is_exact x.compared) x.lifted.now x.table.now r.0 (sym c.validity.ensures ∙ r.1)))

@@ -1,7 +1,6 @@
 -- The invariant: the greatest such number up to x is the answer.
-use mathlib.Core.Path.{◌∙◌, ap, sym}
-use Prim.Native.Nat.{ℕ}
-use native.Mathlib.Omega.{arith}
+use Rattle.std.proofs.Common.{ap, arith, sym, ◌∙◌}
+use Rattle.std.specs.Prelude.{false, true, ℕ}
 use Rattle.machine.specs.WellFormedLaws.{WellPair, pairs_small, well_pair}
 use Rattle.brute.specs.Ranking.{largest}
 use Rattle.brute.specs.RankingLaws.{largest_found, largest_less, largest_none}
@@ -33,4 +32,4 @@ loop-x-preserved c =
 pub returns : goal.returns
 returns c =
     let a = c.args in
-    sym (largest_none a.p.now a.lifted.now a.j a.ranks.now a.i c.loop-x.x c.loop-x-test.false) ∙ c.loop-x.invariant
+    sym (largest_none a.p.now a.lifted.now a.j a.ranks.now a.i c.loop-x.x (omega arith)) ∙ c.loop-x.invariant

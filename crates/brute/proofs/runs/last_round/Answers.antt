@@ -1,32 +1,18 @@
--- The rounds are looked at in order, so that the first whose place occurred before is the lowest.
-use mathlib.Core.Path.{sym}
-use native.Mathlib.Omega.{arith}
-use borrow.Author.Count.{below_more, below_none}
-use borrow.Author.Rules.{rules}
+use Rattle.std.proofs.Common.{rules, tests}
+use Rattle.std.specs.Prelude.{ℕ, ◌≡◌}
+use Rattle.mask.specs.Bounded.{some}
+use Rattle.mask.specs.Tables.{table}
+use Rattle.mask.proofs.RangeLaws.{find_range}
 use Rattle.machine.specs.Lassos.{given}
-use Rattle.brute.specs.ScanLaws.{last_is, last_none, round_found, round_none}
+use Rattle.machine.specs.Player.{last_round, same_place}
+use Rattle.std.proofs.Common.{subst}
 use Rattle.brute.proofs.runs.last_round.Goals as goal
 
-pub loop-y-init : goal.loop-y-init
-loop-y-init c = (search rules, below_none _)
-
-pub earlier_round-requires : goal.earlier_round-requires
-earlier_round-requires c = (c.requires.0, omega arith)
-
-pub returns-then-earlier_round-y : goal.returns-then-earlier_round-y
-returns-then-earlier_round-y c =
-    let a = c.args in
-    let l = given a.stem.now a.cycle.now in
-    sym (last_is a.p.now a.table.now l c.loop-y.y (omega arith)
-    (round_found a.p.now a.table.now l c.loop-y.y (rw (← c.earlier_round.ensures) c.if-earlier_round-y.true)) c.loop-y.invariant.1)
-
-pub loop-y-preserved : goal.loop-y-preserved
-loop-y-preserved c =
-    let a = c.args in
-    let l = given a.stem.now a.cycle.now in
-    (search rules, below_more _ _ c.loop-y.invariant.1 (round_none a.p.now a.table.now l c.loop-y.y (rw (← c.earlier_round.ensures) c.if-earlier_round-y.false)))
-
 pub returns : goal.returns
+unfolding last_round
 returns c =
     let a = c.args in
-    sym (last_none a.p.now a.table.now (given a.stem.now a.cycle.now) (λ k h. c.loop-y.invariant.1 k (omega arith)))
+    find_range _ c.find.ensures.ran (λ x b q h. (
+      search rules,
+      λ l. subst (λ (y : ℕ). b ≡ some y (λ k. same_place a.p.now a.table.now (given a.stem.now a.cycle.now) k y)) h.shows (search (rules, tests)),
+    ))

@@ -1,19 +1,20 @@
 -- The invariant: the best of the states passed, and what a later key has to be below: that of a blank entry before there is one.
-use mathlib.Core.Bool.{true}
-use mathlib.Core.Path.{◌∙◌, ◌≡◌, sym}
-use Prim.Native.Nat.{◌*◌, ◌-◌, ◌<◌, ◌≤◌, ℕ}
-use native.Mathlib.Omega.{arith}
-use lib.ListN.{get_or}
-use borrow.Author.Rules.{rules}
+use Rattle.std.proofs.Common.{arith, rules, sym, ◌∙◌}
+use Rattle.std.specs.Prelude.{false, get_or, true, ℕ, ◌*◌, ◌-◌, ◌<◌, ◌≡◌, ◌≤◌}
 use Rattle.mask.specs.LogicLaws.{and_false_l, and_i, and_r, clash, refute}
-use Rattle.machine.specs.LinesLaws.{covers_of, non_blank_at, non_blank_of}
-use Rattle.machine.specs.Step.{partner, staying, single_step}
-use Rattle.machine.specs.SingleStepLaws.{staying_low, staying_high}
+use Rattle.mask.specs.Tables.{table}
+use Rattle.machine.specs.Machines.{moves}
 use Rattle.machine.specs.Table.{blank, covers, entry}
+use Rattle.machine.specs.Step.{present_of, single_step, staying}
+use Rattle.machine.specs.LinesLaws.{covers_of, non_blank_at, non_blank_of}
+use Rattle.machine.specs.Step.{partner}
+use Rattle.machine.specs.SingleStepLaws.{staying_low, staying_high}
 use Rattle.brute.specs.ScanLaws.{entry_below, scan_keep, scan_miss, scan_start, scan_take, keyed}
-use Rattle.brute.proofs.runs.least_partner.Goals as goal
 use Rattle.brute.proofs.runs.least_partner.Invariants.{wanted}
-use Rattle.brute.proofs.runs.least_partner.Goals.{At-loop-a, else-has, then-has+else-is_matched, then-has+then-is_matched+else-key-limit, then-has+then-is_matched+then-key-limit}
+use Rattle.brute.proofs.runs.least_partner.Goals.{else-has-via-else-has, else-has-via-then-has+else-is_matched}
+use Rattle.brute.proofs.runs.least_partner.Goals as goal
+use Rattle.brute.proofs.runs.least_partner.Goals.{At-loop-a}
+use Rattle.brute.proofs.runs.least_partner.Goals.{else-has, then-has+then-is_matched+else-key-limit, then-has+then-is_matched+then-key-limit}
 
 small : (c : At-loop-a) → (i : ℕ) → get_or c.args.table.now i 0 ≤ blank
 small c i = omega (arith, c.type_inv.table i)
@@ -31,27 +32,29 @@ loop-a-preserved c =
     let l = c.loop-a in
     let q = wanted x.p.now T x.moves x.j x.d in
     let e = entry x.p.now T x.j x.d in
-    let key = staying x.present e in
+    let key = staying (present_of x.present) e in
     let bound = 2 * blank - 1 in
     let bit = sym c.has.ensures in (
       search rules,
       elim c.if-has.branch [
         | then-has+then-is_matched+then-key-limit w ↦
             let m = sym w.is_matched.ensures ∙ w.if-is_matched.true in
-            let k : w.staying_key-key.result ≡ key l.a = keyed x.present e l.a _ _ w.entry_at.ensures w.staying_key-key.ensures in
+            let k : w.staying_key-key.result ≡ key l.a = keyed (present_of x.present) e l.a _ _ w.entry_at.ensures w.staying_key-key.ensures in
             let h : key l.a < l.limit = rw (← k) w.if-key-limit.true in
             let n : covers x.p.now T x.j x.d l.a ≡ true =
-            covers_of x.p.now T x.j x.d l.a (λ z. omega (arith, l.invariant.1.limit_le, staying_low x.present e l.a)) in
+            covers_of x.p.now T x.j x.d l.a (λ z. omega (arith, l.invariant.1.limit_le, staying_low (present_of x.present) e l.a)) in
             rw (w.best-is, w.limit-is, k) (scan_take q key bound l.a l.best l.limit l.invariant.1 (and_i (bit ∙ w.if-has.true) (non_blank_of x.p.now T x.j x.d l.a m n)) h)
         | then-has+then-is_matched+else-key-limit w ↦ rw (w.best-is, w.limit-is) (scan_keep q key bound l.a l.best l.limit l.invariant.1
             (λ t. omega (
               arith,
-              staying_high x.present e l.a,
+              staying_high (present_of x.present) e l.a,
               entry_below x.p.now T (small (goal.at.loop-a-preserved c).At-loop-a) x.j x.d l.a (non_blank_at x.p.now T x.j x.d l.a (and_r _ _ t)).1,
             ))
-            (rw (← keyed x.present e l.a _ _ w.entry_at.ensures w.staying_key-key.ensures) w.if-key-limit.false))
-        | then-has+else-is_matched w ↦ rw (w.best-is, w.limit-is) (scan_miss q key bound l.a l.best l.limit l.invariant.1 (refute _ (λ t. clash (sym w.is_matched.ensures ∙ w.if-is_matched.false) (non_blank_at x.p.now T x.j x.d l.a (and_r _ _ t)).0)))
-        | else-has w ↦ rw (w.best-is, w.limit-is) (scan_miss q key bound l.a l.best l.limit l.invariant.1 (and_false_l _ (bit ∙ w.if-has.false)))
+            (rw (← keyed (present_of x.present) e l.a _ _ w.entry_at.ensures w.staying_key-key.ensures) w.if-key-limit.false))
+        | else-has w ↦ elim w.else-has.branch [
+          | else-has-via-then-has+else-is_matched v ↦ rw (w.best-is, w.limit-is) (scan_miss q key bound l.a l.best l.limit l.invariant.1 (refute _ (λ t. clash (sym v.is_matched.ensures ∙ v.if-is_matched.false) (non_blank_at x.p.now T x.j x.d l.a (and_r _ _ t)).0)))
+          | else-has-via-else-has v ↦ rw (w.best-is, w.limit-is) (scan_miss q key bound l.a l.best l.limit l.invariant.1 (and_false_l _ (bit ∙ v.if-has.false)))
+        ]
       ],
     )
 

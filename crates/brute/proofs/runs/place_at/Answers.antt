@@ -7,6 +7,7 @@ use Rattle.machine.specs.Lassos.{given}
 use Rattle.machine.specs.Player.{start_partner}
 use Rattle.machine.specs.PlayerLaws.{start_single}
 use Rattle.machine.specs.WellFormedLaws.{WellPair, well_pair}
+use Rattle.machine.specs.Step.{present_of}
 use Rattle.brute.specs.Runs.{as_place}
 use Rattle.brute.specs.ScanLaws.{Placed, place_next, place_start, placed}
 use Rattle.brute.proofs.runs.place_at.Goals as goal
@@ -25,10 +26,11 @@ pub least_partner-found-requires : goal.least_partner-found-requires
 least_partner-found-requires c = (c.requires, omega (arith, c.moment_at.type_inv))
 
 pub loop-i-init : goal.loop-i-init
+unfolding present_of
 loop-i-init c =
     let x = c.args in
     let l = given x.stem.now x.cycle.now in
-    (search rules, rw c.state_of.ensures (place_start x.p.now x.table.now l _ (c.least_partner-found.ensures ∙ start_single x.p.now x.table.now _ _ (omega arith) ∙ ap (start_partner x.p.now x.table.now) c.moment_at.ensures)))
+    (search rules, rw c.unwrap_or.ensures (place_start x.p.now x.table.now l _ (c.least_partner-found.ensures ∙ start_single x.p.now x.table.now _ _ (omega arith) ∙ ap (start_partner x.p.now x.table.now) c.moment_at.ensures)))
 
 pub step_to-at-requires : goal.step_to-at-requires
 step_to-at-requires c = let h = here (goal.at.step_to-at-requires c).At-loop-i in (c.requires, omega (arith, c.moment_at-c.type_inv, c.moment_at-d.type_inv, h.state_in, h.section_in))

@@ -1,104 +1,123 @@
 -- The tests are made in the order of the definition, and each return is the first that fails; where none does, the rounds tell the run.
-use mathlib.Core.Path.{◌∙◌, ◌≡◌, ap, sym}
-use Prim.Native.Nat.{◌*◌, ◌+◌, ◌-◌, ◌≤◌}
-use native.Mathlib.Omega.{arith}
-use lib.ListN.{length}
+use Rattle.std.proofs.Common.{ap, arith, sym, ◌∙◌}
+use Rattle.std.specs.Prelude.{Err, length, unwrap_or, ℕ, ◌*◌, ◌+◌, ◌-◌, ◌≡◌, ◌≤◌}
+use Rattle.mask.specs.Logic.{and}
+use Rattle.mask.specs.Bounded.{first}
 use Rattle.mask.specs.BoundedLaws.{first_le}
-use Rattle.machine.specs.Lassos.{moment, given}
-use Rattle.machine.specs.Lines.{lines_validity}
-use Rattle.machine.specs.Player.{lasso_validity, last_round, start_partner}
+use Rattle.mask.specs.Tables.{table}
+use Rattle.machine.proofs.Passing.{passed_on}
 use Rattle.machine.specs.Refusals.{valid}
-use Rattle.machine.specs.RefusalsLaws.{tested_refused, tested_valid}
 use Rattle.machine.specs.WellFormed.{pair_validity}
 use Rattle.machine.specs.WellFormedLaws.{mul_bound, valid_is_well}
-use Rattle.brute.specs.Runs.{played_of}
+use Rattle.machine.specs.Step.{present_of}
+use Rattle.machine.specs.Lines.{lines_validity}
+use Rattle.machine.specs.Lassos.{given, moment}
+use Rattle.machine.specs.Player.{lasso_validity, last_round, same_place, start_partner}
+use Rattle.std.specs.Prelude.{Option}
 use Rattle.machine.specs.PlayerLaws.{lasso_length_lem, play_alone, play_fails, play_ill, play_unfit, play_valid, start_single}
-use Rattle.brute.specs.ScanLaws.{played_refused, played_run}
+use Rattle.brute.specs.ScanLaws.{or_end, partner_none_lem, partner_some_lem, played_refused, played_run}
 use Rattle.brute.proofs.runs.plain_play.Goals as goal
-use Rattle.brute.proofs.runs.plain_play.Goals.{After-earlier_round-x, In_default, In_default-passed, In_default-fits, After-least_partner-found}
-use Rattle.std.specs.Prelude.{Err}
+use Rattle.brute.proofs.runs.plain_play.Goals.{After-least_partner, After-unwrap_or-x, After-unwrap_or-y, In_ok-lasso_fits, In_ok-lines, In_ok-validity}
 
-formed : (c : In_default) → pair_validity c.args.p ≡ valid
-formed c = tested_valid c.validity-valid.ensures c.in_default.is
+formed : (c : In_ok-validity) → pair_validity c.args.p ≡ valid
+formed c = sym c.validity.ensures ∙ c.in_ok-validity.was
 
-passed : (c : In_default-passed) → lines_validity c.args.p c.args.table.now ≡ valid
-passed c = tested_valid c.lines-passed.ensures c.in_default-passed.is
+passed : (c : In_ok-lines) → lines_validity c.args.p c.args.table.now ≡ valid
+passed c = sym c.lines.ensures ∙ c.in_ok-lines.was
 
-fits : (c : In_default-fits) → let x = c.args in lasso_validity x.p.concrete (given x.stem.now x.cycle.now) ≡ valid
-fits c = tested_valid c.lasso_fits-fits.ensures c.in_default-fits.is
+fits : (c : In_ok-lasso_fits) → let x = c.args in lasso_validity x.p.concrete (given x.stem.now x.cycle.now) ≡ valid
+fits c = sym c.lasso_fits.ensures ∙ c.in_ok-lasso_fits.was
 
-start : (c : After-least_partner-found)
-    → let x = c.args in
-    c.least_partner-found.result ≡ start_partner x.p x.table.now (moment (given x.stem.now x.cycle.now) 0)
-start c = c.least_partner-found.ensures ∙ start_single _ _ _ _ (omega arith) ∙ ap (start_partner c.args.p c.args.table.now) c.moment_at.ensures
+start : (c : After-least_partner) → let x = c.args in c.least_partner.result ≡ start_partner x.p x.table.now (moment (given x.stem.now x.cycle.now) 0)
+unfolding present_of
+start c = c.least_partner.ensures ∙ start_single _ _ _ _ (omega arith) ∙ ap (start_partner c.args.p c.args.table.now) c.moment_at-first.ensures
+
+-- the two rounds
+later : (c : After-unwrap_or-y) → let x = c.args in c.unwrap_or-y.result ≡ last_round x.p x.table.now (given x.stem.now x.cycle.now)
+unfolding last_round
+later c = c.unwrap_or-y.ensures ∙ ap (λ (o : Option ℕ). unwrap_or o 449) c.last_round.ensures ∙ or_end 449 _ (first_le 449 _)
+
+earlier : (c : After-unwrap_or-x) → let x = c.args in c.unwrap_or-x.result ≡ first c.unwrap_or-y.result (λ k. same_place x.p x.table.now (given x.stem.now x.cycle.now) k c.unwrap_or-y.result)
+earlier c = c.unwrap_or-x.ensures ∙ ap (λ (o : Option ℕ). unwrap_or o c.unwrap_or-y.result) c.earlier_round.ensures ∙ or_end c.unwrap_or-y.result _ (first_le c.unwrap_or-y.result _)
+
+late : (c : After-unwrap_or-y) → c.unwrap_or-y.result ≤ 449
+unfolding last_round
+late c = rw (later c) (first_le 449 _)
 
 -- the rounds and the lasso's length are small numbers
-room : (c : After-earlier_round-x)
+room : (c : After-unwrap_or-x)
     → let x = c.args in
-    (c.last_round-y.result ≤ 449) × (c.earlier_round-x.result ≤ c.last_round-y.result)
+    (c.unwrap_or-y.result ≤ 449) × (c.unwrap_or-x.result ≤ c.unwrap_or-y.result)
     × (length x.stem.now + length x.cycle.now ≤ 64)
-    × (c.earlier_round-x.result * length x.cycle.now ≤ 28736)
-    × ((c.last_round-y.result - c.earlier_round-x.result) * length x.cycle.now ≤ 28736)
-unfolding last_round
+    × (c.unwrap_or-x.result * length x.cycle.now ≤ 28736)
+    × ((c.unwrap_or-y.result - c.unwrap_or-x.result) * length x.cycle.now ≤ 28736)
 room c =
-    let x = c.args in
-    let a : c.last_round-y.result ≤ 449 = rw c.last_round-y.ensures (first_le 449 _) in
-    let b : c.earlier_round-x.result ≤ c.last_round-y.result = rw c.earlier_round-x.ensures (first_le _ _) in
-    let n = (lasso_length_lem _ _ (tested_valid c.lasso_fits-fits.ensures c.in_default-fits.is)).1 in
+    let a = late (goal.at.After-unwrap_or-x c).After-unwrap_or-y in
+    let b : c.unwrap_or-x.result ≤ c.unwrap_or-y.result = rw (earlier c) (first_le _ _) in
+    let n = (lasso_length_lem _ _ (fits (goal.at.After-unwrap_or-x c).In_ok-lasso_fits)).1 in
     (a, b, n, mul_bound _ _ 449 64 (omega arith) (omega arith), mul_bound _ _ 449 64 (omega arith) (omega arith))
 
-pub returns-in-Refused : goal.returns-in-Refused
-unfolding played_of
-returns-in-Refused c =
+pub returns-in_err-validity : goal.returns-in_err-validity
+returns-in_err-validity c =
     let x = c.args in
-    sym (played_refused x.p x.table.now (given x.stem.now x.cycle.now) _ (play_ill x.p x.table.now (given x.stem.now x.cycle.now) _ (tested_refused c.validity-valid.ensures c.in-Refused.is)))
+    let l = given x.stem.now x.cycle.now in
+    passed_on c.from_residual.ensures ∙ sym (played_refused x.p x.table.now l _ (play_ill x.p x.table.now l _ (sym c.validity.ensures ∙ c.in_err-validity.was)))
 
-pub lines-passed-requires : goal.lines-passed-requires
-lines-passed-requires c = valid_is_well _ (formed (goal.at.lines-passed-requires c).In_default)
+pub lines-requires : goal.lines-requires
+lines-requires c = valid_is_well _ (formed (goal.at.lines-requires c).In_ok-validity)
 
-pub returns-in-Refused-passed : goal.returns-in-Refused-passed
-unfolding played_of
-returns-in-Refused-passed c =
+pub returns-in_err-lines : goal.returns-in_err-lines
+returns-in_err-lines c =
     let x = c.args in
-    sym (played_refused x.p x.table.now (given x.stem.now x.cycle.now) _ (play_fails x.p x.table.now (given x.stem.now x.cycle.now) (formed (goal.at.returns-in-Refused-passed c).In_default) _ (tested_refused c.lines-passed.ensures c.in-Refused-passed.is)))
+    let l = given x.stem.now x.cycle.now in
+    passed_on c.from_residual-in_err-lines.ensures
+    ∙ sym (played_refused x.p x.table.now l _ (play_fails x.p x.table.now l (formed (goal.at.returns-in_err-lines c).In_ok-validity) _ (sym c.lines.ensures ∙ c.in_err-lines.was)))
 
-pub returns-in-Refused-fits : goal.returns-in-Refused-fits
-unfolding played_of
-returns-in-Refused-fits c =
+pub returns-in_err-lasso_fits : goal.returns-in_err-lasso_fits
+returns-in_err-lasso_fits c =
     let x = c.args in
-    sym (played_refused x.p x.table.now (given x.stem.now x.cycle.now) _ (play_unfit x.p x.table.now (given x.stem.now x.cycle.now) (formed (goal.at.returns-in-Refused-fits c).In_default) (passed (goal.at.returns-in-Refused-fits c).In_default-passed) _ (tested_refused c.lasso_fits-fits.ensures c.in-Refused-fits.is)))
+    let l = given x.stem.now x.cycle.now in
+    let at = goal.at.returns-in_err-lasso_fits c in
+    passed_on c.from_residual-in_err-lasso_fits.ensures
+    ∙ sym (played_refused x.p x.table.now l _ (play_unfit x.p x.table.now l (formed at.In_ok-validity) (passed at.In_ok-lines) _ (sym c.lasso_fits.ensures ∙ c.in_err-lasso_fits.was)))
 
-pub least_partner-found-requires : goal.least_partner-found-requires
-least_partner-found-requires c = (valid_is_well _ (formed (goal.at.least_partner-found-requires c).In_default), omega (arith, c.moment_at.type_inv))
+pub least_partner-requires : goal.least_partner-requires
+least_partner-requires c = (valid_is_well _ (formed (goal.at.least_partner-requires c).In_ok-validity), omega (arith, c.moment_at-first.type_inv))
 
-pub returns-in-Nobody : goal.returns-in-Nobody
-unfolding played_of
-returns-in-Nobody c =
+pub returns-in_err-ok_or : goal.returns-in_err-ok_or
+returns-in_err-ok_or c =
     let x = c.args in
-    ap Err c.refuse.ensures
-    ∙ sym (played_refused x.p x.table.now (given x.stem.now x.cycle.now) _ (play_alone x.p x.table.now (given x.stem.now x.cycle.now) (formed (goal.at.returns-in-Nobody c).In_default) (passed (goal.at.returns-in-Nobody c).In_default-passed) (fits (goal.at.returns-in-Nobody c).In_default-fits) (sym (start (goal.at.returns-in-Nobody c).After-least_partner-found) ∙ c.in-Nobody.is)))
+    let l = given x.stem.now x.cycle.now in
+    let at = goal.at.returns-in_err-ok_or c in
+    let none = partner_none_lem _ _ _ (sym c.ok_or.ensures.value ∙ c.in_err-ok_or.was) in
+    passed_on c.from_residual-in_err-ok_or.ensures ∙ ap Err (sym none.1)
+    ∙ sym (played_refused x.p x.table.now l _ (play_alone x.p x.table.now l (formed at.In_ok-validity) (passed at.In_ok-lines) (fits at.In_ok-lasso_fits) (sym (start at.After-least_partner) ∙ none.0)))
 
-pub last_round-y-requires : goal.last_round-y-requires
-last_round-y-requires c = (valid_is_well _ (formed (goal.at.last_round-y-requires c).In_default), (lasso_length_lem _ _ (fits (goal.at.last_round-y-requires c).In_default-fits)).1)
+pub last_round-requires : goal.last_round-requires
+last_round-requires c = (valid_is_well _ (formed (goal.at.last_round-requires c).In_ok-validity), (lasso_length_lem _ _ (fits (goal.at.last_round-requires c).In_ok-lasso_fits)).1)
 
-pub earlier_round-x-requires : goal.earlier_round-x-requires
-unfolding last_round
-earlier_round-x-requires c = (valid_is_well _ (formed (goal.at.earlier_round-x-requires c).In_default), ((lasso_length_lem _ _ (fits (goal.at.earlier_round-x-requires c).In_default-fits)).1, rw c.last_round-y.ensures (first_le 449 _)))
+pub earlier_round-requires : goal.earlier_round-requires
+earlier_round-requires c =
+    let at = goal.at.earlier_round-requires c in
+    (valid_is_well _ (formed at.In_ok-validity), ((lasso_length_lem _ _ (fits at.In_ok-lasso_fits)).1, late at.After-unwrap_or-y))
 
 pub overflow_mul-result : goal.overflow_mul-result
-overflow_mul-result c = omega (arith, room (goal.at.overflow_mul-result c).After-earlier_round-x)
+overflow_mul-result c = omega (arith, room (goal.at.overflow_mul-result c).After-unwrap_or-x)
 
 pub overflow_add-result : goal.overflow_add-result
-overflow_add-result c = omega (arith, room (goal.at.overflow_add-result c).After-earlier_round-x)
+overflow_add-result c = omega (arith, room (goal.at.overflow_add-result c).After-unwrap_or-x)
 
 pub overflow_sub-result : goal.overflow_sub-result
-overflow_sub-result c = (room (goal.at.overflow_sub-result c).After-earlier_round-x).1
+overflow_sub-result c = (room (goal.at.overflow_sub-result c).After-unwrap_or-x).1
 
 pub overflow_mul-result-2 : goal.overflow_mul-result-2
-overflow_mul-result-2 c = omega (arith, room (goal.at.overflow_mul-result-2 c).After-earlier_round-x)
+overflow_mul-result-2 c = omega (arith, room (goal.at.overflow_mul-result-2 c).After-unwrap_or-x)
 
 pub returns : goal.returns
-unfolding played_of
 returns c =
     let x = c.args in
-    sym (played_run x.p x.table.now (given x.stem.now x.cycle.now) (play_valid x.p x.table.now (given x.stem.now x.cycle.now) (formed (goal.at.returns c).In_default) (passed (goal.at.returns c).In_default-passed) (fits (goal.at.returns c).In_default-fits) _ (sym (start (goal.at.returns c).After-least_partner-found) ∙ c.in_default-found.is)) _ _ c.last_round-y.ensures c.earlier_round-x.ensures)
+    let l = given x.stem.now x.cycle.now in
+    let at = goal.at.returns c in
+    sym (played_run x.p x.table.now l
+    (play_valid x.p x.table.now l (formed at.In_ok-validity) (passed at.In_ok-lines) (fits at.In_ok-lasso_fits) _ (sym (start at.After-least_partner) ∙ partner_some_lem _ _ _ (sym c.ok_or.ensures.value ∙ c.in_ok-ok_or.was)))
+    _ _ (later at.After-unwrap_or-y) (earlier at.After-unwrap_or-x))

@@ -1,10 +1,12 @@
--- The places at the two loop starts differ in the state, or their sections tell.
-use mathlib.Core.Path.{sym}
-use Prim.Native.Nat.{◌*◌, ◌≤◌}
-use native.Mathlib.Omega.{arith}
-use lib.ListN.{length}
-use Rattle.machine.specs.Lassos.{given}
+-- The places at the two loop starts are compared, the state before the section.
+use Rattle.std.proofs.Common.{arith, sym, ◌∙◌}
+use borrow.Author.Tests.{ne_eqb}
+use Rattle.std.specs.Prelude.{false, length, true, ◌*◌, ◌≤◌}
+use Rattle.mask.specs.LogicLaws.{both}
+use Rattle.mask.specs.Tables.{table}
+use Rattle.machine.specs.Machines.{starts}
 use Rattle.machine.specs.WellFormedLaws.{mul_bound}
+use Rattle.machine.specs.Lassos.{given}
 use Rattle.brute.specs.ScanLaws.{place_other, place_same}
 use Rattle.brute.proofs.runs.same_place.Goals as goal
 use Rattle.brute.proofs.runs.same_place.Goals.{Start}
@@ -34,9 +36,9 @@ place_at-v-requires c = c.requires.0
 pub returns-then-u-v : goal.returns-then-u-v
 returns-then-u-v c =
     let a = c.args in
-    sym (place_other a.p.now a.table.now (given a.stem.now a.cycle.now) a.x a.y _ _ c.place_at-u.ensures c.place_at-v.ensures c.if-u-v.true)
+    sym (place_same a.p.now a.table.now (given a.stem.now a.cycle.now) a.x a.y _ _ c.place_at-u.ensures c.place_at-v.ensures c.if-u-v.true)
 
-pub returns : goal.returns
-returns c =
+pub returns-else-u-v : goal.returns-else-u-v
+returns-else-u-v c =
     let a = c.args in
-    sym (place_same a.p.now a.table.now (given a.stem.now a.cycle.now) a.x a.y _ _ c.place_at-u.ensures c.place_at-v.ensures c.if-u-v.false)
+    ne_eqb _ _ c.if-u-v.false ∙ sym (place_other a.p.now a.table.now (given a.stem.now a.cycle.now) a.x a.y _ _ c.place_at-u.ensures c.place_at-v.ensures c.if-u-v.false)

@@ -1,6 +1,7 @@
 -- The section changes first, and the partner is looked for in the new one.
 use native.Mathlib.Omega.{arith}
 use Rattle.machine.specs.WellFormedLaws.{WellPair, well_pair}
+use Rattle.machine.specs.Step.{present_of}
 use Rattle.brute.specs.Runs.{as_place}
 use Rattle.machine.specs.PlayerLaws.{section_lt}
 use Rattle.brute.specs.ScanLaws.{step_is}
@@ -20,6 +21,7 @@ least_partner-found-requires c =
     (c.requires.0, omega (arith, c.section_after-j.ensures, section_lt x.p.now x.table.now x.c (as_place x.at) c.requires.1.1.1.1, w.abstraction.sets_high))
 
 pub returns : goal.returns
+unfolding present_of
 returns c =
     let x = c.args in
-    rw c.state_of.ensures (step_is x.p.now x.table.now x.c x.d _ (as_place x.at) _ _ c.section_after-j.ensures c.successors_of-moves.ensures c.least_partner-found.ensures)
+    rw c.unwrap_or.ensures (step_is x.p.now x.table.now x.c x.d _ (as_place x.at) _ _ c.section_after-j.ensures c.successors_of-moves.ensures c.least_partner-found.ensures)

@@ -1,8 +1,0 @@
-use mathlib.Core.Bool.{false}
-use mathlib.Core.Path.{◌≡◌}
-use Prim.Native.Nat.{◌<◌, ℕ}
-use Rattle.machine.specs.VerdictLaws.{lacks}
-use Rattle.brute.proofs.lines.lacking_start.Given as goal
-
-abbrev pub invariant-loop-c : goal.invariant-loop-c
-invariant-loop-c l = (k : ℕ) → k < l.c → lacks l.p l.table k ≡ false
