@@ -15,26 +15,6 @@ use Rattle.comparison.specs.Answers.{same_answer, says_yes}
 use Rattle.comparison.specs.Tallies.{nothing, of_test, plus}
 use Rattle.comparison.specs.Turns.{end_agrees, family_tally, kept_from, made_agrees, mark, marks, plain_agrees, left_fits, same_rows, stopped_agrees, turn_agrees, turn_said, walk_tally, walked, walked_from}
 
--- ---- entries one after the other
-module _ (n : ℕ) (T : List ℕ) where
-  -- entry e is as it was lent, or before number n
-  abbrev pub kept_at : ℕ → Bool
-  kept_at e = or (nat_lt e n) (slice_index T e == mark)
-
-  pub kept_before : (e : ℕ) → e < n → kept_at e ≡ true
-  kept_before e h = or_l _ (lt-ltb e n h)
-
-  pub kept_mark : (e : ℕ) → slice_index T e ≡ mark → kept_at e ≡ true
-  kept_mark e h = or_r _ (eq-eqb _ _ h)
-
-  pub kept_not : (e : ℕ) → n ≤ e → e < table_room → (slice_index T e ≢ mark) → kept_from n T ≡ false
-  unfolding kept_from
-  kept_not e l h d = every_not table_room _ e h (or_false (le-ltb e n l) (ne_eqb _ _ d))
-
-  pub kept_all : ((e : ℕ) → e < table_room → kept_at e ≡ true) → kept_from n T ≡ true
-  unfolding kept_from
-  kept_all h = every_of table_room _ h
-
 -- how many look-ups there are of a section
 pub some_product : (x y : ℕ) → 0 < (x + 1) * (y + 1)
 some_product x y = omega arith

@@ -39,13 +39,7 @@ struct Step {
 fn is_kept(from: usize, table: &[u16; 28672]) -> bool
     ensures { result ≡ kept_from from table.now }
 {
-    for e in from..machine::TABLE_ROOM {
-        // as u32: of two u16 the kit's own compiler makes a far slower test
-        if table[e] as u32 != MARK as u32 {
-            return false;
-        }
-    }
-    true
+    (from..machine::TABLE_ROOM).all(|e| table[e] == MARK)
 }
 
 // Whether the next family has the pairs with a rank over the given one, and no stray bits.
