@@ -9,11 +9,12 @@ use Rattle.machine.specs.WellFormed.{well_formed, nonempty_sets}
 use Rattle.machine.specs.Ranks.{solver_table}
 use Rattle.machine.specs.Table.{blank, table_room, entry, covers, entries}
 use Rattle.solver.specs.Solver.{solve_validity, solved_table}
-use Rattle.progress.specs.Turns.{first_given, turn_answer, turn_family, turn_table, says_finished, look_up_answer}
+use Rattle.progress.specs.Turns.{first_rows, first_answer, turn_answer, turn_family, turn_table, says_finished, look_up_answer}
 
--- a list of turns has the tables that were lent, the latest first; the family that it leaves
+-- a list of turns has the tables that were lent, the latest first; the family that it leaves. They begin with the family that the first call answers
+-- (`first_answer`).
 unfoldable pub family_of_turns : Pair → List (List ℕ) → List ℕ
-family_of_turns p [] = first_given p
+family_of_turns p [] = first_rows p
 family_of_turns p (T ∷ Ts) = turn_family p (family_of_turns p Ts) (length T)
 
 -- how many turns were made: a call that was lent too short a table is refused, and is none
@@ -69,12 +70,16 @@ module _ (p : Pair) where
 
   -- "the first being all matched pairs in every section"; a pair that is not matched is struck out of any family, from the first on
   abbrev pub FirstIsMatched : Type 0
-  FirstIsMatched = well_formed p ≡ true → nonempty_sets p ≡ true → (j c a : ℕ) → 1 ≤ j → j ≤ sets_a p → c < n_c p → a < n_a p
-      → (look_up_answer p (first_given p) j c a ≡ Ok (matched p c a)) × ((F : List ℕ) → matched p c a ≡ false → look_up_answer p F j c a ≡ Ok false)
+  FirstIsMatched = well_formed p ≡ true → nonempty_sets p ≡ true
+      → (first_answer p ≡ Ok (first_rows p))
+      × ((j c a : ℕ) → 1 ≤ j → j ≤ sets_a p → c < n_c p → a < n_a p
+      → (look_up_answer p (first_rows p) j c a ≡ Ok (matched p c a)) × ((F : List ℕ) → matched p c a ≡ false → look_up_answer p F j c a ≡ Ok false))
 
   -- the solver is the same as turns from the first until one is finished, n × P + 1 turns at most: it says the same refusals, of any family, and
-  -- leaves the same table; of any machines and any lent table
+  -- leaves the same table; of any machines and any lent table. Machines that the first call refuses have no first family: of these it holds of turns
+  -- from any.
   abbrev pub SolverIsTurns : Type 0
   SolverIsTurns = (T : List ℕ)
-      → (turns_until p (entries p + 1) (first_given p) T ≡ solved_table p T)
+      → (turns_until p (entries p + 1) (first_rows p) T ≡ solved_table p T)
+      × ((r : Refusal) → first_answer p ≡ Err r → (F : List ℕ) → turns_until p (entries p + 1) F T ≡ solved_table p T)
       × ((F : List ℕ) (r : Refusal) → (turn_answer p F (length T) ≡ Err r) ↔ (solve_validity p (length T) ≡ Err r))

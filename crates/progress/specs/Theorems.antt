@@ -21,7 +21,7 @@ use Rattle.machine.specs.declared.Refusal.{Refusal}
 use Rattle.machine.specs.Machines.{matched, n_c, n_a, sets_a}
 use Rattle.machine.specs.Iteration.{iterate}
 use Rattle.machine.specs.Refusals.{Tested, valid, buffer_validity, Answer}
-use Rattle.machine.specs.RefusalsLaws.{then_of, then_answer, given_at, given_refused, buffer_short, buffer_room}
+use Rattle.machine.specs.RefusalsLaws.{then_of, then_answer, given_at, given_refused, refused_not_answer, buffer_short, buffer_room}
 use Rattle.machine.specs.WellFormed.{well_formed, nonempty_sets, nonempty_validity}
 use Rattle.machine.specs.WellFormedLaws.{WellPair, well_pair, valid_is_well}
 use Rattle.machine.specs.EmptySetsLaws.{nonempty_valid, nonempty_at}
@@ -39,8 +39,8 @@ use Rattle.solver.specs.Families.{flat_of, section_of, family_in, turn_rows}
 use Rattle.solver.specs.Solver.{solve_validity, solved_table}
 use Rattle.solver.specs.SolverLaws.{solve_short, solve_long, solved_refused}
 use Rattle.solver.specs.SolvedLaws.{solved_is}
-use Rattle.progress.specs.Turns.{first_rows, first_given, finishes, turn_answer, turn_family, turn_table, says_finished, still_in, range_validity, look_up_answer}
-use Rattle.progress.specs.TurnsLaws.{first_given_lem, rows_same, turn_refused, turn_taken, table_kept, table_written, in_range_lem, range_at, looked_up, still_in_is}
+use Rattle.progress.specs.Turns.{first_rows, first_answer, finishes, turn_answer, turn_family, turn_table, says_finished, still_in, range_validity, look_up_answer}
+use Rattle.progress.specs.TurnsLaws.{first_of, rows_same, turn_refused, turn_taken, table_kept, table_written, in_range_lem, range_at, looked_up, still_in_is}
 use Rattle.progress.specs.Statements.{family_of_turns, turns_in, turns_until, TurnsFinish, OnlyFinishedWrites, FinishedSettles, StruckOutIsFinal, FinishedTells, FirstIsMatched, SolverIsTurns}
 
 -- ---- lists of turns and turns until one is finished, one at a time
@@ -188,7 +188,7 @@ module _ (p : Pair) (w : WellPair p) where
     -- ---- lists of turns
     after_turns : (Ts : List (List ℕ)) → family_of_turns p Ts ≡ flat_of (family_after p (turns_in Ts))
     unfolding family_of_turns turns_in family_after iterate first_rows
-    after_turns [] = sym (first_given_lem p (nonempty_valid p well nonempty))
+    after_turns [] = refl
     after_turns (T ∷ Ts) = by_cases (dec_le table_room (length T))
         (λ h. (turn_taken p (family_of_turns p Ts) T (solves (length T) h)).1 ∙ ap (turn_rows p) (after_turns Ts)
         ∙ rows_turn (family_after p (turns_in Ts)) (after_tabled (turns_in Ts)) ∙ rw (le-leb table_room (length T) h))
@@ -253,21 +253,27 @@ module _ (p : Pair) where
   looked_is : well_formed p ≡ true → nonempty_sets p ≡ true → (F : List ℕ) (j c a : ℕ) → range_validity p j c a ≡ valid → look_up_answer p F j c a ≡ Ok (still_in p F (j - 1) c a)
   looked_is well nonempty F j c a e = looked_up p j c a F (then_of _ _ (nonempty_valid p well nonempty) ∙ e)
 
-  first_still : WellPair p → well_formed p ≡ true → nonempty_sets p ≡ true → (j c a : ℕ) → j < sets_a p → c < n_c p → a < n_a p → still_in p (first_given p) j c a ≡ matched p c a
+  first_still : WellPair p → well_formed p ≡ true → nonempty_sets p ≡ true → (j c a : ℕ) → j < sets_a p → c < n_c p → a < n_a p → still_in p (first_rows p) j c a ≡ matched p c a
   unfolding family_of_turns turns_in family_after iterate all_matched
   first_still w well nonempty j c a hj hc ha =
       still_is p w well nonempty [] j c a ∙ ap (λ (S : List ℕ). mem p S c a) (first_at p j hj) ∙ mem_pair_set p (λ c a. true) c a hc ha ∙ and_true_r _ refl
 
   -- turns until one is finished, by what the solver says
-  until_solved : (T : List ℕ) (v : Tested) → solve_validity p (length T) ≡ v → turns_until p (entries p + 1) (first_given p) T ≡ solved_table p T
+  until_solved : (T : List ℕ) (v : Tested) → solve_validity p (length T) ≡ v → turns_until p (entries p + 1) (first_rows p) T ≡ solved_table p T
   unfolding family_of_turns turns_in solve_validity
-  until_solved T (Err r) e = until_kept p _ (first_given p) T e ∙ solved_refused p T r e
+  until_solved T (Err r) e = until_kept p _ (first_rows p) T e ∙ solved_refused p T r e
   until_solved T (Ok t) e =
       let q = then_answer (buffer_validity table_room (length T)) (nonempty_validity p) e in
       let n = nonempty_at p q.1 in
       let well = valid_is_well p n.0 in
       let w = well_pair p well in
       until_done p w well n.1 (entries p + 1) [] T (buffer_room table_room (length T) q.0) (omega arith) (omega (arith, before_small p w))
+
+  -- and of machines that are refused, whatever the family
+  until_refused : (F T : List ℕ) (v : Tested) {r : Refusal} → solve_validity p (length T) ≡ v → nonempty_validity p ≡ Err r → turns_until p (entries p + 1) F T ≡ solved_table p T
+  unfolding solve_validity
+  until_refused F T (Err s) e n = until_kept p _ F T e ∙ solved_refused p T s e
+  until_refused F T (Ok t) e n = absurd (refused_not_answer (sym n ∙ (then_answer (buffer_validity table_room (length T)) (nonempty_validity p) e).1))
 
   pub turns_finish : TurnsFinish p
   turns_finish well nonempty =
@@ -322,13 +328,20 @@ module _ (p : Pair) where
       ∙ both _ _ (family_covered p w (j - 1) c a hj hc ha) (λ t. (rank_covered p w (j - 1) c a hj hc ha).0 (λ z. covers_at p (solver_table p) (j - 1) c a t (table_rank p (j - 1) c a hj hc ha ∙ z))))
 
   pub first_is_matched : FirstIsMatched p
-  first_is_matched well nonempty j c a lo hi hc ha =
-      let w = well_pair p well in
-      let hj : j - 1 < sets_a p = omega arith in (
-        looked_is well nonempty (first_given p) j c a (in_range_lem p j c a lo hi hc ha) ∙ ap Ok (first_still w well nonempty (j - 1) c a hj hc ha),
-        λ F m. looked_is well nonempty F j c a (in_range_lem p j c a lo hi hc ha) ∙ ap Ok (still_in_is p w F (j - 1) c a hj hc ha ∙ and_false_l _ m),
-      )
+  first_is_matched well nonempty = (
+    first_of p (nonempty_valid p well nonempty),
+    λ j c a lo hi hc ha.
+        let w = well_pair p well in
+        let hj : j - 1 < sets_a p = omega arith in (
+          looked_is well nonempty (first_rows p) j c a (in_range_lem p j c a lo hi hc ha) ∙ ap Ok (first_still w well nonempty (j - 1) c a hj hc ha),
+          λ F m. looked_is well nonempty F j c a (in_range_lem p j c a lo hi hc ha) ∙ ap Ok (still_in_is p w F (j - 1) c a hj hc ha ∙ and_false_l _ m),
+        ),
+  )
 
   pub solver_is_turns : SolverIsTurns p
-  unfolding turn_answer
-  solver_is_turns T = (until_solved T (solve_validity p (length T)) refl, λ F r. (λ e. given_refused _ _ e, λ e. (turn_refused p F T e).0))
+  unfolding turn_answer first_answer
+  solver_is_turns T = (
+    until_solved T (solve_validity p (length T)) refl,
+    λ r e F. until_refused F T (solve_validity p (length T)) refl (given_refused _ _ e),
+    λ F r. (λ e. given_refused _ _ e, λ e. (turn_refused p F T e).0),
+  )

@@ -1,29 +1,28 @@
 -- Laws of the solver by turns: the first family row by row, what a turn says and leaves by what the solver says, and the look-up.
-use Rattle.std.specs.Prelude.{Bool, true, false, ◌⊎◌, ◌≡◌, ℕ, ◌+◌, ◌-◌, ◌*◌, ◌/◌, ◌%◌, ◌≤◌, ◌<◌, ltb, leb, length, drop, replicate, Err, Ok}
+use Rattle.std.specs.Prelude.{Bool, true, false, cond, ◌⊎◌, ◌≡◌, ℕ, ◌+◌, ◌-◌, ◌*◌, ◌/◌, ◌%◌, ◌≤◌, ◌<◌, ltb, leb, length, take, drop, replicate, Err, Ok}
 use mathlib.Core.List.{List, [], ◌++◌}
 use Rattle.std.proofs.Math.Logic.{⊎_elim, by_cases}
-use Rattle.std.proofs.Math.Path.{sym, ap}
+use Rattle.std.proofs.Math.Path.{refl, sym, ap}
+use Rattle.std.specs.Result.{result_and}
 use Rattle.std.proofs.Common.{ap₂, ◌∙◌, arith}
 use Rattle.std.proofs.Math.Decide.{dec_lt}
 use Rattle.std.proofs.Math.Dec.{eqb}
 use Rattle.std.proofs.Math.ListN.{get_or, get_or-append}
-use Rattle.std.proofs.lemmas.List.{length-replicate}
-use borrow.Author.Tests.{lt-ltb, le-ltb, ltb-true, le-leb, lt-leb, leb-true, eq-eqb, ne_eqb}
+use Rattle.std.proofs.lemmas.List.{length-replicate, length-take-le, get_or-take}
+use borrow.Author.Tests.{lt-ltb, le-ltb, ltb-true, le-leb, lt-leb, leb-true, eq-eqb}
 use Rattle.mask.specs.Logic.{and}
 use Rattle.mask.specs.LogicLaws.{and_l, and_r, and_i, and_true_l, and_false_l, and_false_r}
 use Rattle.mask.specs.Bits.{has_bit}
 use Rattle.mask.specs.Bounded.{every}
-use Rattle.mask.specs.BoundedLaws.{every_of, every_not}
+use Rattle.mask.specs.BoundedLaws.{every_of}
 use Rattle.mask.specs.Tables.{table, front}
 use Rattle.mask.specs.TablesLaws.{table_at, table_past, table_cong, fill_done}
-use Rattle.mask.specs.FrontLaws.{front_none, front_zeros}
+use Rattle.mask.specs.FrontLaws.{front_none}
 use Rattle.machine.specs.declared.Pair.{Pair}
 use Rattle.machine.specs.declared.Refusal.{Refusal}
-use Rattle.machine.specs.declared.Validity.{Validity}
-use Rattle.machine.specs.declared.Validity.TheVariants.{Valid, Refused}
 use Rattle.machine.specs.Machines.{observation, same_observation, matched, n_c, n_a, sets_a}
-use Rattle.machine.specs.Refusals.{valid, tested_of, and_then}
-use Rattle.machine.specs.RefusalsLaws.{then_of, then_refused, then_then, tested_valid, tested_refused, valid_if, state_made, state_kept}
+use Rattle.machine.specs.Refusals.{Tested, valid, and_then, pass_on}
+use Rattle.machine.specs.RefusalsLaws.{then_of, then_refused, then_then, valid_if, state_made, state_kept}
 use Rattle.machine.specs.WellFormed.{well_formed, nonempty_validity}
 use Rattle.machine.specs.WellFormedLaws.{WellPair, well_pair, valid_is_well, entries_small}
 use Rattle.machine.specs.EmptySetsLaws.{nonempty_at}
@@ -39,38 +38,34 @@ use Rattle.solver.specs.Families.{flat_of, section_of, family_in, turn_rows}
 use Rattle.solver.specs.FamilyRowsLaws.{family_at}
 use Rattle.solver.specs.Solver.{solve_validity, turned_family, turned_table}
 use Rattle.solver.specs.SolverLaws.{solve_long, turned_refused, turned_valid}
-use Rattle.progress.specs.Turns.{first_rows, first_given, finishes, turn_answer, turn_family, says_finished, turn_table, still_in, range_validity, look_up_answer}
+use Rattle.progress.specs.Turns.{first_rows, first_answer, finishes, turn_answer, turn_family, says_finished, turn_table, still_in, range_validity, look_up_answer}
 use Rattle.machine.specs.declared.Refusal.TheVariants.{OutOfRange}
 
 -- ---- the first family
 module _ (p : Pair) where
-  pub first_made : WellPair p → {matched out : List ℕ} {n : ℕ} → matched ≡ matched_masks p → n ≡ sets_a p * 64
-      → out ≡ front n (λ k. get_or matched (k % 64) 0) (replicate 448 0) → out ≡ first_rows p
+  pub first_made : {matched out : List ℕ} → matched ≡ matched_masks p → WellPair p
+      → out ≡ table 448 (λ e. cond (ltb (e / 64) (sets_a p)) (get_or matched (e % 64) 0) 0) → out ≡ first_rows p
   unfolding first_rows flat_of first_family
-  first_made w {matched} {out} {n} em en eo =
-      front_zeros _ eo en (omega (arith, w.abstraction.sets_high)) ∙ table_cong 448 _ _ (λ e l. by_cases (dec_lt e (sets_a p * 64))
-      (λ q. rw (lt-ltb e (sets_a p * 64) q) (inside e q))
-      (λ q. rw (le-ltb e (sets_a p * 64) (omega arith), table_past (sets_a p) (λ j. all_matched p) (e / 64) [] (omega arith))))
+  first_made {matched} {out} em w eo = eo ∙ table_cong 448 _ _ (λ e l. by_cases (dec_lt (e / 64) (sets_a p))
+      (λ q. rw (lt-ltb (e / 64) (sets_a p) q) (inside e q))
+      (λ q. rw (le-ltb (e / 64) (sets_a p) (omega arith), table_past (sets_a p) (λ j. all_matched p) (e / 64) [] (omega arith))))
     where
-      inside : (e : ℕ) → e < sets_a p * 64 → get_or matched (e % 64) 0 ≡ get_or (get_or (first_family p) (e / 64) []) (e % 64) 0
+      inside : (e : ℕ) → e / 64 < sets_a p → get_or matched (e % 64) 0 ≡ get_or (get_or (first_family p) (e / 64) []) (e % 64) 0
       inside e q =
           ap (λ (l : List ℕ). get_or l (e % 64) 0) (em ∙ matched_rows p w) ∙ rows_at (all_matched p) (e % 64) (omega arith)
-          ∙ ap (λ (l : List ℕ). get_or l (e % 64) 0) (sym (first_at p (e / 64) (omega arith)))
+          ∙ ap (λ (l : List ℕ). get_or l (e % 64) 0) (sym (first_at p (e / 64) q))
 
-  pub first_given_lem : nonempty_validity p ≡ valid → first_rows p ≡ first_given p
-  unfolding first_given
-  first_given_lem e = sym (state_made _ _ _ e)
+  pub first_of : nonempty_validity p ≡ valid → first_answer p ≡ Ok (first_rows p)
+  unfolding first_answer
+  first_of e = then_of _ _ e
 
-  pub first_refused : {r : Refusal} → nonempty_validity p ≡ Err r → replicate 448 0 ≡ first_given p
-  unfolding first_given
-  first_refused e = sym (state_kept _ _ _ e)
+  pub first_refused : {r : Refusal} → nonempty_validity p ≡ Err r → first_answer p ≡ Err r
+  unfolding first_answer
+  first_refused e = then_refused _ _ _ e
 
 -- ---- two families, row by row
 pub rows_same : (x y : List ℕ) → ((e : ℕ) → e < 448 → get_or x e 0 ≡ get_or y e 0) → every 448 (λ e. eqb (get_or x e 0) (get_or y e 0)) ≡ true
 rows_same x y h = every_of 448 _ (λ e l. eq-eqb _ _ (h e l))
-
-pub rows_differ : (x y : List ℕ) (e : ℕ) → e < 448 → (get_or x e 0 ≡ get_or y e 0 → ⊥) → every 448 (λ e. eqb (get_or x e 0) (get_or y e 0)) ≡ false
-rows_differ x y e l n = every_not 448 _ e l (ne_eqb _ _ n)
 
 -- the solver is lent a table of exactly the room that it asks for
 solve_same : (p : Pair) (T : List ℕ) → table_room ≤ length T → solve_validity p (length T) ≡ solve_validity p (length (replicate {A = ℕ} table_room 0))
@@ -108,20 +103,20 @@ module _ (p : Pair) (F T : List ℕ) where
       ap₂ (λ (l : List ℕ) (k : ℕ). l ++ drop k T) whole (en ∙ sym (ranks_entries p (family_in p F))) ∙ sym (table_written e f)
 
 -- ---- a turn, by what `solver::turn_family` says of the family and leaves in a table of exactly the room that it asks for
-module _ (p : Pair) (F T : List ℕ) (room : table_room ≤ length T) {v : Validity} {G : List ℕ}
-    (told : tested_of v ≡ solve_validity p (length (replicate {A = ℕ} table_room 0))) (made : G ≡ turned_family p F (length (replicate {A = ℕ} table_room 0))) where
-  pub turn_stopped : {r : Refusal} → v ≡ Refused r → (Err r ≡ turn_answer p F (length T)) × ((G ≡ turn_family p F (length T)) × (T ≡ turn_table p F T))
+module _ (p : Pair) (F T : List ℕ) (room : table_room ≤ length T) {v : Tested} {G : List ℕ}
+    (told : v ≡ solve_validity p (length (replicate {A = ℕ} table_room 0))) (made : G ≡ turned_family p F (length (replicate {A = ℕ} table_room 0))) where
+  pub turn_stopped : {r : Refusal} → v ≡ Err r → (Err r ≡ turn_answer p F (length T)) × ((G ≡ turn_family p F (length T)) × (T ≡ turn_table p F T))
   turn_stopped q =
-      let e = tested_refused told q in
+      let e = sym told ∙ q in
       let k = turn_refused p F T (solve_same p T room ∙ e) in
       (sym k.0, (made ∙ sym (turned_refused p F (replicate table_room 0) _ e).0 ∙ sym k.1, sym k.2))
 
-  module _ (q : v ≡ Valid) where
+  module _ (q : v ≡ valid) where
     solves : solve_validity p (length T) ≡ valid
-    solves = solve_same p T room ∙ tested_valid told q
+    solves = solve_same p T room ∙ sym told ∙ q
 
     next_is : G ≡ turn_rows p F
-    next_is = made ∙ sym (turned_valid p F (replicate table_room 0) (tested_valid told q)).0
+    next_is = made ∙ sym (turned_valid p F (replicate table_room 0) (sym told ∙ q)).0
 
     pub turn_well : well_formed p ≡ true
     turn_well = valid_is_well p (nonempty_at p (sym (solve_long p (length T) room) ∙ solves)).0
@@ -146,7 +141,21 @@ module _ (p : Pair) (F T : List ℕ) (room : table_room ≤ length T) {v : Valid
     pub copied_small : {b : Bool} {n : ℕ} → ((b ≡ true) × (n ≡ entries p)) ⊎ ((b ≡ false) × (n ≡ 0)) → n ≤ table_room
     copied_small en = ⊎_elim (λ w. omega (arith, w.1, entries_small p (well_pair p turn_well))) (λ w. omega (arith, w.1)) en
 
+-- n entries of U, copied into the front of T
+pub copied_front : (n : ℕ) (U T : List ℕ) → n ≤ length U → {W : List ℕ} → W ≡ take n U → W ++ drop n T ≡ front n (λ e. get_or U e 0) T
+copied_front n U T h e =
+    ap (λ (l : List ℕ). l ++ drop n T) (e ∙ fill_done 0 n (take n U) (λ e. get_or U e 0) (length-take-le n U h) (λ k l. get_or-take n U k 0 l))
+
 -- ---- the look-up
+-- what `and` says of two tests
+both_told : (a b : Tested) → and_then a b ≡ result_and a b
+unfolding and_then pass_on
+both_told (Ok t) b = refl
+both_told (Err r) b = refl
+
+pub tests_told : {a b t x y : Tested} → a ≡ x → b ≡ y → t ≡ result_and a b → and_then x y ≡ t
+tests_told {a} {b} e f g = ap₂ and_then (sym e) (sym f) ∙ both_told a b ∙ sym g
+
 module _ (p : Pair) (j c a : ℕ) where
   range_out : and (and (leb 1 j) (leb j (sets_a p))) (and (ltb c (n_c p)) (ltb a (n_a p))) ≡ false → range_validity p j c a ≡ Err OutOfRange
   unfolding range_validity

@@ -7,12 +7,12 @@ ghost use Rattle.std.specs.Prelude.{true, ◌≡◌, ◌<◌, ◌≤◌, eqb, le
 ghost use Rattle.mask.specs.Bounded.{every};
 ghost use Rattle.mask.specs.Tables.{front};
 ghost use Rattle.machine.specs.Machines.{n_c, n_a, sets_a};
-ghost use Rattle.machine.specs.Refusals.{tested_of, and_then};
 ghost use Rattle.machine.specs.Table.{entries};
 ghost use Rattle.machine.specs.WellFormed.{nonempty_validity, well_formed};
 ghost use Rattle.progress.specs.Turns.{first_rows, first_answer, turn_answer, turn_family, turn_table, still_in, range_validity, look_up_answer};
 
 use machine::{Pair, Refusal};
+use std::array;
 use validity::Sets;
 
 // ---- The first family
@@ -22,14 +22,13 @@ fn first_rows(p: Pair) -> [u64; 448]
     requires { well_formed p ≡ true }
     ensures { result ≡ first_rows p }
 {
-    let abstraction = p.abstraction;
-    let n = abstraction.sets;
+    let sections = p.abstraction.sets;
     let matched = machine::matched_masks(p);
-    let mut out = [0u64; 448];
-    for e in 0..n * 64 {
-        out[e] = matched[e % 64];
-    }
-    out
+    array::from_fn(|e| if e / 64 < sections {
+        matched[e % 64]
+    } else {
+        0
+    })
 }
 
 // The family before the first turn: all matched pairs in every section.
@@ -47,9 +46,7 @@ fn entries_of(p: Pair) -> usize
     requires { well_formed p ≡ true }
     ensures { result ≡ entries p }
 {
-    let concrete = p.concrete;
-    let abstraction = p.abstraction;
-    abstraction.sets * (concrete.states * abstraction.states)
+    p.abstraction.sets * (p.concrete.states * p.abstraction.states)
 }
 
 // A turn: every section's set afresh from the family. It is finished if each row is as it was, and says so; only then it writes the table, the
@@ -65,7 +62,7 @@ pub fn turn(p: Pair, family: &mut [u64; 448], table: &mut [u16]) -> Result<bool,
     let mut ranks = [0u16; machine::TABLE_ROOM];
     let before = *family;
     solver::turn_family(p, family, &mut ranks)?;
-    let finished = *family == before;
+    let finished = before == *family;
     let written = if finished { entries_of(p) } else { 0 };
     table[..written].copy_from_slice(&ranks[..written]);
     Ok(finished)
@@ -78,32 +75,20 @@ fn still_in(p: Pair, family: &[u64; 448], j: usize, c: usize, a: usize) -> bool
     requires { (well_formed p ≡ true) × ((j < sets_a p) × ((c < n_c p) × (a < n_a p))) }
     ensures { result ≡ still_in p family.now j c a }
 {
-    let concrete = p.concrete;
-    let abstraction = p.abstraction;
-    let shown = concrete.observations;
-    let seen = abstraction.observations;
-    if !machine::same_observation(p.hidden, shown[c], seen[a]) {
-        return false;
-    }
-    mask::has(family[j * 64 + c], a)
+    let shown = p.concrete.observations[c];
+    let seen = p.abstraction.observations[a];
+    machine::same_observation(p.hidden, shown, seen) && mask::has(family[j * 64 + c], a)
 }
 
 // 20 for a section, counted from 1, or a state that is out of range.
 fn range_validity(p: Pair, section: usize, c: usize, a: usize) -> Result<(), Refusal>
     ensures { result ≡ range_validity p section c a }
 {
-    let concrete = p.concrete;
-    let abstraction = p.abstraction;
-    if section < 1 {
-        return Err(Refusal::OutOfRange);
-    }
-    if abstraction.sets < section {
-        return Err(Refusal::OutOfRange);
-    }
-    if concrete.states <= c {
-        return Err(Refusal::OutOfRange);
-    }
-    if abstraction.states <= a {
+    if section < 1
+        || p.abstraction.sets < section
+        || p.concrete.states <= c
+        || p.abstraction.states <= a
+    {
         return Err(Refusal::OutOfRange);
     }
     Ok(())

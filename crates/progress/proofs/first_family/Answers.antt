@@ -1,25 +1,20 @@
--- Zeros beside a refusal, and else the matched pairs.
-use mathlib.Core.Path.{sym, ◌∙◌}
-use Rattle.machine.specs.Refusals.{tested_of}
-use Rattle.machine.specs.RefusalsLaws.{tested_valid, tested_refused}
+-- A refusal is passed on, and else there are the matched pairs.
+use Rattle.std.proofs.Common.{sym, ap, ◌∙◌}
+use Rattle.std.specs.Prelude.{Ok}
 use Rattle.machine.specs.WellFormedLaws.{valid_is_well}
 use Rattle.machine.specs.EmptySetsLaws.{nonempty_at}
-use Rattle.progress.specs.TurnsLaws.{first_given_lem, first_refused}
+use Rattle.machine.proofs.Passing.{passed_on}
+use Rattle.progress.specs.TurnsLaws.{first_of, first_refused}
 use Rattle.progress.proofs.first_family.Goals as goal
+
+pub returns-in_err-pair_validity : goal.returns-in_err-pair_validity
+returns-in_err-pair_validity c =
+    passed_on c.from_residual.ensures ∙ sym (first_refused c.args.p (sym c.pair_validity.ensures ∙ c.in_err-pair_validity.was))
 
 pub first_rows-requires : goal.first_rows-requires
 first_rows-requires c =
     let p = c.args.p in
-    valid_is_well p (nonempty_at p (tested_valid c.pair_validity-valid.ensures c.in-Valid.is)).0
+    valid_is_well p (nonempty_at p (sym c.pair_validity.ensures ∙ c.in_ok-pair_validity.was)).0
 
-pub returns-in-Refused : goal.returns-in-Refused
-unfolding tested_of
-returns-in-Refused c =
-    let e = tested_refused c.pair_validity-valid.ensures c.in-Refused.is in
-    record { validity = sym e; family = first_refused c.args.p e }
-
-pub returns-in-Valid : goal.returns-in-Valid
-unfolding tested_of
-returns-in-Valid c =
-    let e = tested_valid c.pair_validity-valid.ensures c.in-Valid.is in
-    record { validity = sym e; family = c.first_rows.ensures ∙ first_given_lem c.args.p e }
+pub returns : goal.returns
+returns c = ap Ok c.first_rows.ensures ∙ sym (first_of c.args.p (sym c.pair_validity.ensures ∙ c.in_ok-pair_validity.was))
