@@ -1,37 +1,32 @@
 // Compares solver, solver by turns, check and player with brute force on series of small pairs, and writes a line of counts for each.
 #![tactic(auto)]
 
-ghost use Rattle.std.specs.Prelude.{true, false, ◌≡◌};
+ghost use Rattle.std.specs.Prelude.{true, false, ◌≡◌, ◌≤◌, ◌-◌, ◌^◌};
 
 use brute::Shape;
 use comparison::{Numbers, Series, Tally, Trial};
 use rings::Rings;
 use std::io;
 
-// Writes a word and a number.
-fn show(rt: &impl Print, word: &[u8], n: u64) -> io::Result<()> {
-    rt.write_all(word)?;
-    rt.print(n)
-}
-
 // Writes the rest of a series' line.
 fn counts(rt: &impl Print, t: Tally) -> io::Result<()> {
-    show(rt, b": pairs ", t.pairs)?;
-    show(rt, b", well formed ", t.formed)?;
-    show(rt, b", solved ", t.solved)?;
-    show(rt, b", carried ", t.carried)?;
-    show(rt, b"; tables ", t.tables)?;
-    show(rt, b", passing ", t.passing)?;
-    show(rt, b", carried ", t.carrying)?;
-    show(rt, b", beside an empty set ", t.empty)?;
-    show(rt, b"; lassos ", t.lassos)?;
-    show(rt, b", runs ", t.runs)?;
-    show(rt, b"; turns ", t.turns)?;
-    show(rt, b", finished ", t.finished)?;
-    show(rt, b"; look-ups ", t.lookups)?;
-    show(rt, b", still in ", t.held)?;
-    show(rt, b"; differing ", t.differing)?;
-    rt.write_all(b"\n")
+    print!(rt;
+        ": pairs {}, well formed {}, solved {}, carried {}; ",
+        t.pairs, t.formed, t.solved, t.carried
+    )?;
+    print!(rt;
+        "tables {}, passing {}, carried {}, ",
+        t.tables, t.passing, t.carrying
+    )?;
+    print!(rt;
+        "beside an empty set {}; lassos {}, runs {}; ",
+        t.empty, t.lassos, t.runs
+    )?;
+    print!(rt;
+        "turns {}, finished {}; look-ups {}, ",
+        t.turns, t.finished, t.lookups
+    )?;
+    println!(rt; "still in {}; differing {}", t.held, t.differing)
 }
 
 // Compares a series and writes its line.
@@ -41,41 +36,37 @@ fn line(rt: &impl Print, s: Series) -> io::Result<()> {
     let t = comparison::compare(s);
     // of series with observations over 1 it tells the mask, 0 too
     if c.twos != 0 {
-        show(rt, b"hidden ", s.hidden as u64)?;
-        rt.write_all(b", ")?;
+        print!(rt; "hidden {}, ", s.hidden)?;
     }
-    show(rt, b"states ", c.states as u64)?;
-    show(rt, b" and ", a.states as u64)?;
-    show(rt, b", sets ", c.sets as u64)?;
-    show(rt, b" and ", a.sets as u64)?;
+    print!(rt;
+        "states {} and {}, sets {} and {}",
+        c.states, a.states, c.sets, a.sets
+    )?;
     counts(rt, t)
 }
 
-// A machine's states and sets, the greatest digit, 2^states - 1, so that a mask can be any set of states, and the states whose observation has
-// 2 added.
-fn shape_with(states: usize, sets: usize, top: u32, twos: u64) -> Shape
-    ensures { result ≡ record { states = states; sets = sets; top = top; twos = twos } }
+// Some machines: the numbers 0, step, 2 x step, .. of a shape, so many of them.
+#[derive(Clone, Copy)]
+struct Machines {
+    shape: Shape,
+    numbers: Numbers,
+}
+
+// Machines of `states` states, from 1 to 3, and `sets` sets. Their greatest digit is 2^states - 1, so that a mask can be any set of states, and
+// the states in `twos` have 2 added to their observations, which else are 0 and 1.
+fn numbered(states: usize, sets: usize, twos: u64, count: u32, step: u32) -> Machines
+    requires { states ≤ 3 }
+    ensures { result ≡ record { shape = record { states = states; sets = sets; top = 2 ^ states - 1; twos = twos }; numbers = record { count = count; step = step } } }
 {
-    Shape {
-        states,
-        sets,
-        top,
-        twos,
+    Machines {
+        shape: Shape {
+            states,
+            sets,
+            top: (1 << states) - 1,
+            twos,
+        },
+        numbers: Numbers { count, step },
     }
-}
-
-// The same, with observations 0 and 1 only.
-fn shape(states: usize, sets: usize, top: u32) -> Shape
-    ensures { result ≡ record { states = states; sets = sets; top = top; twos = 0 } }
-{
-    shape_with(states, sets, top, 0)
-}
-
-// The numbers 0, step, 2 x step, .., so many of them.
-fn numbers(count: u32, step: u32) -> Numbers
-    ensures { result ≡ record { count = count; step = step } }
-{
-    Numbers { count, step }
 }
 
 // All tables of a tiny pair, lassos with a stem of at most two states, and all families: each row is any set of abstract states and of one number past
@@ -93,87 +84,114 @@ fn every_table(tables: u64, families: u64, row: u32) -> Trial
 }
 
 // The solver's table, or the lifted one of a pair that the solver refuses, and all that differ from it in one entry, and lassos with a stem of at
-// most one state.
-fn altered_tables(tables: u64) -> Trial
-    ensures { result ≡ record { every = false; tables = tables; stem = 1; families = 0; row = 0 } }
+// most `stem` states.
+fn altered_tables(tables: u64, stem: usize) -> Trial
+    ensures { result ≡ record { every = false; tables = tables; stem = stem; families = 0; row = 0 } }
 {
     Trial {
         every: false,
         tables,
-        stem: 1,
+        stem,
         families: 0,
         row: 0,
     }
 }
 
-// Pairs under a hidden mask.
-fn under(
-    rt: &impl Print,
-    hidden: u8,
-    c: Shape,
-    x: Numbers,
-    a: Shape,
-    y: Numbers,
-    trial: Trial,
-) -> io::Result<()> {
-    line(
-        rt,
-        Series {
-            concrete: c,
-            concretes: x,
-            abstraction: a,
-            abstractions: y,
-            hidden,
-            trial,
-        },
-    )
+// The pairs of some concrete and some abstract machines under a hidden mask.
+fn pairs(hidden: u8, c: Machines, a: Machines, trial: Trial) -> Series {
+    Series {
+        concrete: c.shape,
+        concretes: c.numbers,
+        abstraction: a.shape,
+        abstractions: a.numbers,
+        hidden,
+        trial,
+    }
 }
 
 // Tiny pairs, with all the tables and families that they have.
-fn tiny(
-    rt: &impl Print,
-    c: Shape,
-    x: Numbers,
-    a: Shape,
-    y: Numbers,
-    trial: Trial,
-) -> io::Result<()> {
-    under(rt, 0, c, x, a, y, trial)
+fn tiny() -> [Series; 8] {
+    let one = numbered(1, 1, 0, 16, 1);
+    let two = numbered(2, 1, 0, 1024, 1);
+    let some = numbered(2, 2, 0, 512, 7);
+    [
+        pairs(0, one, one, every_table(4, 8, 3)),
+        pairs(0, one, two, every_table(25, 16, 7)),
+        pairs(0, two, one, every_table(25, 20, 3)),
+        pairs(
+            0,
+            numbered(1, 2, 0, 32, 1),
+            numbered(1, 3, 0, 64, 1),
+            every_table(125, 68, 3),
+        ),
+        pairs(0, one, some, every_table(625, 72, 7)),
+        pairs(0, some, one, every_table(49, 20, 3)),
+        pairs(
+            0,
+            numbered(2, 1, 0, 32, 29),
+            numbered(2, 1, 0, 32, 27),
+            every_table(2401, 72, 7),
+        ),
+        pairs(
+            0,
+            numbered(2, 2, 0, 16, 235),
+            numbered(2, 1, 0, 16, 59),
+            every_table(14641, 72, 7),
+        ),
+    ]
 }
 
 // Other pairs, with the solver's table, or the lifted one, and all that differ from it in one entry.
-fn small(
-    rt: &impl Print,
-    c: Shape,
-    x: Numbers,
-    a: Shape,
-    y: Numbers,
-    tables: u64,
-) -> io::Result<()> {
-    under(rt, 0, c, x, a, y, altered_tables(tables))
+fn small() -> [Series; 6] {
+    let two = numbered(2, 2, 0, 32, 119);
+    let three = numbered(3, 2, 0, 32, 60811);
+    [
+        pairs(
+            0,
+            numbered(2, 2, 0, 64, 59),
+            numbered(2, 2, 0, 64, 61),
+            altered_tables(88, 1),
+        ),
+        pairs(
+            0,
+            numbered(2, 2, 0, 128, 31),
+            numbered(2, 2, 0, 128, 29),
+            altered_tables(88, 1),
+        ),
+        pairs(0, two, three, altered_tables(180, 1)),
+        pairs(0, three, two, altered_tables(180, 1)),
+        pairs(
+            0,
+            numbered(3, 1, 0, 24, 10007),
+            numbered(3, 2, 0, 24, 80021),
+            altered_tables(216, 1),
+        ),
+        pairs(
+            0,
+            numbered(3, 2, 0, 16, 120011),
+            numbered(3, 2, 0, 16, 121013),
+            altered_tables(378, 1),
+        ),
+    ]
 }
 
 // Pairs with observations from 0 to 3 under a hidden mask, which are two of the other series but for the observations: with mask 2 their counts
 // are the same.
-fn masked(rt: &impl Print, hidden: u8) -> io::Result<()> {
-    under(
-        rt,
-        hidden,
-        shape_with(1, 1, 1, 1),
-        numbers(16, 1),
-        shape_with(2, 1, 3, 2),
-        numbers(1024, 1),
-        every_table(25, 16, 7),
-    )?;
-    under(
-        rt,
-        hidden,
-        shape_with(2, 2, 3, 2),
-        numbers(32, 119),
-        shape_with(3, 2, 7, 5),
-        numbers(32, 60811),
-        altered_tables(180),
-    )
+fn masked(hidden: u8) -> [Series; 2] {
+    [
+        pairs(
+            hidden,
+            numbered(1, 1, 1, 16, 1),
+            numbered(2, 1, 2, 1024, 1),
+            every_table(25, 16, 7),
+        ),
+        pairs(
+            hidden,
+            numbered(2, 2, 2, 32, 119),
+            numbered(3, 2, 5, 32, 60811),
+            altered_tables(180, 1),
+        ),
+    ]
 }
 
 // The lengths of a machine's rings, and its sets.
@@ -187,164 +205,74 @@ fn ring(first: u32, second: u32, sets: usize) -> Rings
     }
 }
 
-// One pair of rings more, with the solver's table and all that differ from it in one entry.
-fn compare_rings(t: Tally, back: bool, entry: u32, c: Rings, a: Rings, tables: u64) -> Tally {
-    let p = rings::ring_pair(back, entry, c, a);
-    let trial = Trial {
-        every: false,
+// A pair of rings, with the solver's table and all that differ from it in one entry.
+#[derive(Clone, Copy)]
+struct RingPair {
+    entry: u32,
+    concrete: Rings,
+    abstraction: Rings,
+    tables: u64,
+}
+
+fn rings_of(entry: u32, concrete: Rings, abstraction: Rings, tables: u64) -> RingPair {
+    RingPair {
+        entry,
+        concrete,
+        abstraction,
         tables,
-        stem: 2,
-        families: 0,
-        row: 0,
-    };
-    comparison::add(t, comparison::compare_pair(p, trial))
+    }
 }
 
 // Pairs of the first family: four of coprime rings, two of others, and one with an entry past the states.
-fn staying() -> Tally {
-    let mut t = comparison::none();
-    t = compare_rings(t, false, 1, ring(2, 2, 2), ring(3, 3, 1), 7380);
-    t = compare_rings(t, false, 0, ring(3, 3, 1), ring(2, 2, 2), 8576);
-    t = compare_rings(t, false, 2, ring(3, 2, 1), ring(2, 5, 1), 6160);
-    t = compare_rings(t, false, 3, ring(2, 3, 1), ring(3, 5, 1), 7308);
-    t = compare_rings(t, false, 1, ring(3, 2, 1), ring(2, 3, 1), 4158);
-    t = compare_rings(t, false, 0, ring(2, 2, 2), ring(2, 2, 2), 9504);
-    compare_rings(t, false, 9, ring(2, 2, 1), ring(3, 3, 1), 3780)
+fn staying() -> [RingPair; 7] {
+    [
+        rings_of(1, ring(2, 2, 2), ring(3, 3, 1), 7380),
+        rings_of(0, ring(3, 3, 1), ring(2, 2, 2), 8576),
+        rings_of(2, ring(3, 2, 1), ring(2, 5, 1), 6160),
+        rings_of(3, ring(2, 3, 1), ring(3, 5, 1), 7308),
+        rings_of(1, ring(3, 2, 1), ring(2, 3, 1), 4158),
+        rings_of(0, ring(2, 2, 2), ring(2, 2, 2), 9504),
+        rings_of(9, ring(2, 2, 1), ring(3, 3, 1), 3780),
+    ]
 }
 
 // Pairs of the second family: four of coprime rings, two of others, and one with too long a ring.
-fn leading_back() -> Tally {
-    let mut t = comparison::none();
-    t = compare_rings(t, true, 0, ring(2, 2, 2), ring(3, 3, 1), 12402);
-    t = compare_rings(t, true, 0, ring(3, 3, 1), ring(2, 2, 2), 16016);
-    t = compare_rings(t, true, 0, ring(3, 2, 1), ring(2, 5, 1), 9898);
-    t = compare_rings(t, true, 0, ring(2, 3, 1), ring(3, 5, 1), 11340);
-    t = compare_rings(t, true, 0, ring(3, 2, 1), ring(2, 3, 1), 7308);
-    t = compare_rings(t, true, 0, ring(2, 2, 2), ring(2, 2, 1), 8910);
-    compare_rings(t, true, 0, ring(2, 2, 1), ring(3, 60, 1), 6318)
+fn leading_back() -> [RingPair; 7] {
+    [
+        rings_of(0, ring(2, 2, 2), ring(3, 3, 1), 12402),
+        rings_of(0, ring(3, 3, 1), ring(2, 2, 2), 16016),
+        rings_of(0, ring(3, 2, 1), ring(2, 5, 1), 9898),
+        rings_of(0, ring(2, 3, 1), ring(3, 5, 1), 11340),
+        rings_of(0, ring(3, 2, 1), ring(2, 3, 1), 7308),
+        rings_of(0, ring(2, 2, 2), ring(2, 2, 1), 8910),
+        rings_of(0, ring(2, 2, 1), ring(3, 60, 1), 6318),
+    ]
+}
+
+// Compares some pairs of one family.
+fn compare_rings(back: bool, pairs: &[RingPair]) -> Tally {
+    let mut sum = Tally::default();
+    for r in pairs {
+        let p = rings::ring_pair(back, r.entry, r.concrete, r.abstraction);
+        sum = sum + comparison::compare_pair(p, altered_tables(r.tables, 2));
+    }
+    sum
 }
 
 fn main(rt: HostRuntime) -> io::Result<()> {
-    let all1 = numbers(16, 1);
-    let all2 = numbers(1024, 1);
-    tiny(
-        &rt,
-        shape(1, 1, 1),
-        all1,
-        shape(1, 1, 1),
-        all1,
-        every_table(4, 8, 3),
-    )?;
-    tiny(
-        &rt,
-        shape(1, 1, 1),
-        all1,
-        shape(2, 1, 3),
-        all2,
-        every_table(25, 16, 7),
-    )?;
-    tiny(
-        &rt,
-        shape(2, 1, 3),
-        all2,
-        shape(1, 1, 1),
-        all1,
-        every_table(25, 20, 3),
-    )?;
-    tiny(
-        &rt,
-        shape(1, 2, 1),
-        numbers(32, 1),
-        shape(1, 3, 1),
-        numbers(64, 1),
-        every_table(125, 68, 3),
-    )?;
-    tiny(
-        &rt,
-        shape(1, 1, 1),
-        all1,
-        shape(2, 2, 3),
-        numbers(512, 7),
-        every_table(625, 72, 7),
-    )?;
-    tiny(
-        &rt,
-        shape(2, 2, 3),
-        numbers(512, 7),
-        shape(1, 1, 1),
-        all1,
-        every_table(49, 20, 3),
-    )?;
-    tiny(
-        &rt,
-        shape(2, 1, 3),
-        numbers(32, 29),
-        shape(2, 1, 3),
-        numbers(32, 27),
-        every_table(2401, 72, 7),
-    )?;
-    tiny(
-        &rt,
-        shape(2, 2, 3),
-        numbers(16, 235),
-        shape(2, 1, 3),
-        numbers(16, 59),
-        every_table(14641, 72, 7),
-    )?;
-    small(
-        &rt,
-        shape(2, 2, 3),
-        numbers(64, 59),
-        shape(2, 2, 3),
-        numbers(64, 61),
-        88,
-    )?;
-    small(
-        &rt,
-        shape(2, 2, 3),
-        numbers(128, 31),
-        shape(2, 2, 3),
-        numbers(128, 29),
-        88,
-    )?;
-    small(
-        &rt,
-        shape(2, 2, 3),
-        numbers(32, 119),
-        shape(3, 2, 7),
-        numbers(32, 60811),
-        180,
-    )?;
-    small(
-        &rt,
-        shape(3, 2, 7),
-        numbers(32, 60811),
-        shape(2, 2, 3),
-        numbers(32, 119),
-        180,
-    )?;
-    small(
-        &rt,
-        shape(3, 1, 7),
-        numbers(24, 10007),
-        shape(3, 2, 7),
-        numbers(24, 80021),
-        216,
-    )?;
-    small(
-        &rt,
-        shape(3, 2, 7),
-        numbers(16, 120011),
-        shape(3, 2, 7),
-        numbers(16, 121013),
-        378,
-    )?;
-    masked(&rt, 0)?;
-    masked(&rt, 1)?;
-    masked(&rt, 2)?;
-    masked(&rt, 3)?;
-    rt.write_all(b"rings with ends that stay")?;
-    counts(&rt, staying())?;
-    rt.write_all(b"rings with an end that leads back")?;
-    counts(&rt, leading_back())
+    for s in tiny() {
+        line(&rt, s)?;
+    }
+    for s in small() {
+        line(&rt, s)?;
+    }
+    for hidden in 0..4 {
+        for s in masked(hidden) {
+            line(&rt, s)?;
+        }
+    }
+    print!(rt; "rings with ends that stay")?;
+    counts(&rt, compare_rings(false, &staying()))?;
+    print!(rt; "rings with an end that leads back")?;
+    counts(&rt, compare_rings(true, &leading_back()))
 }

@@ -1,5 +1,5 @@
 -- Laws of one table's counts, and of tables laid over the front of a buffer.
-use Rattle.std.specs.Prelude.{◌≡◌, ℕ, ◌<◌, Bool, true, false, cond, List, length, ◌==◌, ◌≢◌, nat_lt, slice_index, refl, Ok, Err}
+use Rattle.std.specs.Prelude.{◌≡◌, ℕ, Bool, true, false, cond, List, length, ◌==◌, ◌≢◌, nat_lt, slice_index, refl, Ok, Err}
 use Rattle.std.proofs.Common.{sym, ◌∙◌, ap, eq-eqb, ne_eqb}
 use Rattle.mask.specs.Logic.{and, or, not}
 use Rattle.mask.specs.LogicLaws.{and_true_r}
@@ -53,15 +53,6 @@ module _ (e q w s v : ℕ) where
   entry_kept h t = rw (ne_eqb e q h) t
 
 -- ---- table number x
-module _ (every : Bool) (top n : ℕ) (S : List ℕ) (x : ℕ) (T r : List ℕ) where
-  pub table_of_all : every ≡ true → r ≡ numbered_table top x n T → r ≡ tried_table every top n S x T
-  unfolding tried_table
-  table_of_all h e = rw h e
-
-  pub table_of_near : every ≡ false → r ≡ altered top x n S T → r ≡ tried_table every top n S x T
-  unfolding tried_table
-  table_of_near h e = rw h e
-
 table_of_twice : (every : Bool) (top n : ℕ) (S : List ℕ) (x y : ℕ) (T : List ℕ)
     → tried_table every top n S x (tried_table every top n S y T) ≡ tried_table every top n S x T
 unfolding tried_table numbered_table altered

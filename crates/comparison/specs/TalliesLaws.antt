@@ -2,11 +2,7 @@
 use Rattle.std.specs.Prelude.{◌≡◌, ℕ, ◌+◌}
 use Rattle.std.proofs.Common.{add-one}
 use Rattle.comparison.specs.declared.tally.Tally.{Tally}
-use Rattle.comparison.specs.Tallies.{nothing, plus, total}
-
-pub total_start : (f : ℕ → Tally) (t : Tally) → t ≡ nothing → t ≡ total 0 f
-unfolding total
-total_start f t e = e
+use Rattle.comparison.specs.Tallies.{plus, total}
 
 pub total_more : (f : ℕ → Tally) (n : ℕ) (t one r : Tally) → t ≡ total n f → one ≡ f n → r ≡ plus t one → r ≡ total (n + 1) f
 unfolding total

@@ -17,13 +17,13 @@ const MARK: u16 = 40000;
 
 // A pair, and what brute force says of it: what its tests say, and if they refuse nothing how many entries, sections and states there are.
 #[derive(Clone, Copy)]
-pub struct Known {
-    pub pair: Pair,
-    pub plain: Result<(), Refusal>,
-    pub entries: usize,
-    pub sections: u8,
-    pub concretes: u8,
-    pub abstractions: u8,
+struct Known {
+    pair: Pair,
+    plain: Result<(), Refusal>,
+    entries: usize,
+    sections: u8,
+    concretes: u8,
+    abstractions: u8,
 }
 
 // A family that was compared: the counts, and whether its turn is finished.
