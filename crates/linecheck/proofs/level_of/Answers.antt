@@ -13,9 +13,6 @@ product_small c =
 pub overflow_mul-quotient : goal.overflow_mul-quotient
 overflow_mul-quotient c = omega (arith, product_small (goal.at.overflow_mul-quotient c).After-reciprocal_of)
 
-pub overflow_add-result : goal.overflow_add-result
-overflow_add-result c = omega (arith, product_small (goal.at.overflow_add-result c).After-reciprocal_of)
-
 pub overflow_mul-result : goal.overflow_mul-result
 overflow_mul-result c = record { fits = times_high _ c.args.m (omega (arith, product_small (goal.at.overflow_mul-result c).After-reciprocal_of)) (omega arith) }
 

@@ -9,7 +9,7 @@ use lib.ListN.{length, get_or, take, drop}
 use lib.Pow.{pow_mono}
 use mir.Syntax.{w64}
 use mir.Val.{Fits}
-use borrow.Author.Count.{below_more, below_none}
+use borrow.Author.Count.{below_more}
 use borrow.Author.Rules.{rules}
 use Rattle.mask.specs.BitsLaws.{rest_lt}
 use Rattle.mask.specs.Bounded.{every_in}
@@ -118,15 +118,6 @@ overflow_mul-most c = omega (arith, pairs_small c.args.p (well_pair c.args.p c.r
 
 pub overflow_mul-most-2 : goal.overflow_mul-most-2
 overflow_mul-most-2 c = omega (arith, ranks_small c.args.p (well_pair c.args.p c.requires.0))
-
-pub lines-init : goal.lines-init
-lines-init c = (below_none _, refl)
-
-pub loop-c-init : goal.loop-c-init
-loop-c-init c = (below_none _, refl)
-
-pub loop-a-init : goal.loop-a-init
-loop-a-init c = (below_none _, refl)
 
 pub offset_bounds-table-at : goal.offset_bounds-table-at
 offset_bounds-table-at c = omega (arith, place_in (goal.at.offset_bounds-table-at c).After-entry_index-at)

@@ -27,12 +27,8 @@ loop-place-init c =
 round_small : (c : At-loop-place) → c.loop-place.place.round ≤ 448
 round_small c = round_low c.requires.playable c.loop-place.invariant
 
-pub step-next-requires : goal.step-next-requires
-step-next-requires c = record {
-  playable = c.requires.playable;
-  on_play = c.loop-place.invariant.on;
-  round_bound = round_small (goal.at.step-next-requires c).At-loop-place;
-}
+pub step-next-requires-clause-round_bound : goal.step-next-requires-clause-round_bound
+step-next-requires-clause-round_bound c = round_small (goal.at.step-next-requires-clause-round_bound c).At-loop-place
 
 -- ---- a loop start: the number of its a and j, and the mark there
 number_small : (c : After-number_of-number) → c.number_of-number.result < 448
@@ -103,9 +99,6 @@ overflow_add-result c =
 
 pub overflow_sub-result : goal.overflow_sub-result
 overflow_sub-result c = omega (arith, earlier_small (goal.at.overflow_sub-result c).Then-seen-ne0)
-
-pub shape_of-run-then-seen-ne0 : goal.shape_of-run-then-seen-ne0
-shape_of-run-then-seen-ne0 c = c.loop-place.invariant.long
 
 pub overflow_add-marks : goal.overflow_add-marks
 overflow_add-marks c = omega (arith, round_small (goal.at.overflow_add-marks c).At-loop-place)
