@@ -3,12 +3,10 @@
 // see only the matched pairs of the machines.
 #![tactic(auto)]
 
-ghost use Rattle.std.specs.Prelude.{true, ◌≡◌, ◌<◌, ◌≤◌, eqb, length, get_or};
-ghost use Rattle.mask.specs.Bounded.{every};
-ghost use Rattle.mask.specs.Tables.{front};
+ghost use Rattle.std.specs.Prelude.{true, ◌≡◌, ◌<◌, length};
 ghost use Rattle.machine.specs.Machines.{n_c, n_a, sets_a};
 ghost use Rattle.machine.specs.Table.{entries};
-ghost use Rattle.machine.specs.WellFormed.{nonempty_validity, well_formed};
+ghost use Rattle.machine.specs.WellFormed.{well_formed};
 ghost use Rattle.progress.specs.Turns.{first_rows, first_answer, turn_answer, turn_family, turn_table, still_in, range_validity, look_up_answer};
 
 use machine::{Pair, Refusal};

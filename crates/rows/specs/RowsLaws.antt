@@ -148,10 +148,6 @@ pub same_yes : (n : ℕ) (x y : List ℕ) → ((c : ℕ) → c < min n 64 → ge
 unfolding same_rows
 same_yes n x y h = every_of (min n 64) _ (λ c l. eq-eqb (get_or x c 0) (get_or y c 0) (h c l))
 
-pub same_no : (n : ℕ) (x y : List ℕ) (c : ℕ) → c < min n 64 → (get_or x c 0 ≡ get_or y c 0 → ⊥) → same_rows n x y ≡ false
-unfolding same_rows
-same_no n x y c l h = every_not (min n 64) _ c l (ne_eqb (get_or x c 0) (get_or y c 0) h)
-
 pub same_at : (n : ℕ) (x y : List ℕ) → same_rows n x y ≡ true → (c : ℕ) → c < min n 64 → get_or x c 0 ≡ get_or y c 0
 unfolding same_rows
 same_at n x y t c h = eqb-true (get_or x c 0) (get_or y c 0) (every_at (min n 64) _ t c h)

@@ -4,7 +4,7 @@
 // Cost: the partners of a row are the union of the predecessors of its states, and a pair's step meets one row for each concrete move.
 #![tactic(auto)]
 
-ghost use Rattle.std.specs.Prelude.{◌≡◌, cond, ◌<◌, ◌≤◌, ◌^◌, min, length};
+ghost use Rattle.std.specs.Prelude.{◌≡◌, cond, ◌≤◌, length};
 ghost use Rattle.std.specs.Int.Bits.{bit_or};
 ghost use Rattle.mask.specs.Tables.{table};
 ghost use Rattle.machine.specs.Table.{blank};

@@ -1,8 +1,10 @@
 -- Laws of families as rows: a section is taken out and put in, and a turn makes one section after the other.
 use mathlib.Core.List.{List, []}
 use Rattle.std.proofs.Math.Logic.{by_cases}
-use Rattle.std.specs.Prelude.{◌≡◌, refl, ℕ, ◌+◌, ◌*◌, ◌/◌, ◌%◌, ◌≤◌, ◌<◌, length, set, replicate}
-use Rattle.std.proofs.Common.{sym, ◌∙◌, length-set, get_or-set_same, get_or-set_other, eq-eqb, ne_eqb}
+use Rattle.std.specs.Prelude.{◌≡◌, refl, ℕ, ◌+◌, ◌*◌, ◌/◌, ◌%◌, ◌≤◌, ◌<◌, length, take, drop, replicate}
+use Rattle.std.proofs.Common.{sym, ◌∙◌, eq-eqb, ne_eqb}
+use Rattle.std.proofs.lemmas.List.{get_or-take, get_or-drop}
+use Rattle.rows.specs.WriteLaws.{patch, patch_length, patch_before, patch_in, patch_after, cut_long}
 use Rattle.std.proofs.Math.Path.{ap}
 use Rattle.std.proofs.Math.Decide.{dec_lt, ℕ_discrete}
 use native.Mathlib.Omega.{arith}
@@ -23,39 +25,23 @@ use Rattle.solver.specs.Ranking.{Holds}
 use Rattle.solver.specs.XLaws.{holds_set}
 use Rattle.solver.specs.Families.{flat_of, section_of, family_in, turn_rows, put_section}
 
--- ---- a set is put into section j, row by row
-pub record Put (F : List ℕ) (j : ℕ) (S : List ℕ) (c : ℕ) (l : List ℕ) : Type 0 where
-  pub long : length l ≡ 448
-  pub put : (i : ℕ) → i < c → get_or l (j * 64 + i) 0 ≡ get_or S i 0
-  pub before : (e : ℕ) → e < j * 64 → get_or l e 0 ≡ get_or F e 0
-  pub after : (e : ℕ) → j * 64 + c ≤ e → get_or l e 0 ≡ get_or F e 0
+-- ---- section j as a part of the family, from place a on
+pub part_is : (F : List ℕ) {P : List ℕ} (j : ℕ) {a k : ℕ} → j < 7 → length F ≡ 448 → a ≡ j * 64 → k ≡ 64 → P ≡ take k (drop a F) → P ≡ section_of F j
+unfolding section_of
+part_is F j {a} {k} h f ea ek e = e ∙ fill_done 0 64 (take k (drop a F)) _ (cut_long k a F (omega arith) ∙ ek)
+    (λ c l. get_or-take k (drop a F) c 0 (omega arith) ∙ get_or-drop a F c 0 ∙ ap (λ (n : ℕ). get_or F (n + c) 0) ea)
 
-module _ {F : List ℕ} {j : ℕ} {S : List ℕ} where
-  pub put_none : length F ≡ 448 → Put F j S 0 F
-  put_none h = record { long = h; put = λ i l. absurd (omega arith); before = λ e l. refl; after = λ e l. refl }
-
-  pub put_more : {c : ℕ} {l : List ℕ} → j < 7 → c < 64 → Put F j S c l → Put F j S (c + 1) (set l (j * 64 + c) (get_or S c 0))
-  put_more {c} {l} hj hc d = record {
-    long = length-set l _ _ ∙ d.long;
-    put = λ i q. by_cases (ℕ_discrete i c)
-        (λ e. rw e (get_or-set_same l (j * 64 + c) (get_or S c 0) 0 (omega (arith, d.long))))
-        (λ e. get_or-set_other l (j * 64 + c) (j * 64 + i) (get_or S c 0) 0 (omega arith) ∙ d.put i (omega arith));
-    before = λ e q. get_or-set_other l (j * 64 + c) e (get_or S c 0) 0 (omega arith) ∙ d.before e q;
-    after = λ e q. get_or-set_other l (j * 64 + c) e (get_or S c 0) 0 (omega arith) ∙ d.after e (omega arith);
-  }
-
-  pub put_done : {c : ℕ} {l : List ℕ} → c ≡ 64 → Put F j S c l → l ≡ put_section F j S
-  unfolding put_section
-  put_done {c} {l} z d = fill_done 0 448 l _ d.long (λ e h. by_cases (ℕ_discrete (e / 64) j)
-      (λ q. let s : e ≡ j * 64 + e % 64 = omega arith in
-      rw (eq-eqb (e / 64) j q) (ap (λ (n : ℕ). get_or l n 0) s ∙ d.put (e % 64) (omega arith)))
-      (λ q. rw (ne_eqb (e / 64) j q) (by_cases (dec_lt e (j * 64)) (λ k. d.before e k) (λ k. d.after e (omega arith)))))
+pub part_put : (F S P : List ℕ) (j a k : ℕ) → j < 7 → length F ≡ 448 → length S ≡ 64 → a ≡ j * 64 → k ≡ 64 → P ≡ S → patch F a P k ≡ put_section F j S
+unfolding put_section
+part_put F S P j a k h f s ea ek e =
+    let fits : a + k ≤ length F = omega arith in
+    let long : length P ≡ k = ap length e ∙ s ∙ sym ek in
+    fill_done 0 448 (patch F a P k) _ (patch_length F P a k fits long ∙ f) (λ i l. by_cases (ℕ_discrete (i / 64) j)
+    (λ q. let z : i ≡ a + i % 64 = omega arith in
+    rw (eq-eqb (i / 64) j q) (ap (λ (n : ℕ). get_or (patch F a P k) n 0) z ∙ patch_in F P a k fits long (i % 64) (omega arith) ∙ ap (λ (xs : List ℕ). get_or xs (i % 64) 0) e))
+    (λ q. rw (ne_eqb (i / 64) j q) (by_cases (dec_lt i a) (patch_before F P a k fits long i) (λ b. patch_after F P a k fits long i (omega arith)))))
 
 -- ---- the rows of a family, and back
-pub flat_length : (Z : List (List ℕ)) → length (flat_of Z) ≡ 448
-unfolding flat_of
-flat_length Z = table_length 448 _
-
 -- the first j sections, and one more
 pub flat_none : (f : ℕ → List ℕ) → replicate 448 0 ≡ flat_of (table 0 f)
 unfolding flat_of table

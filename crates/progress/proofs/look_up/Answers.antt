@@ -26,7 +26,7 @@ returns-in_err-and c =
     ∙ sym (looked_refused x.p x.section x.c x.a x.family.now (tests_told c.pair_validity-machines.ensures c.range_validity-range.ensures c.and.ensures ∙ c.in_err-and.was))
 
 pub overflow_sub-section : goal.overflow_sub-section
-overflow_sub-section c = (passed c).1.0.0
+overflow_sub-section c = omega (arith, (passed c).1.0)
 
 pub still_in-requires : goal.still_in-requires
 still_in-requires c = let q = passed c in (q.0, (omega (arith, q.1.0), (q.1.1.0, q.1.1.1)))

@@ -1,13 +1,9 @@
--- At the loop's head the section's earlier rows are the set's, and all other rows are the family's.
-use native.Mathlib.Omega.{arith}
-use Rattle.solver.specs.FamilyRowsLaws.{put_none, put_more, put_done}
+-- The section's part of the family is written.
+use Rattle.std.proofs.Common.{refl, arith}
+use Rattle.solver.specs.FamilyRowsLaws.{part_put}
 use Rattle.solver.proofs.put_section.Goals as goal
 
-pub loop-c-init : goal.loop-c-init
-loop-c-init c = (omega arith, put_none c.requires.1)
-
-pub loop-c-preserved : goal.loop-c-preserved
-loop-c-preserved c = (omega arith, put_more (omega arith) (omega arith) c.loop-c.invariant.1)
-
 pub returns : goal.returns
-returns c = put_done (omega arith) c.loop-c.invariant.1
+returns c =
+    let x = c.args in
+    part_put x.family.now x.set.now c.copy_from_slice.new.self x.j _ _ c.requires c.told-family c.told-set refl (omega arith) c.copy_from_slice.ensures.after

@@ -10,11 +10,14 @@ returns-in_err-tests c =
     let e = sym c.tests.ensures ∙ c.in_err-tests.was in
     record { answer = passed_on c.from_residual.ensures ∙ sym e; content = solved_refused s.p s.table.now _ e }
 
+pub new-game-requires : goal.new-game-requires
+new-game-requires c = (solve_passed c.args.p _ (sym c.tests.ensures ∙ c.in_ok-tests.was)).0
+
 pub rank_all-requires : goal.rank_all-requires
-rank_all-requires c = solve_passed c.args.p _ (sym c.tests.ensures ∙ c.in_ok-tests.was)
+rank_all-requires c = (solve_passed c.args.p _ (sym c.tests.ensures ∙ c.in_ok-tests.was)).1
 
 pub returns : goal.returns
 returns c =
     let s = c.args in
     let e = sym c.tests.ensures ∙ c.in_ok-tests.was in
-    record { answer = sym e; content = c.rank_all.ensures ∙ solved_valid s.p s.table.now e }
+    record { answer = sym e; content = (rw c.new-game.ensures at c.rank_all.ensures) ∙ solved_valid s.p s.table.now e }

@@ -11,12 +11,16 @@ returns-in_err-tests c =
     let kept = turned_refused s.p s.family.now s.table.now _ e in
     record { answer = passed_on c.from_residual.ensures ∙ sym e; family = kept.0; content = kept.1 }
 
-pub turn_all-requires : goal.turn_all-requires
-turn_all-requires c = solve_passed c.args.p _ (sym c.tests.ensures ∙ c.in_ok-tests.was)
+pub new-game-requires : goal.new-game-requires
+new-game-requires c = (solve_passed c.args.p _ (sym c.tests.ensures ∙ c.in_ok-tests.was)).0
+
+pub turn-requires : goal.turn-requires
+turn-requires c = (solve_passed c.args.p _ (sym c.tests.ensures ∙ c.in_ok-tests.was)).1
 
 pub returns : goal.returns
 returns c =
     let s = c.args in
     let e = sym c.tests.ensures ∙ c.in_ok-tests.was in
     let made = turned_valid s.p s.family.now s.table.now e in
-    record { answer = sym e; family = c.turn_all.ensures.0 ∙ made.0; content = c.turn_all.ensures.1 ∙ made.1 }
+    let turned = rw c.new-game.ensures at c.turn.ensures in
+    record { answer = sym e; family = turned.0 ∙ made.0; content = turned.1 ∙ made.1 }
