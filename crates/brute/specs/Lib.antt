@@ -1,5 +1,6 @@
-pub mod Comparing
 -- definitions
+pub mod Asked
+pub mod Comparing
 pub mod Numbers
 pub mod Lines
 pub mod Runs
@@ -7,6 +8,7 @@ pub mod Lifting
 pub mod Ranking
 pub mod Families
 -- laws
+pub mod PartLaws
 pub mod NumbersLaws
 pub mod MachineLaws
 pub mod TargetLaws

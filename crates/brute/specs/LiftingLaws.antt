@@ -5,11 +5,8 @@ use Rattle.std.proofs.Common.{◌∙◌, div-lt_iff_lt-mul, mod-lt, add-one, ari
 use Rattle.std.proofs.Math.Path.{ap, refl, sym}
 use Prim.Native.Nat.{◌%◌, ◌*◌, ◌+◌, ◌/◌, ◌<◌, ◌≤◌, suc, zero, ℕ}
 use Rattle.std.proofs.Math.ListN.{get_or-append, drop, length, length-replicate, length-set, replicate}
-use Rattle.std.proofs.lemmas.List.{get_or-replicate}
 use Rattle.std.proofs.Math.Seq.{set-append_left}
 use Rattle.mask.specs.LogicLaws.{cond_cases, refute}
-use Rattle.mask.specs.Tables.{front}
-use Rattle.mask.specs.TablesLaws.{fill_done}
 use Rattle.machine.specs.EntriesLaws.{each_same, front_same, passes_same}
 use Rattle.machine.specs.Lines.{lines_validity, passes, passes_each}
 use Rattle.machine.specs.LinesLaws.{lines_valid, valid_passes}
@@ -134,11 +131,6 @@ module _ (p : Pair) where
     lifted_front (suc n) A h =
         rw (each_same p (A ++ R) A (front_same p A R h), swept_front A h (entries p) (omega arith), lifted_front n (swept p (entries p) A) (rw (swept_length (entries p) A) h))
         (cond_front (passes_each p A) A _ R)
-
--- n zeros at the front of T
-pub zeros_front : (n : ℕ) (T : List ℕ) {l : List ℕ} → l ≡ front n (λ k. 0) T → l ≡ replicate n 0 ++ drop n T
-zeros_front n T e =
-    e ∙ ap (λ (F : List ℕ). F ++ drop n T) (sym (fill_done 0 n (replicate n 0) (λ k. 0) (length-replicate n 0) (λ k h. get_or-replicate n k 0 0 h)))
 
 -- ---- the answer, case by case
 module _ (p : Pair) (T : List ℕ) where

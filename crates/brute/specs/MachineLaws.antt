@@ -1,9 +1,8 @@
--- Laws of what lies past an array's end, and of machines as the plain reading meets them.
-use Rattle.std.specs.Prelude.{true, false, List, ◌≡◌, ◌<◌, ◌≤◌, ◌^◌, ℕ, eqb, get_or, leb, length, min, is_err, is_ok, refl, Ok, Err}
+-- Laws of machines as the plain reading meets them.
+use Rattle.std.specs.Prelude.{true, false, ◌≡◌, ◌<◌, ◌≤◌, ◌^◌, ℕ, eqb, get_or, leb, min, is_err, is_ok, refl, Ok, Err}
 use Rattle.std.proofs.Common.{sym, ap, ◌∙◌, arith, eq-eqb, ne_eqb, ⊎_elim}
 use Rattle.std.proofs.Math.Decide.{dec_lt}
 use Rattle.std.proofs.Math.Nat.{min-eq_left}
-use Rattle.std.proofs.Math.ListN.{get_or-eq_default}
 use Rattle.std.proofs.lemmas.Bool.{lt-leb}
 use Rattle.mask.specs.Bits.{full_mask, has_bit}
 use Rattle.mask.specs.BitsLaws.{full_lt, has_beyond, has_none, no_bits_zero}
@@ -12,24 +11,16 @@ use Rattle.mask.specs.BoundedLaws.{some_none, some_at, none_at}
 use Rattle.mask.specs.Logic.{and, not}
 use Rattle.mask.specs.LogicLaws.{and_false_l, and_false_r, both, clash, dec, not_f, not_i}
 use Rattle.machine.specs.WellFormed.{beyond}
-use Rattle.machine.specs.Machines.{fair_set, observation, successors}
+use Rattle.machine.specs.Machines.{fair_set, successors}
 use Rattle.machine.specs.Refusals.{Tested, valid}
 use Rattle.machine.specs.declared.Machine.{Machine}
 use Rattle.machine.specs.declared.Refusal.{Refusal}
-
--- an array has no element past its end
-pub past_end : (l : List ℕ) (n i : ℕ) → length l ≡ n → n ≤ i → 0 ≡ get_or l i 0
-past_end l n i e h = sym (get_or-eq_default l 0 (omega arith))
 
 -- the fields of a machine, by the names that document 01 has for them
 module _ (m : Machine) where
   pub successors_at : {x : ℕ} (s : ℕ) → x ≡ successors m s → x ≡ get_or m.successors s 0
   unfolding successors
   successors_at s e = e
-
-  pub observation_at : {x : ℕ} (s : ℕ) → x ≡ observation m s → x ≡ get_or m.observations s 0
-  unfolding observation
-  observation_at s e = e
 
   pub fair_at : {x : ℕ} (k : ℕ) → x ≡ fair_set m k → x ≡ get_or m.fairness k 0
   unfolding fair_set

@@ -1,32 +1,31 @@
 -- Laws of ranks that are found by brute force: the rule case by case, and what a turn of each loop does.
 use Rattle.std.proofs.Math.Bool as B
-use Rattle.std.specs.Prelude.{Bool, None, Some, is_some, cond, true, List, ◌≡◌, eqb, get_or, length, replicate, set, Err}
+use Rattle.std.specs.Prelude.{Bool, None, Some, is_some, cond, true, List, ◌++◌, ◌≡◌, drop, eqb, get_or, length, replicate, set, take, Err}
 use Rattle.std.proofs.Math.Bool.{false}
-use Rattle.std.proofs.Common.{◌∙◌, add-one, lt-ltb, le-ltb}
+use Rattle.std.proofs.Common.{◌∙◌, add-one, ap, lt-ltb, le-ltb}
+use Rattle.std.proofs.lemmas.List.{get_or-take}
 use Rattle.std.proofs.Math.Decide.{dec_lt}
 use Rattle.std.proofs.Math.Logic.{by_cases}
 use Rattle.std.proofs.Math.Path.{refl, sym}
-use Prim.Native.Nat.{◌%◌, ◌*◌, ◌+◌, ◌-◌, ◌/◌, ◌<◌, ◌≤◌, min, suc, zero, ℕ}
+use Prim.Native.Nat.{◌+◌, ◌-◌, ◌<◌, ◌≤◌, min, suc, zero, ℕ}
 use native.Mathlib.Omega.{arith}
 use borrow.Author.Tests.{eq-eqb, le-leb, lt-leb, ne_eqb, not-false, not-true}
 use Rattle.mask.specs.Bits.{full_mask}
 use Rattle.mask.specs.Bounded.{below}
 use Rattle.mask.specs.BoundedLaws.{below_at, below_past, first_le, is_below}
 use Rattle.mask.specs.Logic.{and, not}
-use Rattle.mask.specs.LogicLaws.{and_false_l, and_false_r, and_i, and_true_l, not_f, not_i, or_false_l, or_l, or_r}
+use Rattle.mask.specs.LogicLaws.{and_false_l, and_false_r, and_i, not_f, not_i}
 use Rattle.mask.specs.Tables.{front}
-use Rattle.mask.specs.FrontLaws.{front_end, front_past, front_skip, front_turn}
-use Rattle.machine.specs.Lines.{goal_line}
-use Rattle.machine.specs.Machines.{in_fair_set, matched, n_a, pairs, sets_a, sets_c}
-use Rattle.machine.specs.Step.{steps}
+use Rattle.mask.specs.TablesLaws.{table_cong}
+use Rattle.mask.specs.FrontLaws.{front_past, front_skip, front_turn}
+use Rattle.machine.specs.Machines.{pairs}
 use Rattle.machine.specs.Table.{blank}
 use Rattle.machine.specs.WellFormed.{is_valid, pair_validity, well_formed}
 use Rattle.machine.specs.declared.Pair.{Pair}
 use Rattle.machine.specs.declared.Refusal.{Refusal}
-use Rattle.brute.specs.Lines.{in_target}
 use Rattle.brute.specs.Numbers.{numbered_table}
-use Rattle.brute.specs.Ranking.{as_table, closed, keeps, largest, largest_set, marked, pair_room, rank_of, ranked, section_ranked, shown_entry, struck, table_ranked, unkept, unranked}
-use Rattle.brute.specs.declared.lines.Target.TheVariants.{AtMost, NonBlank}
+use Rattle.brute.specs.PartLaws.{part_filled}
+use Rattle.brute.specs.Ranking.{as_table, closed, largest, largest_set, marked, pair_room, ranked, shown_entry, struck, table_ranked, unkept}
 
 -- ---- one rank is given to a set
 module _ (S : List ℕ) (r : ℕ) (R : List ℕ) where
@@ -49,9 +48,14 @@ module _ (S : List ℕ) (r : ℕ) (R : List ℕ) where
     pub mark_ranked : v ≡ l → (get_or l i 0 ≡ blank → ⊥) → v ≡ front (i + 1) mark_at R
     mark_ranked z n = mark_keep z (and_false_r _ (ne_eqb _ _ (λ e. n (front_past mark_at R d i (omega arith) ∙ e))))
 
-  pub mark_done : {i n : ℕ} {l : List ℕ} → l ≡ front i mark_at R → i ≡ n → l ≡ marked n S r R
-  unfolding marked
-  mark_done d h = front_end mark_at R d h
+-- the first n ranks
+pub mark_done : (S : List ℕ) (r : ℕ) (R : List ℕ) (n : ℕ) {i : ℕ} {l : List ℕ} → n ≤ length R → l ≡ front i (mark_at S r (take n R)) (take n R) → i ≡ length (take n R)
+    → l ++ drop n R ≡ marked n S r R
+unfolding marked
+mark_done S r R n h d e =
+    part_filled (mark_at S r (take n R)) R n h d e
+    ∙ ap (λ (z : List ℕ). z ++ drop n R)
+    (table_cong n _ _ (λ k b. ap (λ (x : ℕ). cond (and (not (eqb (get_or S k 0) blank)) (eqb x blank)) r x) (get_or-take n R k 0 b)))
 
 module _ (p : Pair) (T : List ℕ) (j : ℕ) where
   -- ---- the sets that meet it, and the largest of them

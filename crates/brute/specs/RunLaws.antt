@@ -1,5 +1,5 @@
 -- Laws of lassos and runs as the plain reading meets them.
-use Rattle.std.specs.Prelude.{Bool, false, true, cond, List, [], ◌≡◌, ◌+◌, ◌-◌, ◌<◌, ◌≤◌, ℕ, eqb, leb, length, ltb}
+use Rattle.std.specs.Prelude.{Bool, false, cond, List, [], ◌≡◌, ◌+◌, ◌-◌, ◌<◌, ◌≤◌, ℕ, eqb, leb, length, ltb}
 use Rattle.std.proofs.Common.{◌∙◌, sym, add-one, arith, eq-eqb, le-ltb, lt-ltb, ne_eqb}
 use Rattle.std.proofs.Math.Decide.{ℕ_discrete}
 use Rattle.std.proofs.Math.Logic.{by_cases}
@@ -8,8 +8,8 @@ use Rattle.std.proofs.Math.ListN.{get_or-eq_default}
 use Rattle.mask.specs.Bounded.{every, first}
 use Rattle.mask.specs.BoundedLaws.{every_cong}
 use Rattle.mask.specs.Logic.{and, not, or}
-use Rattle.mask.specs.LogicLaws.{and_false_l, and_false_r, and_true_l}
-use Rattle.machine.specs.Lassos.{Lasso, from_start, is_fair, is_lasso, is_play, lasso_length, moment, given}
+use Rattle.mask.specs.LogicLaws.{and_false_l, and_true_l}
+use Rattle.machine.specs.Lassos.{Lasso, is_lasso, lasso_length, moment, given}
 use Rattle.machine.specs.Machines.{moves, starts}
 use Rattle.machine.specs.Player.{bad_step, missed_set}
 use Rattle.machine.specs.LassosLaws.{moment_round}
@@ -29,28 +29,10 @@ module _ (m : Machine) (l : Lasso) where
   unfolding is_lasso
   lasso_each h = every_cong _ _ _ (λ t k. rw add-one) ∙ sym (and_true_l _ (lt-ltb 0 _ h))
 
--- ---- a play, part by part; the stem makes no difference to fairness
-module _ (m : Machine) (stem cycle : List ℕ) where
-  pub fair_loop : is_fair m (given [] cycle) ≡ is_fair m (given stem cycle)
-  unfolding is_fair
-  fair_loop = refl
-
-  pub missed_loop : first m.sets (missed_set m (given [] cycle)) ≡ first m.sets (missed_set m (given stem cycle))
-  unfolding missed_set
-  missed_loop = refl
-
-  pub play_stuck : is_lasso m (given stem cycle) ≡ false → is_play m (given stem cycle) ≡ false
-  unfolding is_play
-  play_stuck t = and_false_l _ t
-
-  module _ (t : is_lasso m (given stem cycle) ≡ true) where
-    pub play_unfair : is_fair m (given stem cycle) ≡ false → is_play m (given stem cycle) ≡ false
-    unfolding is_play
-    play_unfair u = and_false_r _ (and_false_l _ u)
-
-    pub play_start : is_fair m (given stem cycle) ≡ true → is_play m (given stem cycle) ≡ starts m (moment (given stem cycle) 0)
-    unfolding is_play from_start
-    play_start u = and_true_l _ t ∙ and_true_l _ u
+-- ---- the stem makes no difference to fairness
+pub missed_loop : (m : Machine) (stem cycle : List ℕ) → first m.sets (missed_set m (given [] cycle)) ≡ first m.sets (missed_set m (given stem cycle))
+unfolding missed_set
+missed_loop m stem cycle = refl
 
 -- ---- 14 at position i, as code asks for it: s is the state there, the tests tell whether it is entered rightly and whether it is the last one
 module _ (m : Machine) (l : Lasso) (i s : ℕ) (at : s ≡ moment l i) where

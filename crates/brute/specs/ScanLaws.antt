@@ -9,7 +9,8 @@ use Rattle.std.proofs.Math.Numerals.{add-one}
 use native.Mathlib.Omega.{arith}
 use Rattle.mask.specs.Bounded.{below, first, some}
 use Rattle.mask.specs.BoundedLaws.{first_before, first_has, is_below, some_none, some_of}
-use Rattle.mask.specs.LogicLaws.{and_false_l, and_true_l, both, dec}
+use Rattle.mask.specs.Logic.{and}
+use Rattle.mask.specs.LogicLaws.{both, dec}
 use Rattle.std.specs.Option.{ok_or, option_eq}
 use Rattle.machine.specs.Lassos.{Lasso, moment}
 use Rattle.machine.specs.Lines.{non_blank}
@@ -112,13 +113,9 @@ module _ (p : Pair) (T : List ℕ) where
 -- ---- rounds
 module _ (p : Pair) (T : List ℕ) (l : Lasso) where
   module _ (x y : ℕ) (u v : Place) (eu : u ≡ place_at p T l (loop_start p T l x)) (ev : v ≡ place_at p T l (loop_start p T l y)) where
-    pub place_other : (u.state ≡ v.state → ⊥) → same_place p T l x y ≡ false
+    pub place_told : same_place p T l x y ≡ and (eqb u.state v.state) (eqb u.section v.section)
     unfolding same_place
-    place_other h = rw (← eu, ← ev) (and_false_l _ (ne_eqb _ _ h))
-
-    pub place_same : u.state ≡ v.state → same_place p T l x y ≡ eqb u.section v.section
-    unfolding same_place
-    place_same h = rw (← eu, ← ev) (and_true_l _ (eq-eqb _ _ h))
+    place_told = rw (← eu, ← ev)
 
 -- what a search answers, with its end where there is none
 pub or_end : (n i : ℕ) → i ≤ n → unwrap_or (below n i) n ≡ i
@@ -133,13 +130,13 @@ some_found n q =
     (λ l. le-ltb _ n (omega arith) ∙ sym (some_none n q (λ i k. first_before n q i (omega arith))))
 
 -- ---- what a partner that is asked for says
-pub partner_none_lem : (o : Option ℕ) (s r : Refusal) → ok_or o s ≡ Err r → (o ≡ None) × (s ≡ r)
-partner_none_lem (Some a) s r e = (cc, cc)
-partner_none_lem None s r e = (refl, cc)
+pub nobody_told : (o : Option ℕ) (s r : Refusal) → ok_or o s ≡ Err r → (o ≡ None) × (s ≡ r)
+nobody_told (Some a) s r e = (cc, cc)
+nobody_told None s r e = (refl, cc)
 
-pub partner_some_lem : (o : Option ℕ) (s : Refusal) (a : ℕ) → ok_or o s ≡ Ok a → o ≡ Some a
-partner_some_lem (Some b) s a e = cc
-partner_some_lem None s a e = cc
+pub somebody_told : (o : Option ℕ) (s : Refusal) (a : ℕ) → ok_or o s ≡ Ok a → o ≡ Some a
+somebody_told (Some b) s a e = cc
+somebody_told None s a e = cc
 
 -- ---- the answer
 module _ (p : Pair) (T : List ℕ) (l : Lasso) where

@@ -1,28 +1,26 @@
 -- Laws of an entry's l and k as they are counted down, of the place of an entry, and of the sets that a line steps into.
-use Rattle.std.specs.Prelude.{Bool, false, true, None, Option, Some, is_some, unwrap_or, List, ◌≡◌, ◌*◌, ◌+◌, ◌-◌, ◌/◌, ◌<◌, ◌≤◌, ℕ, Err}
+use Rattle.std.specs.Prelude.{Bool, false, true, None, Some, is_some, unwrap_or, List, ◌≡◌, ◌*◌, ◌+◌, ◌-◌, ◌/◌, ◌<◌, ◌≤◌, ℕ, Err}
 use Rattle.std.proofs.Common.{◌∙◌, ap, subst, mod-eq_of_lt, add-one, arith}
 use Rattle.std.proofs.Math.Path.{refl, sym}
 use Rattle.std.proofs.Math.Logic.{by_cases}
 use Rattle.std.proofs.Math.Decide.{dec_lt}
 use Rattle.std.proofs.Math.Nat.{add-mod_right, div-eq_of_lt, div-eq-sub-div}
 use borrow.Author.Tests.{eq-eqb, le-leb, le-ltb, lt-leb, lt-ltb, ne_eqb}
-use Rattle.mask.specs.Bounded.{below, every, first, some_in}
+use Rattle.mask.specs.Bounded.{below, every, first}
 use Rattle.mask.specs.BoundedLaws.{below_at, below_past, first_all, first_has, first_some, is_below}
 use Rattle.mask.specs.Logic.{not}
 use Rattle.mask.specs.LogicLaws.{and_false_l, and_true_l, clash, not_e, not_f, not_i}
 use Rattle.machine.specs.Lines.{at_most, goal_line, lines_validity, lower, non_blank, passes, rank_line}
-use Rattle.machine.specs.Machines.{in_fair_set, matched, moves, n_a, n_c, next, pairs, sets_a, sets_c, starts, successors}
+use Rattle.machine.specs.Machines.{in_fair_set, matched, n_a, n_c, next, pairs, sets_a, sets_c}
 use Rattle.machine.specs.Ranks.{level_of, set_of}
 use Rattle.machine.specs.LinesLaws.{outside_bound, passes_covered}
 use Rattle.machine.specs.Refusals.{valid}
 use Rattle.machine.specs.RowLaws.{section_room}
 use Rattle.machine.specs.Step.{steps}
 use Rattle.machine.specs.Table.{blank, covers, entry}
-use Rattle.machine.specs.Verdict.{start_covered}
 use Rattle.machine.specs.WellFormedLaws.{WellPair, mul_bound}
 use Rattle.machine.specs.declared.Pair.{Pair}
 use Rattle.brute.specs.Lines.{hit, in_target}
-use Rattle.brute.specs.declared.lines.Target.{Target}
 use Rattle.brute.specs.declared.lines.Target.TheVariants.{AtMost, Lower, NonBlank}
 use Rattle.machine.specs.declared.Refusal.TheVariants.{FailingEntry}
 

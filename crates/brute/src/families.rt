@@ -41,8 +41,9 @@ pub fn put_family(p: Pair, family: &[u64; 448], table: &mut [u16])
     if table.len() < machine::TABLE_ROOM || validity(p).is_err() {
         return;
     }
-    for e in 0..abstraction.sets * (concrete.states * abstraction.states) {
-        table[e] = family_entry(&p, family, e);
+    let entries = abstraction.sets * (concrete.states * abstraction.states);
+    for (e, entry) in table[..entries].iter_mut().enumerate() {
+        *entry = family_entry(&p, family, e);
     }
 }
 

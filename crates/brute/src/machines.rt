@@ -3,6 +3,7 @@ ghost use Rattle.std.specs.Prelude.{◌≡◌, eqb};
 ghost use Rattle.mask.specs.Logic.{not};
 ghost use Rattle.mask.specs.Bounded.{some, below};
 ghost use Rattle.machine.specs.Machines.{observation, successors, moves, starts, fair_set, in_fair_set, matched};
+ghost use Rattle.brute.specs.Asked.{asks_states};
 ghost use Rattle.machine.specs.WellFormed.{counts_ok, beyond, state_beyond, set_beyond, is_beyond_counts, stuck_state, lowest_empty_set, has_empty_set, content_validity, sets_validity, content_tests, pair_tests, pair_validity, nonempty_validity};
 
 use machine::{Machine, Pair, Refusal};
@@ -165,7 +166,7 @@ pub fn has_empty_set(m: &Machine) -> bool
 }
 
 // 21 of machine number i of a pair.
-fn sets(i: usize, m: &Machine) -> Result<(), Refusal>
+fn sets_nonempty(i: usize, m: &Machine) -> Result<(), Refusal>
     ensures { result ≡ sets_validity i m.now }
 {
     match empty_set(m) {
@@ -177,37 +178,47 @@ fn sets(i: usize, m: &Machine) -> Result<(), Refusal>
     }
 }
 
-// 9, 10 and 11 of machine number i of a pair, and then 21 if `nonempty`.
-fn content_and_sets(nonempty: bool, i: usize, m: &Machine) -> Result<(), Refusal>
-    ensures { result ≡ content_tests nonempty i m.now }
+// What is asked of the fairness sets: nothing, or that each has a state.
+#[derive(Clone, Copy, Debug, PartialEq, Eq)]
+enum Sets {
+    Any,
+    Nonempty,
+}
+
+// 9, 10 and 11 of machine number i of a pair, and then 21 where its sets shall be nonempty.
+fn content_and_sets(asked: Sets, i: usize, m: &Machine) -> Result<(), Refusal>
+    ensures { result ≡ content_tests (asks_states asked) i m.now }
 {
     content(i, m)?;
-    if nonempty { sets(i, m) } else { Ok(()) }
+    match asked {
+        Sets::Any => Ok(()),
+        Sets::Nonempty => sets_nonempty(i, m),
+    }
 }
 
 // 5, then these of the concrete machine and of the abstract one.
-fn tests(nonempty: bool, p: &Pair) -> Result<(), Refusal>
-    ensures { result ≡ pair_tests nonempty p.now }
+fn tests(asked: Sets, p: &Pair) -> Result<(), Refusal>
+    ensures { result ≡ pair_tests (asks_states asked) p.now }
 {
     let c = &p.concrete;
     let a = &p.abstraction;
     if !has_counts(8, c) || !has_counts(7, a) {
         return Err(Refusal::BadCounts);
     }
-    content_and_sets(nonempty, 0, c)?;
-    content_and_sets(nonempty, 1, a)
+    content_and_sets(asked, 0, c)?;
+    content_and_sets(asked, 1, a)
 }
 
 // 5, 9, 10 and 11 of a pair.
 pub fn validity(p: Pair) -> Result<(), Refusal>
     ensures { result ≡ pair_validity p }
 {
-    tests(false, &p)
+    tests(Sets::Any, &p)
 }
 
 // 5, 9, 10, 11 and 21 of a pair.
 pub fn nonempty_validity(p: Pair) -> Result<(), Refusal>
     ensures { result ≡ nonempty_validity p }
 {
-    tests(true, &p)
+    tests(Sets::Nonempty, &p)
 }

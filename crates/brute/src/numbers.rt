@@ -38,9 +38,7 @@ fn digit_if(b: bool, x: u64, top: u32, i: usize) -> u64
 fn observation_of(ones: u64, twos: u64, s: usize) -> u8
     ensures { result ≡ cond (has_bit ones s) 1 0 + cond (has_bit twos s) 2 0 }
 {
-    let one = if mask::has(ones, s) { 1 } else { 0 };
-    let two = if mask::has(twos, s) { 2 } else { 0 };
-    one + two
+    mask::has(ones, s) as u8 + 2 * mask::has(twos, s) as u8
 }
 
 // Machine number x of a shape: digit 0 is its start mask, digit 1 has the states of an odd observation, then come the successor masks, then
@@ -82,8 +80,9 @@ pub fn entry_of(d: u16) -> u16
 pub fn put_entries(x: u64, top: u16, n: usize, table: &mut [u16])
     ensures { table.new ≡ numbered_table top x n table.old }
 {
-    for e in 0..n.min(table.len()) {
-        table[e] = entry_of(digit(x, top as u32, e) as u16);
+    let end = n.min(table.len());
+    for (e, entry) in table[..end].iter_mut().enumerate() {
+        *entry = entry_of(digit(x, top as u32, e) as u16);
     }
 }
 

@@ -135,9 +135,9 @@ fn mark(n: usize, set: &[u16], r: u16, ranks: &mut [u16])
     requires { n ≤ length ranks.old }
     ensures { ranks.new ≡ marked n set.now r ranks.old }
 {
-    for e in 0..n {
-        if value_at(set, e) != machine::BLANK && ranks[e] == machine::BLANK {
-            ranks[e] = r;
+    for (e, rank) in ranks[..n].iter_mut().enumerate() {
+        if value_at(set, e) != machine::BLANK && *rank == machine::BLANK {
+            *rank = r;
         }
     }
 }

@@ -17,7 +17,7 @@ use crate::machines::{is_matched, successors_of, validity};
 use machine::{Pair, Refusal, Run};
 
 // The abstract state a and the section j.
-#[derive(Clone, Copy)]
+#[derive(Clone, Copy, PartialEq, Eq)]
 struct Spot {
     state: usize,
     section: usize,
@@ -120,7 +120,7 @@ fn same_place(p: &Pair, table: &[u16], stem: &[u8], cycle: &[u8], x: usize, y: u
 {
     let u = place_at(p, table, stem, cycle, stem.len() + x * cycle.len());
     let v = place_at(p, table, stem, cycle, stem.len() + y * cycle.len());
-    u.state == v.state && u.section == v.section
+    u == v
 }
 
 // The first round before round y with the same place.

@@ -1,12 +1,14 @@
 -- The invariant: the first e entries are those of the family, and the others are as they were.
-use Rattle.std.proofs.Common.{arith, rules, sym, ◌∙◌}
-use Rattle.std.specs.Prelude.{false, true, ◌≡◌}
-use Rattle.mask.specs.Tables.{table}
-use Rattle.mask.specs.FrontLaws.{front_end, front_none, front_turn}
+use Rattle.std.proofs.Common.{arith, sym, ◌∙◌}
+use Rattle.std.specs.Prelude.{◌≡◌}
 use Rattle.machine.specs.Refusals.{valid}
 use Rattle.machine.specs.WellFormed.{pair_validity}
-use Rattle.machine.specs.WellFormedLaws.{WellPair, entries_small, pairs_small, valid_is_well, well_valid}
-use Rattle.brute.specs.Families.{family_entry}
+use Rattle.machine.specs.WellFormedLaws.{valid_is_well, WellPair, entries_small, pairs_small, well_valid}
+use Rattle.std.specs.Prelude.{◌≤◌, length, take}
+use Rattle.std.proofs.lemmas.List.{length-take-le}
+use Rattle.mask.specs.FrontLaws.{front_none, front_turn}
+use Rattle.machine.specs.Table.{entries}
+use Rattle.brute.specs.PartLaws.{part_filled}
 use Rattle.brute.specs.MachineLaws.{none_refused, some_refused}
 use Rattle.brute.specs.FamiliesLaws.{family_ill, family_short, family_well}
 use Rattle.brute.proofs.families.put_family.Goals as goal
@@ -19,6 +21,9 @@ formed c = sym c.validity.ensures ∙ none_refused _ (sym c.is_err.ensures.value
 well : (c : Else-is_err) → WellPair c.args.p
 well c = well_valid _ (formed c)
 
+room : (c : Else-is_err) → entries c.args.p ≤ length c.args.table.now
+room c = omega (arith, entries_small _ (well c), c.if-table-lt-TABLE_ROOM.false)
+
 pub returns-then-table-lt-TABLE_ROOM : goal.returns-then-table-lt-TABLE_ROOM
 returns-then-table-lt-TABLE_ROOM c =
     let x = c.args in
@@ -29,28 +34,32 @@ returns-then-table-lt-TABLE_ROOM c =
           family_ill x.p x.family.now x.table.now w.if-table-lt-TABLE_ROOM.false r.0 (sym w.validity.ensures ∙ r.1)
     ]
 
-pub overflow_mul-e-end : goal.overflow_mul-e-end
-overflow_mul-e-end c = omega (arith, pairs_small _ (well c))
+pub overflow_mul-entries : goal.overflow_mul-entries
+overflow_mul-entries c = omega (arith, pairs_small _ (well c))
 
-pub overflow_mul-e-end-2 : goal.overflow_mul-e-end-2
-overflow_mul-e-end-2 c = omega (arith, entries_small _ (well c))
+pub overflow_mul-entries-2 : goal.overflow_mul-entries-2
+overflow_mul-entries-2 c = omega (arith, entries_small _ (well c))
+
+pub slice_bounds-entry-items-end : goal.slice_bounds-entry-items-end
+slice_bounds-entry-items-end c = room c
+
+pub slice_bounds-entry-items-end-2 : goal.slice_bounds-entry-items-end-2
+slice_bounds-entry-items-end-2 c = sym (length-take-le _ _ (room (goal.at.slice_bounds-entry-items-end-2 c).Else-is_err))
 
 pub loop-e-init : goal.loop-e-init
-loop-e-init c = (search rules, front_none _ _)
+loop-e-init c = front_none _ _
 
 pub family_entry-requires : goal.family_entry-requires
-family_entry-requires c = (valid_is_well _ (formed (goal.at.family_entry-requires c).Else-is_err), c.loop-e-test.true)
-
-pub offset_bounds-table-e : goal.offset_bounds-table-e
-offset_bounds-table-e c = omega (arith, entries_small _ (well (goal.at.offset_bounds-table-e c).Else-is_err))
-
-pub bounds-table-e : goal.bounds-table-e
-bounds-table-e c = omega (arith, entries_small _ (well (goal.at.bounds-table-e c).Else-is_err))
+family_entry-requires c =
+    let at = (goal.at.family_entry-requires c).Else-is_err in
+    let n : length (take (entries c.args.p) c.args.table.now) ≡ entries c.args.p = length-take-le _ _ (room at) in
+    (valid_is_well _ (formed at), rw (← n) c.loop-e-test.true)
 
 pub loop-e-preserved : goal.loop-e-preserved
-loop-e-preserved c = (search rules, front_turn _ _ c.loop-e.invariant.1 (omega (arith, entries_small _ (well (goal.at.loop-e-preserved c).Else-is_err))) c.family_entry.ensures)
+loop-e-preserved c = front_turn _ _ c.loop-e.invariant c.loop-e-test.true c.family_entry.ensures
 
 pub returns : goal.returns
 returns c =
     let x = c.args in
-    family_well x.p x.family.now x.table.now c.if-table-lt-TABLE_ROOM.false (formed (goal.at.returns c).Else-is_err) (front_end _ _ c.loop-e.invariant.1 (omega arith))
+    let at = (goal.at.returns c).Else-is_err in
+    family_well x.p x.family.now x.table.now c.if-table-lt-TABLE_ROOM.false (formed at) (part_filled _ x.table.now (entries x.p) (room at) c.loop-e.invariant (omega arith))

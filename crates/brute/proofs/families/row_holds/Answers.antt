@@ -1,5 +1,4 @@
 use Rattle.std.proofs.Common.{eq-eqb, rules, sym, tests, ◌∙◌}
-use Rattle.std.specs.Prelude.{true}
 use Rattle.mask.specs.Logic.{not, or}
 use Rattle.mask.specs.BoundedLaws.{every_of}
 use Rattle.mask.proofs.RangeLaws.{all_range}

@@ -2,7 +2,7 @@
 use Rattle.std.proofs.Common.{arith, eq-eqb, le-ltb, sym, ◌∙◌}
 use borrow.Author.Tests.{ne_eqb}
 use Rattle.std.proofs.lemmas.Grind.{common_steps}
-use Rattle.std.specs.Prelude.{cond, eqb, false, true, ◌+◌, ◌-◌, ◌≡◌}
+use Rattle.std.specs.Prelude.{cond, eqb, ◌+◌, ◌-◌, ◌≡◌}
 use Rattle.mask.specs.Logic.{and, not, or}
 use Rattle.machine.specs.Machines.{moves, starts}
 use Rattle.machine.specs.Lassos.{given, moment}

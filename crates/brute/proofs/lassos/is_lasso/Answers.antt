@@ -1,8 +1,8 @@
 use Rattle.std.proofs.Common.{arith, eqb-true, rules, sym, tests, ◌∙◌}
 use borrow.Author.Tests.{eqb-false}
-use Rattle.std.specs.Prelude.{false, length, ltb, true, ◌+◌, ◌≡◌}
+use Rattle.std.specs.Prelude.{length, ltb, ◌+◌, ◌≡◌}
 use Rattle.mask.specs.Logic.{and}
-use Rattle.mask.specs.Bounded.{every, some}
+use Rattle.mask.specs.Bounded.{every}
 use Rattle.mask.proofs.RangeLaws.{all_range}
 use Rattle.machine.specs.Machines.{moves}
 use Rattle.machine.specs.Lassos.{given, moment}

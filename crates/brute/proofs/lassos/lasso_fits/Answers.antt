@@ -2,8 +2,7 @@
 use Rattle.std.proofs.Common.{ap, arith, eqb-true, le-ltb, sym, ◌∙◌}
 use borrow.Author.Tests.{eqb-false}
 use Rattle.std.proofs.Math.Path.{refl}
-use Rattle.std.specs.Prelude.{false, true, ◌≡◌}
-use Rattle.mask.specs.Logic.{not}
+use Rattle.std.specs.Prelude.{false, ◌≡◌}
 use Rattle.mask.specs.Bounded.{below, first}
 use Rattle.mask.specs.BoundedLaws.{below_at, below_past}
 use Rattle.machine.specs.Lassos.{given}

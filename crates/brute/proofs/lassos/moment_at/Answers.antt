@@ -1,6 +1,5 @@
 -- A moment lies in the stem or in the loop; of an empty loop the definition has 0.
 use Rattle.std.proofs.Common.{eqb-true, sym, ◌∙◌}
-use Rattle.std.specs.Prelude.{false, true}
 use Rattle.machine.specs.Lassos.{given}
 use Rattle.machine.specs.LassosLaws.{moment_round, moment_stem}
 use Rattle.brute.specs.RunLaws.{moment_none}

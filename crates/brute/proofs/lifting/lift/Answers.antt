@@ -1,8 +1,7 @@
 -- The invariant: what is lifted from here in the turns that are left is the answer.
 use Rattle.std.proofs.Common.{arith, rules, sym, ◌∙◌}
 use Rattle.std.proofs.Math.Path.{refl}
-use Rattle.std.specs.Prelude.{false, length, true, ◌*◌, ◌+◌, ◌-◌, ◌≡◌, ◌≤◌}
-use Rattle.mask.specs.Tables.{table}
+use Rattle.std.specs.Prelude.{length, ◌*◌, ◌+◌, ◌-◌, ◌≡◌, ◌≤◌}
 use Rattle.machine.specs.Refusals.{valid}
 use Rattle.machine.specs.Machines.{pairs, sets_c}
 use Rattle.machine.specs.WellFormed.{pair_validity}

@@ -1,6 +1,5 @@
 use Rattle.std.proofs.Common.{arith, rules, tests}
 use Rattle.mask.specs.Logic.{not}
-use Rattle.mask.specs.Bounded.{count}
 use Rattle.mask.proofs.RangeLaws.{count_range}
 use Rattle.machine.specs.WellFormedLaws.{entries_small, pairs_small, well_pair}
 use Rattle.machine.specs.Table.{covered_count}

@@ -3,7 +3,6 @@ use Rattle.std.proofs.lemmas.Iterator.{serves_from_Range}
 use Rattle.std.specs.Prelude.{is_some, ◌≡◌}
 use Rattle.mask.specs.Logic.{not}
 use Rattle.mask.specs.Bounded.{below, first}
-use Rattle.mask.specs.Tables.{table}
 use Rattle.mask.proofs.RangeLaws.{find_range}
 use Rattle.machine.specs.Machines.{n_a, n_c}
 use Rattle.machine.specs.WellFormedLaws.{well_pair}

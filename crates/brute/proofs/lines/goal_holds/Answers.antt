@@ -1,7 +1,5 @@
 -- Set j is asked at a, and then the step goes into the next section.
 use Rattle.std.proofs.Common.{arith, sym, ◌∙◌}
-use Rattle.std.specs.Prelude.{false, true}
-use Rattle.mask.specs.Tables.{table}
 use Rattle.machine.specs.Machines.{sets_a}
 use Rattle.machine.specs.WellFormedLaws.{well_pair}
 use Rattle.machine.specs.StepLaws.{next_lt}

@@ -3,7 +3,6 @@ use Rattle.std.proofs.Common.{ap, arith, sym, ◌∙◌}
 use Rattle.std.specs.Prelude.{unwrap_or, ℕ, ◌<◌}
 use Rattle.mask.specs.Bounded.{first}
 use Rattle.mask.specs.BoundedLaws.{below_at}
-use Rattle.mask.specs.Tables.{table}
 use Rattle.machine.specs.Machines.{n_c, sets_a}
 use Rattle.machine.specs.WellFormedLaws.{well_pair}
 use Rattle.std.specs.Prelude.{Option}

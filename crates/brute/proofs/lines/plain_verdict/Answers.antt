@@ -1,7 +1,6 @@
 -- The tests are made in the order of the definition, and each return is the first that fails.
 use Rattle.std.proofs.Common.{ap, sym, ◌∙◌}
-use Rattle.std.specs.Prelude.{Ok, false, true}
-use Rattle.mask.specs.Tables.{table}
+use Rattle.std.specs.Prelude.{Ok}
 use Rattle.machine.proofs.Passing.{passed_on}
 use Rattle.machine.specs.WellFormedLaws.{valid_is_well}
 use Rattle.machine.specs.Verdict.{empty_set_of, verdict_of}

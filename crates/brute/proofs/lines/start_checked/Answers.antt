@@ -2,9 +2,7 @@
 use Rattle.std.proofs.Common.{sym, ◌∙◌}
 use Rattle.std.proofs.Math.Path.{refl}
 use Rattle.mask.specs.BoundedLaws.{below_at, below_past}
-use Rattle.mask.specs.Tables.{table}
 use Rattle.machine.specs.Machines.{n_c}
-use Rattle.machine.specs.Verdict.{lacking_start}
 use Rattle.machine.specs.VerdictLaws.{start_carried, start_lacking}
 use Rattle.brute.proofs.lines.start_checked.Goals.{in-Some, in-None}
 use Rattle.brute.proofs.lines.start_checked.Goals as goal

@@ -2,7 +2,7 @@
 use Rattle.std.proofs.Common.{ap, eq-eqb, le-ltb, lt-ltb, sym, ◌∙◌}
 use borrow.Author.Tests.{ne_eqb}
 use Rattle.std.proofs.Math.Path.{refl}
-use Rattle.std.specs.Prelude.{Err, false, true, ℕ}
+use Rattle.std.specs.Prelude.{Err, ℕ}
 use Rattle.mask.specs.BoundedLaws.{below_at, below_past}
 use Rattle.machine.specs.Refusals.{Tested}
 use Rattle.machine.specs.WellFormed.{content_validity}

@@ -1,5 +1,4 @@
 use Rattle.std.proofs.Common.{le-ltb, rules, sym, tests, ◌∙◌}
-use Rattle.std.specs.Prelude.{false}
 use Rattle.mask.specs.Logic.{and}
 use Rattle.mask.specs.Bounded.{some_in}
 use Rattle.mask.proofs.RangeLaws.{any_range}

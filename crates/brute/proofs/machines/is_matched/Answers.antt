@@ -1,5 +1,5 @@
 use Rattle.std.proofs.Common.{◌∙◌}
-use Rattle.machine.specs.Machines.{matched, same_observation}
+use Rattle.machine.specs.Machines.{matched}
 use Rattle.brute.proofs.machines.is_matched.Goals as goal
 
 pub returns : goal.returns

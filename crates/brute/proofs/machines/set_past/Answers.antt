@@ -1,5 +1,5 @@
 use Rattle.std.proofs.Common.{le-ltb, lt-ltb, sym}
-use Rattle.std.specs.Prelude.{false, get_or, true, ◌≡◌}
+use Rattle.std.specs.Prelude.{get_or, ◌≡◌}
 use Rattle.mask.specs.LogicLaws.{not_is}
 use Rattle.machine.specs.WellFormed.{set_beyond}
 use Rattle.brute.specs.MachineLaws.{fair_at}

@@ -1,6 +1,6 @@
 use Rattle.std.proofs.Common.{arith, lt-ltb}
 use Rattle.std.proofs.lemmas.Grind.{common_steps}
-use Rattle.std.specs.Prelude.{get_or, true, ◌≡◌}
+use Rattle.std.specs.Prelude.{get_or, ◌≡◌}
 use Rattle.mask.specs.Logic.{not, or}
 use Rattle.machine.specs.Machines.{observation, successors}
 use Rattle.machine.specs.WellFormed.{state_beyond}

@@ -1,6 +1,5 @@
 -- The counts of both machines are tested first; then the concrete machine, and where nothing of it is refused, the abstract one.
 use Rattle.std.proofs.Common.{sym, ◌∙◌}
-use Rattle.std.specs.Prelude.{false, true}
 use Rattle.machine.proofs.Passing.{passed_on}
 use Rattle.machine.specs.WellFormedLaws.{bad_abstract_counts, bad_concrete, bad_concrete_counts, good_concrete}
 use Rattle.brute.proofs.machines.tests.Goals as goal

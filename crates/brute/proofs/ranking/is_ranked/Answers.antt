@@ -1,10 +1,9 @@
 -- Only well-formed machines are asked for their sections.
 use Rattle.std.proofs.Common.{rules, sym, tests, ◌∙◌}
 use Rattle.std.proofs.lemmas.Iterator.{serves_from_Range}
-use Rattle.std.specs.Prelude.{false, true, ◌≡◌}
+use Rattle.std.specs.Prelude.{true, ◌≡◌}
 use Rattle.mask.specs.LogicLaws.{and_true_l}
 use Rattle.mask.specs.Bounded.{every}
-use Rattle.mask.specs.Tables.{table}
 use Rattle.mask.proofs.RangeLaws.{all_range}
 use Rattle.machine.specs.Machines.{sets_a}
 use Rattle.machine.specs.WellFormed.{well_formed}

@@ -1,6 +1,6 @@
 -- The invariant: the greatest such number up to x is the answer.
 use Rattle.std.proofs.Common.{ap, arith, sym, ◌∙◌}
-use Rattle.std.specs.Prelude.{false, true, ℕ}
+use Rattle.std.specs.Prelude.{ℕ}
 use Rattle.machine.specs.WellFormedLaws.{WellPair, pairs_small, well_pair}
 use Rattle.brute.specs.Ranking.{largest}
 use Rattle.brute.specs.RankingLaws.{largest_found, largest_less, largest_none}

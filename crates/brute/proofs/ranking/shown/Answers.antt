@@ -1,5 +1,4 @@
 use Rattle.std.proofs.Common.{ap}
-use Rattle.std.specs.Prelude.{false, true}
 use Rattle.brute.specs.Comparing.{is_exact}
 use Rattle.brute.specs.RankingLaws.{shown_all, shown_blank, shown_covered}
 use Rattle.brute.proofs.ranking.shown.Goals as goal

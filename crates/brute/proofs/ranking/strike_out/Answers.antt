@@ -5,7 +5,6 @@ use Rattle.std.specs.Prelude.{length, ◌<◌}
 use Rattle.mask.specs.BoundedLaws.{below_at}
 use Rattle.machine.specs.Machines.{pairs}
 use Rattle.machine.specs.WellFormedLaws.{pairs_small, well_pair}
-use Rattle.brute.specs.Ranking.{struck}
 use native.Mathlib.Nat.{sub-zero}
 use lib.ListN.{length-set}
 use Rattle.brute.specs.RankingLaws.{struck_done, struck_next, struck_none}

@@ -2,10 +2,9 @@
 use Rattle.std.proofs.Common.{rules, sym, tests, ◌∙◌}
 use Rattle.std.proofs.Math.Path.{refl}
 use Rattle.std.proofs.lemmas.Iterator.{serves_from_Range}
-use Rattle.std.specs.Prelude.{eqb, false, get_or, true, ◌≡◌}
+use Rattle.std.specs.Prelude.{eqb, get_or, true, ◌≡◌}
 use Rattle.mask.specs.LogicLaws.{and_false_l, and_true_l}
 use Rattle.mask.specs.Bounded.{every}
-use Rattle.mask.specs.Tables.{table}
 use Rattle.mask.proofs.RangeLaws.{all_range}
 use Rattle.machine.specs.WellFormed.{is_valid, well_formed}
 use Rattle.machine.specs.WellFormedLaws.{valid_is_well}

@@ -1,7 +1,6 @@
 use Rattle.std.proofs.Common.{rules, tests}
 use Rattle.std.specs.Prelude.{ℕ, ◌≡◌}
 use Rattle.mask.specs.Bounded.{some}
-use Rattle.mask.specs.Tables.{table}
 use Rattle.mask.proofs.RangeLaws.{find_range}
 use Rattle.machine.specs.Lassos.{given}
 use Rattle.machine.specs.Player.{last_round, same_place}

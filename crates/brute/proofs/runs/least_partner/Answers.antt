@@ -1,9 +1,7 @@
 -- The invariant: the best of the states passed, and what a later key has to be below: that of a blank entry before there is one.
 use Rattle.std.proofs.Common.{arith, rules, sym, ◌∙◌}
-use Rattle.std.specs.Prelude.{false, get_or, true, ℕ, ◌*◌, ◌-◌, ◌<◌, ◌≡◌, ◌≤◌}
+use Rattle.std.specs.Prelude.{get_or, true, ℕ, ◌*◌, ◌-◌, ◌<◌, ◌≡◌, ◌≤◌}
 use Rattle.mask.specs.LogicLaws.{and_false_l, and_i, and_r, clash, refute}
-use Rattle.mask.specs.Tables.{table}
-use Rattle.machine.specs.Machines.{moves}
 use Rattle.machine.specs.Table.{blank, covers, entry}
 use Rattle.machine.specs.Step.{present_of, single_step, staying}
 use Rattle.machine.specs.LinesLaws.{covers_of, non_blank_at, non_blank_of}

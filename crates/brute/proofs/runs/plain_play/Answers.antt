@@ -1,10 +1,8 @@
 -- The tests are made in the order of the definition, and each return is the first that fails; where none does, the rounds tell the run.
 use Rattle.std.proofs.Common.{ap, arith, sym, ◌∙◌}
 use Rattle.std.specs.Prelude.{Err, length, unwrap_or, ℕ, ◌*◌, ◌+◌, ◌-◌, ◌≡◌, ◌≤◌}
-use Rattle.mask.specs.Logic.{and}
 use Rattle.mask.specs.Bounded.{first}
 use Rattle.mask.specs.BoundedLaws.{first_le}
-use Rattle.mask.specs.Tables.{table}
 use Rattle.machine.proofs.Passing.{passed_on}
 use Rattle.machine.specs.Refusals.{valid}
 use Rattle.machine.specs.WellFormed.{pair_validity}
@@ -15,7 +13,7 @@ use Rattle.machine.specs.Lassos.{given, moment}
 use Rattle.machine.specs.Player.{lasso_validity, last_round, same_place, start_partner}
 use Rattle.std.specs.Prelude.{Option}
 use Rattle.machine.specs.PlayerLaws.{lasso_length_lem, play_alone, play_fails, play_ill, play_unfit, play_valid, start_single}
-use Rattle.brute.specs.ScanLaws.{or_end, partner_none_lem, partner_some_lem, played_refused, played_run}
+use Rattle.brute.specs.ScanLaws.{or_end, nobody_told, somebody_told, played_refused, played_run}
 use Rattle.brute.proofs.runs.plain_play.Goals as goal
 use Rattle.brute.proofs.runs.plain_play.Goals.{After-least_partner, After-unwrap_or-x, After-unwrap_or-y, In_ok-lasso_fits, In_ok-lines, In_ok-validity}
 
@@ -89,7 +87,7 @@ returns-in_err-ok_or c =
     let x = c.args in
     let l = given x.stem.now x.cycle.now in
     let at = goal.at.returns-in_err-ok_or c in
-    let none = partner_none_lem _ _ _ (sym c.ok_or.ensures.value ∙ c.in_err-ok_or.was) in
+    let none = nobody_told _ _ _ (sym c.ok_or.ensures.value ∙ c.in_err-ok_or.was) in
     passed_on c.from_residual-in_err-ok_or.ensures ∙ ap Err (sym none.1)
     ∙ sym (played_refused x.p x.table.now l _ (play_alone x.p x.table.now l (formed at.In_ok-validity) (passed at.In_ok-lines) (fits at.In_ok-lasso_fits) (sym (start at.After-least_partner) ∙ none.0)))
 
@@ -119,5 +117,5 @@ returns c =
     let l = given x.stem.now x.cycle.now in
     let at = goal.at.returns c in
     sym (played_run x.p x.table.now l
-    (play_valid x.p x.table.now l (formed at.In_ok-validity) (passed at.In_ok-lines) (fits at.In_ok-lasso_fits) _ (sym (start at.After-least_partner) ∙ partner_some_lem _ _ _ (sym c.ok_or.ensures.value ∙ c.in_ok-ok_or.was)))
+    (play_valid x.p x.table.now l (formed at.In_ok-validity) (passed at.In_ok-lines) (fits at.In_ok-lasso_fits) _ (sym (start at.After-least_partner) ∙ somebody_told _ _ _ (sym c.ok_or.ensures.value ∙ c.in_ok-ok_or.was)))
     _ _ (later at.After-unwrap_or-y) (earlier at.After-unwrap_or-x))

@@ -1,13 +1,11 @@
 -- The places at the two loop starts are compared, the state before the section.
-use Rattle.std.proofs.Common.{arith, sym, ◌∙◌}
-use borrow.Author.Tests.{ne_eqb}
-use Rattle.std.specs.Prelude.{false, length, true, ◌*◌, ◌≤◌}
-use Rattle.mask.specs.LogicLaws.{both}
-use Rattle.mask.specs.Tables.{table}
-use Rattle.machine.specs.Machines.{starts}
+use Rattle.std.proofs.Common.{arith}
+use Rattle.std.specs.Prelude.{length, ◌*◌, ◌≤◌}
 use Rattle.machine.specs.WellFormedLaws.{mul_bound}
 use Rattle.machine.specs.Lassos.{given}
-use Rattle.brute.specs.ScanLaws.{place_other, place_same}
+use Rattle.std.proofs.lemmas.Grind.{common_steps}
+use Rattle.mask.specs.Logic.{and}
+use Rattle.brute.specs.ScanLaws.{place_told}
 use Rattle.brute.proofs.runs.same_place.Goals as goal
 use Rattle.brute.proofs.runs.same_place.Goals.{Start}
 
@@ -33,12 +31,8 @@ overflow_add-stem-2 c = omega (arith, room (goal.at.overflow_add-stem-2 c).Start
 pub place_at-v-requires : goal.place_at-v-requires
 place_at-v-requires c = c.requires.0
 
-pub returns-then-u-v : goal.returns-then-u-v
-returns-then-u-v c =
+pub returns : goal.returns
+unfolding and
+returns c =
     let a = c.args in
-    sym (place_same a.p.now a.table.now (given a.stem.now a.cycle.now) a.x a.y _ _ c.place_at-u.ensures c.place_at-v.ensures c.if-u-v.true)
-
-pub returns-else-u-v : goal.returns-else-u-v
-returns-else-u-v c =
-    let a = c.args in
-    ne_eqb _ _ c.if-u-v.false ∙ sym (place_other a.p.now a.table.now (given a.stem.now a.cycle.now) a.x a.y _ _ c.place_at-u.ensures c.place_at-v.ensures c.if-u-v.false)
+    rw (place_told a.p.now a.table.now (given a.stem.now a.cycle.now) a.x a.y _ _ c.place_at-u.ensures c.place_at-v.ensures) (grind (arith, common_steps))

@@ -1,7 +1,6 @@
 -- The two cases of the key.
 use Rattle.std.proofs.Common.{eqb-true, sym, ◌∙◌}
 use borrow.Author.Tests.{eqb-false}
-use Rattle.std.specs.Prelude.{false, true}
 use Rattle.machine.specs.Step.{present_of}
 use Rattle.machine.specs.SingleStepLaws.{staying_here, staying_away}
 use Rattle.brute.specs.ScanLaws.{present_told}

@@ -6,8 +6,8 @@ use Rattle.mask.specs.BoundedLaws.{below_at, below_past}
 use Rattle.machine.specs.Refusals.{Tested}
 use Rattle.machine.specs.WellFormed.{has_empty_set, lowest_empty_set, sets_validity}
 use Rattle.machine.specs.declared.Refusal.TheVariants.{EmptySet}
-use Rattle.brute.proofs.machines.sets.Goals as goal
-use Rattle.brute.proofs.machines.sets.Goals.{In-Some}
+use Rattle.brute.proofs.machines.sets_nonempty.Goals as goal
+use Rattle.brute.proofs.machines.sets_nonempty.Goals.{In-Some}
 
 told : (c : In-Some) → let m = c.args.m.now in (c.in-Some.k ≡ lowest_empty_set m.sets m.fairness) × (lowest_empty_set m.sets m.fairness < 8)
 told c = below_at 8 _ (sym c.empty_set.ensures ∙ c.in-Some.is)
