@@ -10,10 +10,22 @@ use std::io;
 
 // Writes the rest of a series' line.
 fn counts(rt: &impl Print, t: Tally) -> io::Result<()> {
-    print!(rt; ": pairs {}, well formed {}, solved {}, carried {}; ", t.pairs, t.formed, t.solved, t.carried)?;
-    print!(rt; "tables {}, passing {}, carried {}, ", t.tables, t.passing, t.carrying)?;
-    print!(rt; "beside an empty set {}; lassos {}, runs {}; ", t.empty, t.lassos, t.runs)?;
-    print!(rt; "turns {}, finished {}; look-ups {}, ", t.turns, t.finished, t.lookups)?;
+    print!(rt;
+        ": pairs {}, well formed {}, solved {}, carried {}; ",
+        t.pairs, t.formed, t.solved, t.carried
+    )?;
+    print!(rt;
+        "tables {}, passing {}, carried {}, ",
+        t.tables, t.passing, t.carrying
+    )?;
+    print!(rt;
+        "beside an empty set {}; lassos {}, runs {}; ",
+        t.empty, t.lassos, t.runs
+    )?;
+    print!(rt;
+        "turns {}, finished {}; look-ups {}, ",
+        t.turns, t.finished, t.lookups
+    )?;
     println!(rt; "still in {}; differing {}", t.held, t.differing)
 }
 
@@ -26,7 +38,10 @@ fn line(rt: &impl Print, s: Series) -> io::Result<()> {
     if c.twos != 0 {
         print!(rt; "hidden {}, ", s.hidden)?;
     }
-    print!(rt; "states {} and {}, sets {} and {}", c.states, a.states, c.sets, a.sets)?;
+    print!(rt;
+        "states {} and {}, sets {} and {}",
+        c.states, a.states, c.sets, a.sets
+    )?;
     counts(rt, t)
 }
 

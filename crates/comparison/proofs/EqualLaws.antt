@@ -9,7 +9,6 @@ use Rattle.std.specs.contracts.prelude.UnitPartialEq.TheImpl as unit
 use Rattle.machine.specs.contracts.RefusalPartialEq.TheImpl as refusal
 use Rattle.machine.specs.contracts.CheckedPartialEq.TheImpl as checked
 use Rattle.machine.specs.contracts.RunPartialEq.TheImpl as run
-use Rattle.machine.specs.declared.Refusal.{Refusal}
 use Rattle.machine.specs.declared.Checked.{Checked}
 use Rattle.machine.specs.declared.Run.{Run}
 use Rattle.machine.specs.Refusals.{Answer, Tested}

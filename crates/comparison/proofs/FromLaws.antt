@@ -1,6 +1,6 @@
 -- What `all` gives over a range that does not start at 0, in the words of `every`. It is `all_range` of Rattle.mask.proofs.RangeLaws, with any start.
-use Rattle.std.specs.Prelude.{◌≡◌, refl, Bool, true, false, ℕ, ◌+◌, ◌-◌, ◌<◌, get_or, ltb, MatchBool}
-use Rattle.std.proofs.Common.{sym, ◌∙◌, subst, zero-le, arith, lt-ltb, le-ltb}
+use Rattle.std.specs.Prelude.{◌≡◌, refl, Bool, true, false, ℕ, ◌+◌, ◌-◌, ◌<◌, ltb, MatchBool}
+use Rattle.std.proofs.Common.{sym, subst, zero-le, arith, lt-ltb, le-ltb}
 use Rattle.std.proofs.Math.Logic.{by_cases}
 use Rattle.std.proofs.Math.Decide.{dec_lt}
 use denote.Param.Members.{Mut}
@@ -35,4 +35,4 @@ pub all_from : {F : Type 0} {a n : ℕ} {p : ℕ → Bool} {f : F} {g : Mut F (�
 all_from {a = a} {n = n} {p = p} {f = f} {u = u} {r = r} c k =
     let long = length-range_with_len a (n - a) in
     told a n p r (subst (λ (m : ℕ). MatchBool r (AllWithin (Tells a n p true) (range_with_len a (n - a)) 0 m) ((k : ℕ) × (k < m) × HoldsAt (Tells a n p false) (range_with_len a (n - a)) k)) long
-        (cases_from_all u f r (Tells a n p true) (Tells a n p false) c (YieldsList-from_range a n (n - a) refl refl) (λ x q h. k x true q h) (λ x q h. (k x false q h).1)))
+    (cases_from_all u f r (Tells a n p true) (Tells a n p false) c (YieldsList-from_range a n (n - a) refl refl) (λ x q h. k x true q h) (λ x q h. (k x false q h).1)))

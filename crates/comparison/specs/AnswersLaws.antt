@@ -1,9 +1,8 @@
 -- Laws of answers that are compared.
-use Rattle.std.specs.Prelude.{◌≡◌, refl, Bool, true, false, cond, ◌==◌, ℕ, List, [], ◌∷◌, bytes_eq, Ok, Err}
+use Rattle.std.specs.Prelude.{◌≡◌, refl, Bool, cond, ◌==◌, ℕ, List, [], ◌∷◌, Ok, Err}
 use Rattle.std.specs.Bool.{Decides}
 use Rattle.std.specs.Cmp.{booleans_Decides}
 use Rattle.std.proofs.Common.{sym, ap, ◌∙◌}
-use Rattle.std.proofs.Math.Bool.{beq}
 use Rattle.std.proofs.lemmas.Bool.Decides.{Decides-eqb}
 use Rattle.std.proofs.lemmas.Slice.Eq.{bytes_eq-Decides}
 use Rattle.mask.specs.Logic.{and}
@@ -17,7 +16,6 @@ use Rattle.machine.specs.declared.Checked.{Checked}
 use Rattle.machine.specs.declared.Run.{Run}
 use Rattle.machine.specs.Refusals.{Answer, four_numbers, pass_on}
 use Rattle.machine.specs.RefusalsLaws.{answer_is, refused_is, refused_not_answer}
-use Rattle.machine.specs.WellFormed.{has_empty_set}
 use Rattle.machine.specs.Verdict.{check_verdict, verdict_of, check_empty_set, empty_set_of, empty_set_told}
 use Rattle.comparison.specs.Answers.{same_refusal, same_answer, same_unit, same_verdict, same_checked, same_run, check_answer}
 

@@ -1,6 +1,6 @@
 -- Laws of the player's comparison.
-use Rattle.std.specs.Prelude.{◌≡◌, ℕ, zero, suc, ◌+◌, ◌*◌, ◌^◌, ◌<◌, ◌≤◌, refl, Bool, true, List, length, take, drop, slice_index, nat_eq}
-use Rattle.std.proofs.Common.{◌∙◌, sym, le-leb, arith}
+use Rattle.std.specs.Prelude.{◌≡◌, ℕ, zero, suc, ◌+◌, ◌*◌, ◌^◌, ◌≤◌, refl, Bool, List, length, take, drop, slice_index, nat_eq}
+use Rattle.std.proofs.Common.{◌∙◌, le-leb, arith}
 use native.Mathlib.Nat.{pow-suc, one-mul}
 use native.Mathlib.Numerals.{unary_clauses}
 use Rattle.std.proofs.Math.Path.{ap}

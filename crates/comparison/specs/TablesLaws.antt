@@ -1,5 +1,5 @@
 -- Laws of one table's counts, and of tables laid over the front of a buffer.
-use Rattle.std.specs.Prelude.{◌≡◌, ℕ, ◌<◌, Bool, true, false, cond, List, length, ◌==◌, ◌≢◌, nat_lt, slice_index, refl, Ok, Err}
+use Rattle.std.specs.Prelude.{◌≡◌, ℕ, Bool, true, false, cond, List, length, ◌==◌, ◌≢◌, nat_lt, slice_index, refl, Ok, Err}
 use Rattle.std.proofs.Common.{sym, ◌∙◌, ap, eq-eqb, ne_eqb}
 use Rattle.mask.specs.Logic.{and, or, not}
 use Rattle.mask.specs.LogicLaws.{and_true_r}

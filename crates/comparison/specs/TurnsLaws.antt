@@ -1,19 +1,16 @@
 -- Laws of what is compared of the solver by turns, case by case.
-use Rattle.std.specs.Prelude.{◌≡◌, ℕ, suc, ◌+◌, ◌*◌, ◌<◌, ◌≤◌, Bool, true, false, cond, List, length, ◌==◌, ◌≢◌, nat_lt, slice_index, Ok, Err}
-use Rattle.std.proofs.Common.{◌∙◌, sym, arith, eq-eqb, le-ltb, lt-ltb, ne_eqb}
-use Rattle.mask.specs.BoundedLaws.{every_not, every_of}
+use Rattle.std.specs.Prelude.{◌≡◌, ℕ, suc, ◌+◌, Bool, true, false, cond, List, length, Ok, Err}
+use Rattle.std.proofs.Common.{◌∙◌, sym}
 use Rattle.std.proofs.Math.Bool.{beq}
-use Rattle.mask.specs.Logic.{and, or}
-use Rattle.mask.specs.LogicLaws.{or_false, or_l, or_r}
+use Rattle.mask.specs.Logic.{and}
 use Rattle.machine.specs.declared.Refusal.{Refusal}
 use Rattle.machine.specs.Refusals.{Answer}
-use Rattle.machine.specs.Table.{table_room}
 use Rattle.progress.specs.Turns.{first_answer, turn_family}
 use Rattle.comparison.specs.declared.tally.Tally.{Tally}
 use Rattle.comparison.specs.declared.turns.Known.{Known}
 use Rattle.comparison.specs.Answers.{same_answer, says_yes}
 use Rattle.comparison.specs.Tallies.{nothing, of_test, plus}
-use Rattle.comparison.specs.Turns.{end_agrees, family_tally, kept_from, made_agrees, mark, marks, plain_agrees, left_fits, same_rows, stopped_agrees, turn_agrees, turn_said, walk_tally, walked, walked_from}
+use Rattle.comparison.specs.Turns.{end_agrees, family_tally, kept_from, made_agrees, marks, plain_agrees, left_fits, same_rows, stopped_agrees, turn_agrees, turn_said, walk_tally, walked, walked_from}
 
 -- ---- a turn beside brute force
 module _ (k : Known) (said : Answer Bool) (F N T : List ℕ) {same told : Bool} (es : same ≡ same_rows F N) where

@@ -52,8 +52,7 @@ fn verdict_fits(own: Tally, every: bool, carrying: u64) -> bool
 fn solution_agrees(p: Pair, n: usize, fits: bool, lifted: &[u16], solved: &[u16]) -> bool
     ensures { result ≡ solution_agrees p n fits lifted.now solved.now }
 {
-    fits
-        && is_within(n, lifted, solved)
+    fits && is_within(n, lifted, solved)
         && is_within(n, solved, lifted)
         && brute::is_ranked(p, Compared::Ranks, lifted, solved)
 }

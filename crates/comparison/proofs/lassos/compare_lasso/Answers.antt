@@ -1,5 +1,4 @@
 -- Both answers and the run are those of the definition, by the contracts of player and plain reading.
-use Rattle.std.proofs.Common.{rules, arith}
 use Rattle.comparison.specs.Lassos.{lasso_tally}
 use Rattle.comparison.proofs.lassos.compare_lasso.Goals as goal
 

@@ -1,6 +1,6 @@
-use Rattle.std.proofs.Common.{◌≡◌, ◌≤◌, ◌+◌, ◌*◌, ◌∙◌, arith, rules}
+use Rattle.std.proofs.Common.{◌≤◌, ◌+◌, ◌∙◌, arith, rules}
 use Rattle.machine.specs.WellFormedLaws.{mul_bound}
-use Rattle.comparison.specs.Lassos.{lasso_tally, numbered_lasso, power, shape_tally}
+use Rattle.comparison.specs.Lassos.{lasso_tally, numbered_lasso, shape_tally}
 use Rattle.comparison.specs.LassosLaws.{power_is, power_small}
 use Rattle.comparison.proofs.lassos.compare_shape.Goals as goal
 

@@ -1,8 +1,5 @@
 -- The invariant: the sum of the first x tables, and that a table laid over the used buffer is the one laid over the first.
-use Rattle.std.proofs.Common.{◌≡◌, sym, ◌∙◌, arith, rules}
-use lib.ListN.{length-replicate}
-use Rattle.std.specs.Prelude.{ℕ}
-use Rattle.machine.specs.Table.{table_room}
+use Rattle.std.proofs.Common.{◌≡◌, arith, rules}
 use Rattle.comparison.specs.Tallies.{nothing, total}
 use Rattle.comparison.specs.TablesLaws.{reused_start, reused_tally, reused_turn}
 use Rattle.comparison.specs.TalliesLaws.{total_more}

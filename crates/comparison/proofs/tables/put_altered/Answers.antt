@@ -1,6 +1,6 @@
 -- The invariant: the first e entries are those of the altered table, and the others are as they were.
-use Rattle.std.proofs.Common.{◌∙◌, arith, rules}
-use Rattle.mask.specs.FrontLaws.{front_length, front_none, front_over, front_turn}
+use Rattle.std.proofs.Common.{arith, rules}
+use Rattle.mask.specs.FrontLaws.{front_none, front_over, front_turn}
 use Rattle.comparison.specs.Tables.{altered}
 use Rattle.comparison.specs.TablesLaws.{entry_changed, entry_kept}
 use Rattle.comparison.proofs.tables.put_altered.Goals as goal

@@ -1,4 +1,4 @@
-use Rattle.std.proofs.Common.{◌≡◌, ◌+◌, ◌/◌, ◌%◌, ◌≤◌, cond, eqb, length, get_or}
+use Rattle.std.proofs.Common.{◌≡◌, ◌+◌, ◌/◌, ◌%◌, ◌≤◌, cond, eqb, get_or}
 use Rattle.mask.specs.Tables.{front}
 use Rattle.brute.specs.Numbers.{entry_of}
 use Rattle.comparison.proofs.tables.put_altered.Given as goal

@@ -1,4 +1,3 @@
-use Rattle.std.proofs.Common.{arith}
 use Rattle.comparison.specs.Turns.{look_up_tally}
 use Rattle.comparison.proofs.EqualLaws.{bools_told}
 use Rattle.comparison.proofs.turns.Known.compare_look_up.Goals as goal

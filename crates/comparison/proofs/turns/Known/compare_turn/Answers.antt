@@ -1,5 +1,4 @@
 -- What was said, left and written is that of the definitions, by the turn's contract.
-use Rattle.std.proofs.Common.{◌∙◌}
 use Rattle.comparison.specs.Turns.{turn_tally, turn_said}
 use Rattle.comparison.proofs.turns.Known.compare_turn.Goals as goal
 

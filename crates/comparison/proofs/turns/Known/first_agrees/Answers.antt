@@ -1,5 +1,3 @@
-use Rattle.std.proofs.Common.{◌∙◌, sym, arith}
-use Rattle.std.proofs.lemmas.Grind.{common_steps}
 use Rattle.mask.specs.Logic.{and}
 use Rattle.comparison.specs.Turns.{first_agrees, given_agrees}
 use Rattle.comparison.proofs.EqualLaws.{units_told}
