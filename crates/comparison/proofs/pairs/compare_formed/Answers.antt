@@ -1,5 +1,5 @@
 -- Each call has its part of the definition as its contract.
-use Rattle.std.proofs.Common.{arith, rules}
+use Rattle.std.proofs.Common.{arith}
 use Rattle.machine.specs.WellFormedLaws.{WellPair, well_pair, pairs_small, ranks_small, entries_small}
 use Rattle.comparison.specs.Pairs.{formed_tally, tables_tally}
 use Rattle.comparison.proofs.pairs.compare_formed.Goals as goal
