@@ -24,7 +24,7 @@ use Rattle.soundness.specs.Statements.{CheckUnread, PlayerUnread}
 use Rattle.restore.specs.Restoring.{restore_answer, restore_buffer}
 use Rattle.solver.specs.Solver.{solve_validity, solved_table}
 use Rattle.hanoi.specs.Statements.{TextTellsMachine, TextFits, LongestText}
-use Rattle.progress.specs.Turns.{first_given, turn_answer, turn_family, turn_table, look_up_answer}
+use Rattle.progress.specs.Turns.{first_answer, first_given, turn_answer, turn_family, turn_table, look_up_answer}
 use Rattle.progress.specs.Statements.{TurnsFinish, OnlyFinishedWrites, FinishedSettles, StruckOutIsFinal, FinishedTells, FirstIsMatched, SolverIsTurns}
 use Rattle.machine.specs.declared.Verdict.TheVariants.{Carried}
 
@@ -108,10 +108,11 @@ FileSolverRefusesEmpty = (f first : List ℕ) (p : Pair) (note : Bool) → read_
     → (buffer : List ℕ) → file_room ≤ length buffer
     → (r : Refusal) × TellsEmptySet p r × (restore_answer f buffer ≡ Err r) × (restore_buffer f buffer ≡ buffer)
 
--- and so do the calls of the solver by turns, of any family, section and states: the family comes back as it was, and is zeros from the first call
+-- and so do the calls of the solver by turns, of any family, section and states: the family comes back as it was; the first call gives none, and
+-- lists of turns begin with zeros
 abbrev pub TurnsRefuseEmpty : Type 0
 TurnsRefuseEmpty = (p : Pair) (F T : List ℕ) (j c a : ℕ) → well_formed p ≡ true → nonempty_sets p ≡ false → table_room ≤ length T
-    → (r : Refusal) × TellsEmptySet p r × ((nonempty_validity p ≡ Err r) × (first_given p ≡ replicate 448 0))
+    → (r : Refusal) × TellsEmptySet p r × ((first_answer p ≡ Err r) × (nonempty_validity p ≡ Err r) × (first_given p ≡ replicate 448 0))
     × ((turn_answer p F (length T) ≡ Err r) × (turn_family p F (length T) ≡ F) × (turn_table p F T ≡ T)) × (look_up_answer p F j c a ≡ Err r)
 
 abbrev pub EmptySetsAreRefused : Type 0
