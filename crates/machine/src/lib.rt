@@ -2,10 +2,11 @@
 // here too; crate `validity` tests it.
 #![tactic(auto)]
 
-ghost use Rattle.std.specs.Prelude.{◌≡◌, ℕ, get_or};
+ghost use Rattle.std.specs.Prelude.{true, ◌≡◌, ℕ, get_or};
 ghost use Rattle.std.proofs.lemmas.List.Edits.{sets};
 ghost use Rattle.mask.specs.Bits.{has_bit};
 ghost use Rattle.machine.specs.Machines.{same_observation, next};
+ghost use Rattle.machine.specs.WellFormed.{well_formed};
 ghost use Rattle.machine.specs.Refusals.{number_of, spot_of, four_numbers, answer_in, spot_after};
 ghost use Rattle.machine.specs.Step.{partner, present_of, single_step, found, alike, in_row};
 ghost use Rattle.machine.specs.Observed.{same_mask, matched_masks};
@@ -29,6 +30,20 @@ pub struct Pair {
     pub concrete: Machine,
     pub abstraction: Machine,
     pub hidden: u8,
+}
+
+// A pair of well-formed machines: who holds one need not test it again.
+#[derive(Clone, Copy)]
+pub struct Formed<'a> {
+    pub pair: &'a Pair,
+    pub ghost well: { well_formed pair.now ≡ true },
+}
+
+// A lasso, as its stem and its loop are lent.
+#[derive(Clone, Copy)]
+pub struct Lasso<'a> {
+    pub stem: &'a [u8],
+    pub cycle: &'a [u8],
 }
 
 // The least length of a lent table, in entries: 7 x 64 x 64.
