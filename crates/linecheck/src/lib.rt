@@ -1,7 +1,7 @@
 // The line check: document 01, "Line check". It sees the machines and the step, and not the solver.
 // Cost: for each non-blank entry and each successor of its concrete state, one search among the successors of its abstract state, which stops
 // at the first that serves: at most n x nC x nA x nC x nA looks at an entry, and on passing tables far fewer. Nothing divides but by fixed powers
-// of two.
+// of two. A table is one buffer of entries, as document 01 and the files have it; `entry_index` tells where an entry or a row lies.
 #![tactic(auto)]
 
 ghost use Rattle.std.specs.Prelude.{◌≡◌, ◌+◌, ◌<◌, ◌≤◌, length, get_or, eqb, Ok};
@@ -28,7 +28,7 @@ struct Line {
     bound: u16,
 }
 
-// An entry's l and k, k counted from 0.
+// An entry's l and k, k counted from 0. Brute force has the same struct of its own, as it shares nothing with the product.
 #[derive(Clone, Copy)]
 struct Level {
     level: usize,
@@ -68,7 +68,7 @@ fn level_of(m: usize, e: u16) -> Level
 }
 
 // What the entry e of (j, c, a) asks, by document 01's lines; nothing if it fails before any step. `most` is m x P, `next` the section after j;
-// `matched` has the states that are matched with c.
+// `matched` has the states that are matched with c. It has ten parameters, as the loops around it make each of them no more often than it changes.
 fn line_of(
     m: usize,
     most: usize,
@@ -112,8 +112,7 @@ fn failing_entry(j: usize, c: usize, a: usize) -> Refusal
     Refusal::FailingEntry { section, c, a }
 }
 
-// Whether each line of a table holds, and if not where the first is that fails. The loops are left by their label (document 01 names this form), and
-// the refusal is made only there: made before each line it took a third more time on dense tables.
+// Whether each line of a table holds, and if not where the first is that fails. The loops are left by their label: document 01 names this form.
 fn lines_validity(formed: Formed, matched: [u64; 64], table: &[u16]) -> Result<(), Refusal>
     requires { (matched ≡ matched_masks formed.pair.now) × (table_room ≤ length table.now) }
     ensures { result ≡ lines_validity formed.entry.pair.now table.now }

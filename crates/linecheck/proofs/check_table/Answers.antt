@@ -26,9 +26,6 @@ returns-in_err-pair_validity c =
 pub invariant_of-formed : goal.invariant_of-formed
 invariant_of-formed c = record { well = valid_is_well c.args.p (sym c.pair_validity.ensures ∙ c.in_ok-pair_validity.was) }
 
-pub lines_validity-requires : goal.lines_validity-requires
-lines_validity-requires c = (c.matched_masks.ensures, omega arith)
-
 pub returns-in_err-lines_validity : goal.returns-in_err-lines_validity
 unfolding verdict_of empty_set_of
 returns-in_err-lines_validity c =
