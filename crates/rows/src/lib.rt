@@ -18,13 +18,7 @@ use std::array;
 fn movers(n: usize, moves: &[u64; 64], b: usize) -> u64
     ensures { result ≡ movers_of n moves.now b }
 {
-    let mut m = 0;
-    for a in 0..n.min(64) {
-        if mask::has(moves[a], b) {
-            m = mask::with(m, a);
-        }
-    }
-    m
+    mask::those(n, |a| mask::has(moves[a], b))
 }
 
 // For each state below n the mask of the states below n that move to it.
@@ -171,13 +165,7 @@ fn row_upto(row: &[u16], bound: u16) -> u64
     requires { length row.now ≤ 64 }
     ensures { result ≡ row_upto row.now bound }
 {
-    let mut m = 0;
-    for a in 0..row.len() {
-        if row[a] <= bound {
-            m = mask::with(m, a);
-        }
-    }
-    m
+    mask::those(row.len(), |a| row[a] <= bound)
 }
 
 // The pairs of a section whose entry is at most the bound; none where the entries are no section of nc by na, of at most 64 by 64.

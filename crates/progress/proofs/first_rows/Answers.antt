@@ -1,7 +1,7 @@
 -- Each section has the matched pairs.
 use Rattle.std.proofs.Common.{rules, tests}
 use Rattle.machine.specs.WellFormedLaws.{well_pair}
-use Rattle.rows.proofs.MadeLaws.{made_table}
+use Rattle.mask.proofs.MadeLaws.{made_table}
 use Rattle.progress.specs.TurnsLaws.{first_made}
 use Rattle.progress.proofs.first_rows.Goals as goal
 
