@@ -59,6 +59,10 @@ module _ (p : Pair) where
   unfolding first_given
   first_given_lem e = sym (state_made _ _ _ e)
 
+  pub first_given_zeros : {r : Refusal} → nonempty_validity p ≡ Err r → first_given p ≡ replicate 448 0
+  unfolding first_given
+  first_given_zeros e = state_kept _ _ _ e
+
   pub first_of : nonempty_validity p ≡ valid → first_answer p ≡ Ok (first_rows p)
   unfolding first_answer
   first_of e = then_of _ _ e
