@@ -76,7 +76,7 @@ module _ (p : Pair) (c : ℕ) (k : c < 64) where
   Same a = same_observation p.hidden (get_or p.concrete.observations c 0) (get_or p.abstraction.observations a 0)
 
   row_is : c < n_c p → get_or (matched_masks p) c 0 ≡ mask_of (min (n_a p) 64) Same
-  unfolding same_mask
+  unfolding same_mask observation
   row_is l = matched_at p c k ∙ row_in p c l
 
   has_row : (a : ℕ) → c < n_c p → a < min (n_a p) 64 → has_bit (get_or (matched_masks p) c 0) a ≡ matched p c a
