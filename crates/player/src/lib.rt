@@ -280,7 +280,8 @@ impl Place {
     }
 }
 
-// The number, below 448, of a state a and a section j: the place of their mark in document 01's one array. It takes a modulo 64 and j modulo 7, so that any have an answer; states and sections are less.
+// The number, below 448, of a state a and a section j: the place of their mark in document 01's one array. It takes a modulo 64 and j modulo 7, so
+// that any have an answer; states and sections are less.
 fn number_of(a: usize, j: usize) -> usize
     ensures { result ≡ number_of a j }
 {
