@@ -200,7 +200,7 @@ fn without(x: u64, y: u64) -> u64
     x ^ (x & y)
 }
 
-// Writes the entry v for each state of the row.
+// Writes the entry v for each state of the row, in a walk of its own: `fold_rows` makes one value of many rows.
 fn write_row(row: u64, v: u16, part: &mut [u16])
     ensures { part.new ≡ write_row row v part.old }
 {

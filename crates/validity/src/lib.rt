@@ -18,7 +18,7 @@ pub enum Sets {
     Nonempty,
 }
 
-// Whether a machine has 1 to 64 states and 1 to `limit` sets.
+// Whether a machine has 1 to 64 states and 1 to `limit` sets; of counts by themselves, since the reader tests them before there is a machine.
 pub fn counts_ok(limit: usize, states: usize, sets: usize) -> bool
     ensures { result ≡ counts_ok limit states sets }
 {
@@ -52,7 +52,8 @@ fn mask_beyond(states: usize, count: usize, mask: u64, i: usize) -> bool
     }
 }
 
-// Whether some of these masks does, of which the first `count` are used.
+// Whether some of these masks does, of which the first `count` are used. Here and in `first_empty` the count stands beside the masks, and they are not cut
+// there: it may be any number.
 fn masks_beyond(states: usize, count: usize, masks: &[u64]) -> bool
     ensures { result ≡ some (length masks.now) (set_beyond states count masks.now) }
 {
