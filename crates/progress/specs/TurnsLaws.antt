@@ -195,6 +195,10 @@ module _ (p : Pair) (j c a : ℕ) where
 
   -- the tests in their order decide the answer
   module _ (F : List ℕ) where
+    pub looked_stopped : {r : Refusal} → nonempty_validity p ≡ Err r → look_up_answer p F j c a ≡ Err r
+    unfolding look_up_answer
+    looked_stopped e = then_refused _ _ _ e
+
     pub looked_refused : {r : Refusal} → and_then (nonempty_validity p) (range_validity p j c a) ≡ Err r → look_up_answer p F j c a ≡ Err r
     unfolding look_up_answer
     looked_refused e = sym (then_then (nonempty_validity p) (range_validity p j c a) _) ∙ then_refused _ _ _ e
