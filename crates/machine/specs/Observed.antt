@@ -8,6 +8,10 @@ use Rattle.machine.specs.Machines.{observation, same_observation, n_c, n_a}
 unfoldable pub same_mask : ℕ → ℕ → ℕ → List ℕ → ℕ
 same_mask hidden o n observations = mask_of (min n 64) (λ a. same_observation hidden o (get_or observations a 0))
 
--- for each concrete state the mask of the abstract states that are matched with it
+-- the mask of the abstract states that are matched with concrete state c; none for a number that is no state
+unfoldable pub matched_row : Pair → ℕ → ℕ
+matched_row p c = let row = same_mask p.hidden (observation p.concrete c) (n_a p) p.abstraction.observations in cond (ltb c (n_c p)) row 0
+
+-- the masks of all of them
 unfoldable pub matched_masks : Pair → List ℕ
-matched_masks p = table 64 (λ c. let row = same_mask p.hidden (observation p.concrete c) (n_a p) p.abstraction.observations in cond (ltb c (n_c p)) row 0)
+matched_masks p = table 64 (matched_row p)

@@ -2,17 +2,21 @@
 // here too; crate `validity` tests it.
 #![tactic(auto)]
 
-ghost use Rattle.std.specs.Prelude.{true, ◌≡◌, ℕ, get_or};
+ghost use Rattle.std.specs.Prelude.{true, ◌≡◌, ◌<◌, ℕ, get_or};
 ghost use Rattle.std.proofs.lemmas.List.Edits.{sets};
 ghost use Rattle.mask.specs.Bits.{has_bit};
 ghost use Rattle.machine.specs.Machines.{same_observation, next};
 ghost use Rattle.machine.specs.WellFormed.{well_formed};
 ghost use Rattle.machine.specs.Refusals.{number_of, spot_of, four_numbers, answer_in, spot_after};
 ghost use Rattle.machine.specs.Step.{partner, present_of, single_step, found, alike, in_row};
-ghost use Rattle.machine.specs.Observed.{same_mask, matched_masks};
+ghost use Rattle.machine.specs.Observed.{matched_row, matched_masks};
 ghost use Rattle.machine.specs.Table.{place_of};
 
+use std::array;
+
 // A finite machine with fairness sets. Document 01: the rig is the concrete machine, the score the abstract one.
+// Counts stand beside arrays of the largest size, and what a state has in two arrays, as document 01 files them: memory is fixed, and entries past
+// the counts are tested.
 #[derive(Clone, Copy)]
 pub struct Machine {
     pub states: usize,
@@ -42,7 +46,7 @@ pub struct Formed<'a> {
 // The least length of a lent table, in entries: 7 x 64 x 64.
 pub const TABLE_ROOM: usize = 28672;
 
-// The entry of a pair that is not covered.
+// The entry of a pair that is not covered. It is a number and no option, since tables lie in memory and in files as document 01 has them.
 pub const BLANK: u16 = 65535;
 
 // What C is told of a file without a table, where other numbers are refusals'.
@@ -188,40 +192,26 @@ pub fn same_observation(hidden: u8, x: u8, y: u8) -> bool
     hidden | x == hidden | y
 }
 
-// The mask of the states below n, and below 64, whose observation is o in the bits that are not hidden.
-fn same_mask(hidden: u8, o: u8, n: usize, observations: &[u8; 64]) -> u64
-    ensures { result ≡ same_mask hidden o n observations.now }
+// The mask of the abstract states that are matched with concrete state s; none for a number that is no state.
+fn matched_row(p: &Pair, s: usize) -> u64
+    requires { s < 64 }
+    ensures { result ≡ matched_row p.now s }
 {
-    let mut m: u64 = 0;
-    for a in 0..n.min(64) {
-        if same_observation(hidden, o, observations[a]) {
-            m = mask::with(m, a);
-        }
+    let (c, a) = (&p.concrete, &p.abstraction);
+    if s < c.states {
+        mask::those(a.states, |t| {
+            same_observation(p.hidden, c.observations[s], a.observations[t])
+        })
+    } else {
+        0
     }
-    m
 }
 
 // For each concrete state the mask of the abstract states that are matched with it.
 pub fn matched_masks(p: Pair) -> [u64; 64]
     ensures { result ≡ matched_masks p }
 {
-    let c = p.concrete;
-    let a = p.abstraction;
-    let hidden = p.hidden;
-    let concrete = c.observations;
-    let abstraction = a.observations;
-    let nc = c.states;
-    let na = a.states;
-    let mut out = [0u64; 64];
-    for s in 0..64 {
-        let row = if s < nc {
-            same_mask(hidden, concrete[s], na, &abstraction)
-        } else {
-            0
-        };
-        out[s] = row;
-    }
-    out
+    array::from_fn(|s| matched_row(&p, s))
 }
 
 // ---- The single step
@@ -241,6 +231,7 @@ pub fn partner_in(present: Option<usize>, moves: u64, row: u64) -> Option<usize>
 }
 
 // Of the moves that are matched with c' and whose entry is at most the bound, the one of least entry, the lowest of these.
+// A walk over the ones of a mask, as in `has_partner`: `min_by_key` or `any` would go over all 64 numbers, in the innermost loop of player and check.
 fn least_within(moves: u64, matched: u64, row: &[u16], bound: u16) -> Option<usize>
     ensures { result ≡ partner moves (in_row matched row.now bound) (λ a. get_or row.now a 0) }
 {
@@ -264,7 +255,7 @@ fn least_within(moves: u64, matched: u64, row: &[u16], bound: u16) -> Option<usi
 
 // The single step, in the abstract state `present`, or before the first state, into a set that is given by its entries beside c' and a bound: of
 // the moves that are matched with c' and whose entry is at most the bound, those of least entry; of these the present state if it is among them,
-// else the lowest.
+// else the lowest. Moves, row and bound come one by one: callers have them from three places, and nothing holds all of them.
 pub fn partner_within(
     present: Option<usize>,
     moves: u64,
@@ -316,7 +307,8 @@ pub fn next_section(n: usize, j: usize) -> usize
     if j + 1 < n { j + 1 } else { 0 }
 }
 
-// The place in a table of entry (j, c, a). It takes each number modulo 256, so that any have an answer; counts, sections and states are less.
+// The place in a table of entry (j, c, a): document 01 has one flat list, so that counts and numbers come one by one. It takes each number
+// modulo 256, so that any have an answer; counts, sections and states are less.
 pub fn entry_index(nc: usize, na: usize, j: usize, c: usize, a: usize) -> usize
     ensures { result ≡ place_of nc na j c a }
 {

@@ -1,7 +1,9 @@
 -- What `any`, `all`, `find`, `position` and `count` give over a range and over a slice of numbers, in the words of `some`, `every`, `first` and `count`.
 -- The closure has one premise: a call of it leaves it as it was, and gives the test's answer at the number, or at each place of the slice that holds the number.
-use Rattle.std.specs.Prelude.{◌≡◌, refl, Bool, true, false, cond, ℕ, zero, suc, ◌+◌, ◌<◌, ◌≤◌, List, [], ◌∷◌, length, get_or, ltb, eqb, Option, Some, None, MatchBool, MatchOption}
+use Rattle.std.specs.Prelude.{◌≡◌, refl, Bool, true, false, cond, ℕ, suc, ◌+◌, ◌-◌, ◌<◌, ◌≤◌, List, [], ◌∷◌, length, get_or, ltb, eqb, Option, Some, None, MatchBool, MatchOption}
 use Rattle.std.proofs.Common.{sym, ap, subst, ◌∙◌, zero-le, zero-add, arith, lt-ltb, le-ltb, eq-eqb, eqb-true, ext_get_or}
+use Rattle.std.proofs.Math.Logic.{by_cases}
+use Rattle.std.proofs.Math.Decide.{dec_lt}
 use lib.Pointwise.{pointwise, bytes_decides}
 use denote.Param.Members.{Mut}
 use denote.Ref.{Bor}
@@ -17,7 +19,8 @@ use Rattle.std.proofs.iter.Yields.{fronts, nat_range_steps}
 use Rattle.std.proofs.lemmas.Iterator.{YieldsList, YieldsList-from_slice, YieldsList-from_range, cases_from_any, cases_from_all, IsFirst-from_position, first_from_Range}
 use Rattle.std.proofs.lemmas.List.FromFn.{length-range_with_len, get_or-range_with_len}
 use Rattle.mask.specs.Bounded.{some, every, first, below, count}
-use Rattle.mask.specs.LogicLaws.{both}
+use Rattle.mask.specs.Logic.{or}
+use Rattle.mask.specs.LogicLaws.{both, or_l, or_r, or_false_l}
 use Rattle.mask.specs.BoundedLaws.{some_of, some_none, every_of, every_at, every_not, first_is, first_none, count_front, count_zero}
 
 no_first : (n : ℕ) (p : ℕ → Bool) → ((i : ℕ) → i < n → p i ≡ false) → None ≡ below n (first n p)
@@ -90,6 +93,19 @@ module _ {F : Type 0} {n : ℕ} {p : ℕ → Bool} {f : F} where
       found : (r : Option ℕ) → MatchOption r ((i : ℕ) → 0 ≤ i → i < n → i < n → false ≡ p i) (λ i. (0 ≤ i) × (i < n) × (i < n → true ≡ p i) × ((j : ℕ) → 0 ≤ j → j < i → j < n → false ≡ p j)) → r ≡ below n (first n p)
       found None h = no_first n p (λ i l. sym (h i zero-le l l))
       found (Some i) h = let l : i < n = h.1 in is_first n p i l (sym (h.2 l)) (λ j a. sym (h.3 j zero-le a (omega arith)))
+
+-- ---- over a range from any start
+every_from : (a n : ℕ) (p : ℕ → Bool) → every (n - a) (λ i. p (a + i)) ≡ every n (λ e. or (ltb e a) (p e))
+every_from a n p = both _ _
+    (λ t. every_of n _ (λ e l. by_cases (dec_lt e a) (λ q. or_l _ (lt-ltb e a q))
+    (λ q. let s : a + (e - a) ≡ e = omega arith in or_r _ (subst (λ (x : ℕ). p x ≡ true) s (every_at (n - a) _ t (e - a) (omega arith))))))
+    (λ t. every_of (n - a) _ (λ i l. sym (or_false_l _ (le-ltb (a + i) a (omega arith))) ∙ every_at n _ t (a + i) (omega arith)))
+
+pub all_from : {F : Type 0} {a n : ℕ} {p : ℕ → Bool} {f : F} {g : Mut F (ℕ × Unit {0}) Bool} {u : Range ℕ} {r : Bool} → ChecksAll nat_range_steps g (record { start = a; end = n }) f r u
+    → ((x : ℕ) (b : Bool) (q : F) → Called g f (x, tt) b q → (q ≡ f) × (x < n → b ≡ p x)) → r ≡ every n (λ e. or (ltb e a) (p e))
+all_from {a = a} {n = n} {p = p} {f = f} {u = u} {r = r} c k =
+    all_places u f 0 (n - a) (λ i. p (a + i)) r c (YieldsList-from_range a n (n - a) refl refl) (length-range_with_len a (n - a))
+    (λ x b q h. let t = k x b q h in (t.0, λ i l e. let s : x ≡ a + i = e ∙ get_or-range_with_len a (n - a) i 0 l in subst (λ (y : ℕ). b ≡ p y) s (t.1 (omega arith)))) ∙ every_from a n p
 
 -- ---- over a slice of numbers
 module _ {F : Type 0} {n : ℕ} {p : ℕ → Bool} {s u : Iter ℕ} {f : F} {xs : List ℕ} {g : Mut F (Bor ℕ × Unit {0}) Bool} where

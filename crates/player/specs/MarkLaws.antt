@@ -1,10 +1,11 @@
 -- Laws of the marks: a mark that is met tells the two loop starts between which the run closes.
-use Rattle.std.specs.Prelude.{true, List, ◌≡◌, ℕ, suc, ◌+◌, ◌-◌, ◌*◌, ◌/◌, ◌%◌, ◌≤◌, ◌<◌, length, get_or, set}
+use Rattle.std.specs.Prelude.{true, List, Option, Some, None, ◌≡◌, ℕ, suc, ◌+◌, ◌*◌, ◌/◌, ◌%◌, ◌≤◌, ◌<◌, length, get_or, set}
 use Rattle.std.proofs.Math.Logic.{by_cases}
 use Rattle.std.proofs.Math.Path.{sym, ap₂}
 use Rattle.std.proofs.Common.{ap, ◌∙◌, mod-eq_of_lt, arith, length-set, get_or-set_same, get_or-set_other, eqb-true, eq-eqb}
 use Rattle.std.proofs.Math.Decide.{dec_lt, ℕ_discrete}
 use Rattle.std.proofs.Math.Arith.{digits_lt, digits_div, digits_mod}
+use Rattle.std.proofs.lemmas.Option.{none-some, same_Some}
 use Rattle.mask.specs.LogicLaws.{clash, refute, and_l, and_r, and_i, below_suc}
 use Rattle.mask.specs.Bounded.{some}
 use Rattle.mask.specs.BoundedLaws.{first_is, first_before, some_of}
@@ -73,39 +74,37 @@ module _ {p : Pair} {T : List ℕ} {l : Lasso} (k : Playable p T l) where
       absurd (none (earlier_round p T l) (omega (arith, is_run.order)) (rw e at (same_number (earlier_round p T l) (last_round p T l) is_run.returns))))
 
   -- ---- marks
-  pub no_marks : (marks : List ℕ) → length marks ≡ 448 → ((i : ℕ) → i < 448 → get_or marks i 0 ≡ 0) → Marks p T l 0 marks
+  pub no_marks : (marks : List (Option ℕ)) → length marks ≡ 448 → ((i : ℕ) → i < 448 → get_or marks i None ≡ None) → Marks p T l 0 marks
   no_marks marks e z = record {
     long = e;
     marked = λ x h. absurd (omega arith);
-    no_other = λ i h t. absurd (omega (arith, z i h));
+    no_other = λ i x h t. absurd (none-some x (sym (z i h) ∙ t));
   }
 
-  module _ {n : ℕ} {marks : List ℕ} (m : Marks p T l n marks) where
-    pub mark_low : n ≤ 448 → (i : ℕ) → i < 448 → get_or marks i 0 ≤ 448
-    mark_low b i h = by_cases (dec_lt 0 (get_or marks i 0)) (λ q. omega (arith, (m.no_other i h q).0)) (λ q. omega arith)
-
+  module _ {n : ℕ} {marks : List (Option ℕ)} (m : Marks p T l n marks) where
     -- the mark of the next loop start is that of an earlier one with the same place, or there is none
-    pub mark_met : n ≤ last_round p T l → 0 < get_or marks (place_number p T l n) 0
-        → (last_round p T l ≡ n) × (earlier_round p T l ≡ get_or marks (place_number p T l n) 0 - 1)
-    mark_met b t =
-        let q = m.no_other (place_number p T l n) (number_lt n) t in
-        ends_at (get_or marks (place_number p T l n) 0 - 1) n (omega (arith, q.0)) b q.1
+    pub mark_met : (x : ℕ) → n ≤ last_round p T l → get_or marks (place_number p T l n) None ≡ Some x → (last_round p T l ≡ n) × (earlier_round p T l ≡ x)
+    mark_met x b t = let q = m.no_other (place_number p T l n) x (number_lt n) t in ends_at x n q.0 b q.1
 
-    pub mark_none : n ≤ last_round p T l → get_or marks (place_number p T l n) 0 ≡ 0 → n < last_round p T l
-    mark_none b z = goes_on n b (λ x h e. omega (arith, z, m.marked x h, ap (λ (i : ℕ). get_or marks i 0) e))
+    unlike : get_or marks (place_number p T l n) None ≡ None → (x : ℕ) → x < n → place_number p T l x ≡ place_number p T l n → ⊥
+    unlike z x h e = none-some x (sym z ∙ ap (λ (i : ℕ). get_or marks i None) (sym e) ∙ m.marked x h)
 
-    pub mark_more : get_or marks (place_number p T l n) 0 ≡ 0 → Marks p T l (suc n) (set marks (place_number p T l n) (suc n))
+    pub mark_none : n ≤ last_round p T l → get_or marks (place_number p T l n) None ≡ None → n < last_round p T l
+    mark_none b z = goes_on n b (unlike z)
+
+    pub mark_more : get_or marks (place_number p T l n) None ≡ None → Marks p T l (suc n) (set marks (place_number p T l n) (Some n))
     mark_more z =
         let i = place_number p T l n in
         let fits : i < length marks = omega (arith, m.long, number_lt n) in
         record {
-          long = length-set marks i (suc n) ∙ m.long;
-          marked = below_suc n (λ x. get_or (set marks i (suc n)) (place_number p T l x) 0 ≡ suc x)
-              (λ x h. get_or-set_other marks i (place_number p T l x) (suc n) 0 (λ e. omega (arith, z, m.marked x h, ap (λ (i : ℕ). get_or marks i 0) e)) ∙ m.marked x h)
-              (get_or-set_same marks i (suc n) 0 fits);
-          no_other = λ k h. by_cases (ℕ_discrete k i)
-              (λ e. let v : get_or (set marks i (suc n)) k 0 ≡ suc n = rw e (get_or-set_same marks i (suc n) 0 fits) in
-              let s : suc n - 1 ≡ n = omega arith in
-              rw v (λ t. (omega arith, rw s (sym e))))
-              (λ e. rw (get_or-set_other marks i k (suc n) 0 e) (λ t. let q = m.no_other k h t in (omega (arith, q.0), q.1)));
+          long = length-set marks i (Some n) ∙ m.long;
+          marked = below_suc n (λ x. get_or (set marks i (Some n)) (place_number p T l x) None ≡ Some x)
+              (λ x h. get_or-set_other marks i (place_number p T l x) (Some n) None (λ e. unlike z x h e) ∙ m.marked x h)
+              (get_or-set_same marks i (Some n) None fits);
+          no_other = λ k x h t. by_cases (ℕ_discrete k i)
+              (λ e.
+              let v : get_or (set marks i (Some n)) k None ≡ Some n = rw e (get_or-set_same marks i (Some n) None fits) in
+              let s : n ≡ x = same_Some n x (sym v ∙ t) in
+              (omega arith, rw (← s) (sym e)))
+              (λ e. let q = m.no_other k x h (sym (get_or-set_other marks i k (Some n) None e) ∙ t) in (omega (arith, q.0), q.1));
         }

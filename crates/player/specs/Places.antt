@@ -1,5 +1,5 @@
 -- The code's place on the way along the lasso, and what the code knows of it.
-use Rattle.std.specs.Prelude.{cond, List, ◌++◌, ◌≡◌, ℕ, suc, ◌+◌, ◌-◌, ◌*◌, ◌%◌, ◌≤◌, ◌<◌, eqb, ltb, length, get_or, drop}
+use Rattle.std.specs.Prelude.{cond, List, ◌++◌, ◌≡◌, Option, Some, None, ℕ, suc, ◌+◌, ◌*◌, ◌%◌, ◌≤◌, ◌<◌, eqb, ltb, length, get_or, drop}
 use Rattle.mask.specs.Tables.{front}
 use Rattle.machine.specs.declared.Pair.{Pair}
 use Rattle.machine.specs.Observed.{matched_masks}
@@ -57,11 +57,11 @@ module _ (p : Pair) (T : List ℕ) (l : Lasso) where
   unfoldable pub place_number : ℕ → ℕ
   place_number x = let at = place_at p T l (loop_start p T l x) in number_of at.state at.section
 
-  -- the marks of the first n loop starts: x + 1 where a and j of the one after x rounds are marked, and no other mark
-  pub record Marks (n : ℕ) (marks : List ℕ) : Type 0 where
+  -- the marks of the first n loop starts: x where a and j of the one after x rounds are marked, and no other mark
+  pub record Marks (n : ℕ) (marks : List (Option ℕ)) : Type 0 where
     pub long : length marks ≡ 448
-    pub marked : (x : ℕ) → x < n → get_or marks (place_number x) 0 ≡ suc x
-    pub no_other : (k : ℕ) → k < 448 → 0 < get_or marks k 0 → (get_or marks k 0 ≤ n) × (place_number (get_or marks k 0 - 1) ≡ k)
+    pub marked : (x : ℕ) → x < n → get_or marks (place_number x) None ≡ Some x
+    pub no_other : (k x : ℕ) → k < 448 → get_or marks k None ≡ Some x → (x < n) × (place_number x ≡ k)
 
   -- a buffer into which the states of the first t moments are written
   unfoldable pub written_to : ℕ → List ℕ → List ℕ
@@ -73,7 +73,7 @@ module _ (p : Pair) (T : List ℕ) (l : Lasso) where
 
   -- the player is at work: it is at a place on the play, at moment t, no later than its end, and has marked the loop starts and written the
   -- states that lie before
-  pub record Playing (buffer run marks : List ℕ) (at : Place) (t : ℕ) : Type 0 where
+  pub record Playing (buffer run : List ℕ) (marks : List (Option ℕ)) (at : Place) (t : ℕ) : Type 0 where
     pub on : OnPlay at
     pub now : t ≡ moment_of (length l.loop) at
     pub early : starts_before (length l.stem) at ≤ last_round p T l
@@ -82,7 +82,7 @@ module _ (p : Pair) (T : List ℕ) (l : Lasso) where
     pub long : length run ≡ length buffer
 
   -- the place at hand is not the end, and the loop starts up to it are marked
-  pub record NotEnded (marks : List ℕ) (at : Place) : Type 0 where
+  pub record NotEnded (marks : List (Option ℕ)) (at : Place) : Type 0 where
     pub round : at.round < last_round p T l
     pub early : (to : Place) → Stepped at to → starts_before (length l.stem) to ≤ last_round p T l
     pub marked : (to : Place) → Stepped at to → Marks (starts_before (length l.stem) to) marks

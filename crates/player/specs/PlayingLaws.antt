@@ -1,6 +1,6 @@
 -- One turn of the player's loop.
-use Rattle.std.specs.Prelude.{List, ◌≡◌, refl, ℕ, suc, ◌+◌, ◌-◌, ◌*◌, ◌≤◌, ◌<◌, length, get_or, set}
-use Rattle.std.proofs.Common.{sym, ◌∙◌, add-one, arith, length-set}
+use Rattle.std.specs.Prelude.{List, Option, Some, None, ◌≡◌, refl, ℕ, suc, ◌+◌, ◌*◌, ◌≤◌, ◌<◌, length, get_or, set}
+use Rattle.std.proofs.Common.{sym, ◌∙◌, arith, length-set}
 use Rattle.std.proofs.Math.Path.{ap, ap₂}
 use Rattle.machine.specs.declared.Pair.{Pair}
 use Rattle.machine.specs.Lassos.{Lasso, moment}
@@ -10,12 +10,12 @@ use Rattle.soundness.specs.PlayerLaws.{Playable, player_run}
 use Rattle.player.specs.declared.Place.{Place}
 use Rattle.player.specs.Places.{moment_of, starts_before, number_of, place_number, Stepped, Marks, written, written_to, Playing, NotEnded}
 use Rattle.player.specs.PlaceLaws.{onward_moment, before_none, before_start, before_round, before_le, start_passed, none_passed, start_on}
-use Rattle.player.specs.MarkLaws.{number_low, no_marks, mark_low, mark_met, mark_none, mark_more}
+use Rattle.player.specs.MarkLaws.{number_low, no_marks, mark_met, mark_none, mark_more}
 use Rattle.player.specs.RunLaws.{written_none, written_more, written_whole, rounds_low, room_left}
 
 module _ {p : Pair} {T : List ℕ} {l : Lasso} (k : Playable p T l) where
-  pub at_start : (buffer marks : List ℕ) (a : ℕ) → a ≡ state_of (start_partner p T (moment l 0)) → length marks ≡ 448
-      → ((i : ℕ) → i < 448 → get_or marks i 0 ≡ 0) → Playing p T l buffer buffer marks (record { position = 0; a = a; j = 0; round = 0 }) 0
+  pub at_start : (buffer : List ℕ) (marks : List (Option ℕ)) (a : ℕ) → a ≡ state_of (start_partner p T (moment l 0)) → length marks ≡ 448
+      → ((i : ℕ) → i < 448 → get_or marks i None ≡ None) → Playing p T l buffer buffer marks (record { position = 0; a = a; j = 0; round = 0 }) 0
   at_start buffer marks a e long z = record {
     on = start_on k a e;
     now = omega arith;
@@ -25,7 +25,7 @@ module _ {p : Pair} {T : List ℕ} {l : Lasso} (k : Playable p T l) where
     long = refl;
   }
 
-  module _ {buffer run marks : List ℕ} {at : Place} {t : ℕ} (h : Playing p T l buffer run marks at t) where
+  module _ {buffer run : List ℕ} {marks : List (Option ℕ)} {at : Place} {t : ℕ} (h : Playing p T l buffer run marks at t) where
     soon : last_round p T l ≤ 448
     soon = (player_run p T l k).soon
 
@@ -34,9 +34,6 @@ module _ {p : Pair} {T : List ℕ} {l : Lasso} (k : Playable p T l) where
 
     pub now_low : t < run_room + 64
     now_low = omega (arith, h.now, h.on.placed.within, k.good.short, rounds_low k at.round round_low)
-
-    pub marks_low : (i : ℕ) → i < 448 → get_or marks i 0 ≤ 448
-    marks_low = mark_low k h.marked (omega (arith, soon, h.early))
 
     -- ---- at a loop start
     module _ (e : at.position ≡ length l.stem) where
@@ -64,27 +61,24 @@ module _ {p : Pair} {T : List ℕ} {l : Lasso} (k : Playable p T l) where
             (h.on.section ∙ ap (λ (t : ℕ). (place_at p T l t).section) now_start)
 
         -- a mark: the rule's end
-        module _ (seen : get_or marks number 0 ≡ 0 → ⊥) where
-          some_mark : 0 < get_or marks number 0
-          some_mark = omega arith
+        module _ (x : ℕ) (seen : get_or marks number None ≡ Some x) where
+          pub met : (last_round p T l ≡ at.round) × (earlier_round p T l ≡ x)
+          met = mark_met k round_marks x early_round (rw number_is at seen)
 
-          pub met : (last_round p T l ≡ at.round) × (earlier_round p T l ≡ get_or marks number 0 - 1)
-          met = rw number_is (mark_met k round_marks early_round (rw number_is at some_mark))
-
-          pub earlier_low : get_or marks number 0 - 1 < at.round
-          earlier_low = omega (arith, some_mark, (round_marks.no_other number (omega (arith, numbered, number_low at.a at.j)) some_mark).0)
+          pub earlier_low : x < at.round
+          earlier_low = (round_marks.no_other number x (omega (arith, numbered, number_low at.a at.j)) seen).0
 
         -- no mark: the run goes on
-        pub marked_on : get_or marks number 0 ≡ 0 → NotEnded p T l (set marks number (at.round + 1)) at
+        pub marked_on : get_or marks number None ≡ None → NotEnded p T l (set marks number (Some at.round)) at
         marked_on z =
-            let none : get_or marks (place_number p T l at.round) 0 ≡ 0 = rw number_is at z in
+            let none : get_or marks (place_number p T l at.round) None ≡ None = rw number_is at z in
             let further = mark_none k round_marks early_round none in
             let passed : (to : Place) → Stepped p T l at to → starts_before (length l.stem) to ≡ suc at.round =
             λ to s. start_passed s k.good.some_loop e in
             record {
               round = further;
               early = λ to s. omega (arith, passed to s);
-              marked = λ to s. rw (passed to s, number_is, add-one) (mark_more k round_marks none);
+              marked = λ to s. rw (passed to s, number_is) (mark_more k round_marks none);
             }
 
     -- ---- at any other place
@@ -99,7 +93,7 @@ module _ {p : Pair} {T : List ℕ} {l : Lasso} (k : Playable p T l) where
         }
 
     -- ---- one byte, and one step on
-    module _ {marks' : List ℕ} (n : NotEnded p T l marks' at) where
+    module _ {marks' : List (Option ℕ)} (n : NotEnded p T l marks' at) where
       pub room : t < run_room
       room = omega (arith, h.now, room_left k h.on.placed n.round)
 

@@ -15,14 +15,14 @@ ghost use Rattle.soundness.specs.PlayerLaws.{Playable};
 ghost use Rattle.player.specs.Given.{lent, none_in};
 ghost use Rattle.player.specs.Places.{IsTabled, OnPlay, Stepped, onward, number_of, written};
 
-use machine::{Machine, Pair, Refusal, Run};
+use machine::{Formed, Machine, Pair, Refusal, Run};
 
 // The least length of the buffer that is lent for the run, in bytes: 448 rounds of at most 64 states.
 pub const RUN_ROOM: usize = 28672;
 
 // ---- Lassos
 
-// A lasso, as its stem and its loop are lent.
+// A lasso, as its stem and its loop are lent. Brute force has such a struct of its own, since it shares nothing with what it tries.
 #[derive(Clone, Copy)]
 struct Lasso<'a> {
     stem: &'a [u8],
@@ -97,26 +97,26 @@ impl<'a> Lasso<'a> {
         !self.cycle.iter().any(|s| mask::has(members, *s as usize))
     }
 
-    // The first set without a state of the loop.
-    fn first_missed_set(&self, m: &Machine) -> Option<usize>
-        requires { m.now.sets ≤ 8 }
-        ensures { result ≡ below m.now.sets (first m.now.sets (missed_set m.now (lent self.now))) }
+    // The first set of the concrete machine without a state of the loop.
+    fn first_missed_set(&self, formed: &Formed) -> Option<usize>
+        ensures { let m = formed.now.pair.now.concrete in result ≡ below m.sets (first m.sets (missed_set m (lent self.now))) }
     {
+        let m = &formed.pair.concrete;
         (0..m.sets).find(|k| self.misses(m.fairness[*k]))
     }
 
     // Refusals 13 to 15.
-    fn validity(&self, m: &Machine) -> Result<(), Refusal>
-        requires { m.now.sets ≤ 8 }
-        ensures { result ≡ lasso_validity m.now (lent self.now) }
+    fn validity(&self, formed: &Formed) -> Result<(), Refusal>
+        ensures { result ≡ lasso_validity formed.now.pair.now.concrete (lent self.now) }
     {
+        let m = &formed.pair.concrete;
         if self.has_bad_length() {
             return Err(Refusal::BadLassoLength);
         }
         if let Some(position) = self.first_bad_step(m) {
             return Err(Refusal::BadLassoStep { position });
         }
-        match self.first_missed_set(m) {
+        match self.first_missed_set(formed) {
             Some(k) => Err(Refusal::UnfairLasso { set: k + 1 }),
             None => Ok(()),
         }
@@ -142,7 +142,7 @@ struct TabledPair<'a> {
 }
 
 impl<'a> TabledPair<'a> {
-    // The entry of (j, c, a).
+    // The entry of (j, c, a). Here and in `best_partner` numbers come one by one, since document 01 has a table as one flat list.
     fn entry(&self, j: usize, c: usize, a: usize) -> u16
         requires { (j < sets_a self.now.pair.now) × ((c < n_c self.now.pair.now) × (a < n_a self.now.pair.now)) }
         ensures { result ≡ entry self.now.pair.now self.now.table.now j c a }
@@ -172,7 +172,8 @@ impl<'a> TabledPair<'a> {
         )
     }
 
-    // Writes the run, from the abstract start state `first` on, and ends at the first loop start whose a and j were seen at an earlier one.
+    // Writes the run, from the abstract start state `first` on, and ends at the first loop start whose a and j were seen at an earlier one. `t` is
+    // counted by hand: a `for` would need an answer after its last turn, which is never reached.
     fn write_run(&self, lasso: &Lasso, first: usize, run: &mut [u8]) -> Run
         requires playable { Playable self.now.pair.now self.now.table.now (lent lasso.now) }
         requires first_value { first ≡ state_of (start_partner self.now.pair.now self.now.table.now (moment (lent lasso.now) 0)) }
@@ -182,8 +183,8 @@ impl<'a> TabledPair<'a> {
     {
         let start = lasso.stem.len();
         let period = lasso.cycle.len();
-        // one more than the round at which a and j were seen at a loop start, 0 where they were not
-        let mut marks = [0u16; 448];
+        // the round at which a and j were seen at a loop start
+        let mut marks = [None::<u16>; 448];
         let mut place = Place::new(first);
         let mut t = 0;
         loop {
@@ -192,15 +193,14 @@ impl<'a> TabledPair<'a> {
             if place.position == start {
                 let round = place.round;
                 let number = number_of(place.a, place.j);
-                let seen = marks[number] as usize;
-                if seen != 0 {
-                    let earlier = seen - 1;
+                if let Some(seen) = marks[number] {
+                    let earlier = seen as usize;
                     return Run {
                         stem: start + earlier * period,
                         cycle: (round - earlier) * period,
                     };
                 }
-                marks[number] = (round + 1) as u16;
+                marks[number] = Some(round as u16);
             }
             run[t] = place.a as u8;
             t = after;
@@ -280,7 +280,8 @@ impl Place {
     }
 }
 
-// The number, below 448, of a state a and a section j. It takes a modulo 64 and j modulo 7, so that any have an answer; states and sections are less.
+// The number, below 448, of a state a and a section j: the place of their mark in document 01's one array. It takes a modulo 64 and j modulo 7, so
+// that any have an answer; states and sections are less.
 fn number_of(a: usize, j: usize) -> usize
     ensures { result ≡ number_of a j }
 {
@@ -289,8 +290,8 @@ fn number_of(a: usize, j: usize) -> usize
 
 // ---- The player
 
-// Plays a lasso of the concrete machine by the table: the abstract run goes to the lent buffer `run`, and its stem length and loop length come
-// back, or where the call was stopped.
+// Plays a lasso of the concrete machine by the table: the abstract run goes to the lent buffer `run`, as C lends it, and its stem length and loop
+// length come back, or where the call was stopped.
 pub fn play(
     p: Pair,
     table: &[u16],
@@ -306,7 +307,8 @@ pub fn play(
     }
     linecheck::check_table(p, table)?;
     let lasso = Lasso { stem, cycle };
-    lasso.validity(&p.concrete)?;
+    let formed = Formed { pair: &p };
+    lasso.validity(&formed)?;
     let matched = machine::matched_masks(p);
     let tabled = TabledPair {
         pair: &p,

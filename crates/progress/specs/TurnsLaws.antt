@@ -59,6 +59,10 @@ module _ (p : Pair) where
   unfolding first_given
   first_given_lem e = sym (state_made _ _ _ e)
 
+  pub first_given_zeros : {r : Refusal} → nonempty_validity p ≡ Err r → first_given p ≡ replicate 448 0
+  unfolding first_given
+  first_given_zeros e = state_kept _ _ _ e
+
   pub first_of : nonempty_validity p ≡ valid → first_answer p ≡ Ok (first_rows p)
   unfolding first_answer
   first_of e = then_of _ _ e
@@ -191,6 +195,10 @@ module _ (p : Pair) (j c a : ℕ) where
 
   -- the tests in their order decide the answer
   module _ (F : List ℕ) where
+    pub looked_stopped : {r : Refusal} → nonempty_validity p ≡ Err r → look_up_answer p F j c a ≡ Err r
+    unfolding look_up_answer
+    looked_stopped e = then_refused _ _ _ e
+
     pub looked_refused : {r : Refusal} → and_then (nonempty_validity p) (range_validity p j c a) ≡ Err r → look_up_answer p F j c a ≡ Err r
     unfolding look_up_answer
     looked_refused e = sym (then_then (nonempty_validity p) (range_validity p j c a) _) ∙ then_refused _ _ _ e

@@ -3,25 +3,23 @@
 // see only the matched pairs of the machines.
 #![tactic(auto)]
 
-ghost use Rattle.std.specs.Prelude.{true, ◌≡◌, ◌<◌, length};
+ghost use Rattle.std.specs.Prelude.{◌≡◌, ◌<◌, length};
 ghost use Rattle.machine.specs.Machines.{n_c, n_a, sets_a};
 ghost use Rattle.machine.specs.Table.{entries};
-ghost use Rattle.machine.specs.WellFormed.{well_formed};
 ghost use Rattle.progress.specs.Turns.{first_rows, first_answer, turn_answer, turn_family, turn_table, still_in, range_validity, look_up_answer};
 
-use machine::{Pair, Refusal};
+use machine::{Formed, Pair, Refusal};
 use std::array;
 use validity::Sets;
 
 // ---- The first family
 
 // All matched pairs in every section.
-fn first_rows(p: Pair) -> [u64; 448]
-    requires { well_formed p ≡ true }
-    ensures { result ≡ first_rows p }
+fn first_rows(formed: &Formed) -> [u64; 448]
+    ensures { result ≡ first_rows formed.now.pair.now }
 {
-    let sections = p.abstraction.sets;
-    let matched = machine::matched_masks(p);
+    let sections = formed.pair.abstraction.sets;
+    let matched = machine::matched_masks(*formed.pair);
     array::from_fn(|e| if e / 64 < sections {
         matched[e % 64]
     } else {
@@ -34,16 +32,17 @@ pub fn first_family(p: Pair) -> Result<[u64; 448], Refusal>
     ensures { result ≡ first_answer p }
 {
     validity::pair_validity(p, Sets::Nonempty)?;
-    Ok(first_rows(p))
+    let formed = Formed { pair: &p };
+    Ok(first_rows(&formed))
 }
 
 // ---- A turn
 
 // How many entries a table of well-formed machines has: n x P.
-fn entries_of(p: Pair) -> usize
-    requires { well_formed p ≡ true }
-    ensures { result ≡ entries p }
+fn entries_of(formed: &Formed) -> usize
+    ensures { result ≡ entries formed.now.pair.now }
 {
+    let p = formed.pair;
     p.abstraction.sets * (p.concrete.states * p.abstraction.states)
 }
 
@@ -54,6 +53,7 @@ pub fn turn(p: Pair, family: &mut [u64; 448], table: &mut [u16]) -> Result<bool,
     ensures family { family.new ≡ turn_family p family.old (length table.old) }
     ensures content { table.new ≡ turn_table p family.old table.old }
 {
+    // tested here too, since the solver is lent a table of our own
     if table.len() < machine::TABLE_ROOM {
         return Err(Refusal::ShortBuffer);
     }
@@ -61,18 +61,21 @@ pub fn turn(p: Pair, family: &mut [u64; 448], table: &mut [u16]) -> Result<bool,
     let before = *family;
     solver::turn_family(p, family, &mut ranks)?;
     let finished = before == *family;
-    let written = if finished { entries_of(p) } else { 0 };
+    let formed = Formed { pair: &p };
+    let written = if finished { entries_of(&formed) } else { 0 };
     table[..written].copy_from_slice(&ranks[..written]);
     Ok(finished)
 }
 
 // ---- The look-up
 
-// Whether a pair is still in section j, counted from 0.
-fn still_in(p: Pair, family: &[u64; 448], j: usize, c: usize, a: usize) -> bool
-    requires { (well_formed p ≡ true) × ((j < sets_a p) × ((c < n_c p) × (a < n_a p))) }
-    ensures { result ≡ still_in p family.now j c a }
+// Whether a pair is still in section j, counted from 0. Section and states come one by one, here and below, as document 02 numbers them and C hands
+// them in: only the test of their range would take them as one.
+fn still_in(formed: &Formed, family: &[u64; 448], j: usize, c: usize, a: usize) -> bool
+    requires { let p = formed.now.pair.now in (j < sets_a p) × ((c < n_c p) × (a < n_a p)) }
+    ensures { result ≡ still_in formed.now.pair.now family.now j c a }
 {
+    let p = formed.pair;
     let shown = p.concrete.observations[c];
     let seen = p.abstraction.observations[a];
     machine::same_observation(p.hidden, shown, seen) && mask::has(family[j * 64 + c], a)
@@ -105,5 +108,6 @@ pub fn look_up(
     let machines = validity::pair_validity(p, Sets::Nonempty);
     let range = range_validity(p, section, c, a);
     machines.and(range)?;
-    Ok(still_in(p, family, section - 1, c, a))
+    let formed = Formed { pair: &p };
+    Ok(still_in(&formed, family, section - 1, c, a))
 }

@@ -1,5 +1,6 @@
 -- definitions
 pub mod Rows
+pub mod Folds
 pub mod Largest
 pub mod Entries
 -- laws

@@ -135,7 +135,7 @@ module _ (p : Pair) where
     M = matched_masks p
 
     M_past : (c : ℕ) → n_c p ≤ c → c < 64 → get_or M c 0 ≡ 0
-    M_past c h k = matched_at p c k ∙ row_out _ _ _ (n_c p) (n_a p) c h
+    M_past c h k = matched_at p c k ∙ row_out p c h
 
     pub matched_rows : matched_masks p ≡ rows_of (all_matched p)
     unfolding all_matched

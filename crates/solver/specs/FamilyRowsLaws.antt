@@ -10,7 +10,7 @@ use Rattle.std.proofs.Math.Decide.{dec_lt, ℕ_discrete}
 use native.Mathlib.Omega.{arith}
 use Rattle.std.proofs.Math.ListN.{get_or}
 use Rattle.mask.specs.Tables.{table}
-use Rattle.mask.specs.TablesLaws.{table_length, table_at, table_past, table_cong, fill_done}
+use Rattle.mask.specs.TablesLaws.{table_at, table_past, table_cong, fill_done}
 use Rattle.mask.specs.FrontLaws.{zeros_at}
 use Rattle.machine.specs.declared.Pair.{Pair}
 use Rattle.machine.specs.Machines.{fair_set, next, n_c, sets_a}

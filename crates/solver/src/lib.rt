@@ -4,13 +4,12 @@
 // and a section is made again while the set of the next one changes. `turn_family` makes every section afresh from a family that it is handed.
 #![tactic(auto)]
 
-ghost use Rattle.std.specs.Prelude.{◌≡◌, true, ◌++◌, ◌+◌, ◌-◌, ◌*◌, ◌<◌, ◌≤◌, length, take, drop, replicate};
+ghost use Rattle.std.specs.Prelude.{◌≡◌, ◌++◌, ◌+◌, ◌-◌, ◌*◌, ◌<◌, ◌≤◌, length, take, drop, replicate};
 ghost use Rattle.mask.specs.Bits.{full_mask};
 ghost use Rattle.mask.specs.Tables.{table};
 ghost use Rattle.machine.specs.Machines.{n_c, n_a, sets_c, sets_a, pairs, fair_set};
 ghost use Rattle.machine.specs.Table.{blank, table_room};
 ghost use Rattle.machine.specs.Ranks.{rank_table, solver_table};
-ghost use Rattle.machine.specs.WellFormed.{well_formed};
 ghost use Rattle.machine.specs.Game.{level, levels, goals};
 ghost use Rattle.rows.specs.Rows.{rows_of, pairs_in, step_rows, goal_rows};
 ghost use Rattle.rows.specs.Entries.{upto_rows, write_rows};
@@ -19,12 +18,13 @@ ghost use Rattle.solver.specs.Ranking.{Prepared, Holds, Bounded, RankedTo, AreRa
 ghost use Rattle.solver.specs.Sweeps.{part_of, Begun, Renewable, Renewed, Sweeping};
 ghost use Rattle.solver.specs.Solver.{solve_validity, solved_table, turned_family, turned_table};
 
-use machine::{Pair, Refusal};
+use machine::{Formed, Pair, Refusal};
 use validity::Sets;
 
 // ---- The game
 
-// What is computed once of two machines, and lent to all that makes levels: which states match, and the predecessors of the states of each.
+// What is computed once of two machines, and lent to all that makes levels: which states match, and the predecessors of the states of each. These are
+// three arrays side by side, since crate `rows` takes each by itself.
 #[derive(Drop)]
 struct Game {
     pair: Pair,
@@ -35,10 +35,10 @@ struct Game {
 }
 
 impl Game {
-    fn new(p: Pair) -> Game
-        requires { well_formed p ≡ true }
-        ensures { result.pair ≡ p }
+    fn new(formed: &Formed) -> Game
+        ensures { result.pair ≡ formed.now.pair.now }
     {
+        let p = *formed.pair;
         let matched = machine::matched_masks(p);
         let dependents = rows::predecessors(p.concrete.states, &p.concrete.successors);
         let predecessors = rows::predecessors(p.abstraction.states, &p.abstraction.successors);
@@ -164,7 +164,8 @@ impl Game {
         y
     }
 
-    // The pairs of section j that are not blank.
+    // The pairs of section j that are not blank. A table is one flat list, as document 01 has it, and its sections are taken by their numbers: here, in
+    // `renew`, in `first_table` and in `turn`, where chunks were tried and are no plainer, since it needs the number too.
     fn covered(&self, j: usize, table: &[u16]) -> [u64; 64]
         requires { (j < sets_a self.now.pair) × (table_room ≤ length table.now) }
         ensures { let p = self.now.pair in result ≡ upto_rows (n_c p) (n_a p) (part_of p table.now j) (blank - 1) }
@@ -257,14 +258,15 @@ pub fn solve(p: Pair, table: &mut [u16]) -> Result<(), Refusal>
     ensures content { table.new ≡ solved_table p table.old }
 {
     tests(p, table.len())?;
-    let game = Game::new(p);
+    let formed = Formed { pair: &p };
+    let game = Game::new(&formed);
     game.rank_all(table);
     Ok(())
 }
 
 // ---- Turns
 
-// The set of section j of a family: 7 x 64 rows, row j x 64 + c.
+// The set of section j of a family: 7 x 64 rows, row j x 64 + c, in one flat list, as C lends it; so here and in `put_section`.
 fn section_rows(family: &[u64; 448], j: usize) -> [u64; 64]
     requires { j < 7 }
     ensures { result ≡ section_of family.now j }
@@ -331,7 +333,8 @@ pub fn turn_family(p: Pair, family: &mut [u64; 448], table: &mut [u16]) -> Resul
     ensures content { table.new ≡ turned_table p family.old table.old }
 {
     tests(p, table.len())?;
-    let game = Game::new(p);
+    let formed = Formed { pair: &p };
+    let game = Game::new(&formed);
     *family = game.turn(family, table);
     Ok(())
 }

@@ -76,8 +76,8 @@ module _ (p : Pair) (c : ℕ) (k : c < 64) where
   Same a = same_observation p.hidden (get_or p.concrete.observations c 0) (get_or p.abstraction.observations a 0)
 
   row_is : c < n_c p → get_or (matched_masks p) c 0 ≡ mask_of (min (n_a p) 64) Same
-  unfolding same_mask
-  row_is l = matched_at p c k ∙ row_in p.hidden p.concrete.observations p.abstraction.observations (n_c p) (n_a p) c l
+  unfolding same_mask observation
+  row_is l = matched_at p c k ∙ row_in p c l
 
   has_row : (a : ℕ) → c < n_c p → a < min (n_a p) 64 → has_bit (get_or (matched_masks p) c 0) a ≡ matched p c a
   unfolding matched observation
@@ -88,7 +88,7 @@ module _ (p : Pair) (c : ℕ) (k : c < 64) where
 
   no_row : (a : ℕ) → n_c p ≤ c → has_bit (get_or (matched_masks p) c 0) a ≡ false
   no_row a l =
-      ap (λ (m : ℕ). has_bit m a) (matched_at p c k ∙ row_out p.hidden p.concrete.observations p.abstraction.observations (n_c p) (n_a p) c l)
+      ap (λ (m : ℕ). has_bit m a) (matched_at p c k ∙ row_out p c l)
       ∙ has_none a
 
 module _ (p : Pair) (F : List ℕ) (j : ℕ) (h : j < sets_a p) where

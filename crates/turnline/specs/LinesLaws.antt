@@ -9,7 +9,6 @@ use Rattle.text.specs.DecimalLaws.{decimal_most, decimal_short}
 use Rattle.machine.specs.declared.Pair.{Pair}
 use Rattle.machine.specs.Machines.{sets_a}
 use Rattle.machine.specs.Observed.{matched_masks}
-use Rattle.report.specs.LineLaws.{behind}
 use Rattle.turnline.specs.Lines.{still_count, numbers_text, turn_text, turn_line, finished_text, finished_line, rows_count}
 use Rattle.turnline.specs.CountLaws.{rows_most, still_count_lem}
 

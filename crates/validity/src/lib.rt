@@ -3,9 +3,10 @@
 #![tactic(auto)]
 
 ghost use Rattle.std.specs.Prelude.{◌≡◌, cond, ltb, eqb, length};
-ghost use Rattle.mask.specs.Logic.{not, or};
+ghost use Rattle.mask.specs.Logic.{not};
 ghost use Rattle.mask.specs.Bounded.{some, below};
 ghost use Rattle.validity.specs.Asked.{asks_states};
+ghost use Rattle.validity.specs.Beyond.{observed_beyond};
 ghost use Rattle.machine.specs.WellFormed.{counts_ok, beyond, state_beyond, set_beyond, is_beyond_counts, first_empty, lowest_empty_set, has_empty_set, content_validity, sets_validity, content_tests, machine_validity, pair_tests};
 
 use machine::{Machine, Pair, Refusal};
@@ -17,7 +18,7 @@ pub enum Sets {
     Nonempty,
 }
 
-// Whether a machine has 1 to 64 states and 1 to `limit` sets.
+// Whether a machine has 1 to 64 states and 1 to `limit` sets; of counts by themselves, since the reader tests them before there is a machine.
 pub fn counts_ok(limit: usize, states: usize, sets: usize) -> bool
     ensures { result ≡ counts_ok limit states sets }
 {
@@ -40,41 +41,37 @@ fn has_beyond(n: usize, m: u64) -> bool
     if n < 64 { m >> n != 0 } else { false }
 }
 
-// Whether the entries of state s, or its successors, lie beyond the count of states.
-fn state_beyond(states: usize, observation: u8, successors: u64, s: usize) -> bool
-    ensures { result ≡ cond (ltb s states) (beyond states successors) (or (not (eqb observation 0)) (not (eqb successors 0))) }
+// Whether mask number i has a state at or past the count of states, or, from number `count` on, any state.
+fn mask_beyond(states: usize, count: usize, mask: u64, i: usize) -> bool
+    ensures { result ≡ cond (ltb i count) (beyond states mask) (not (eqb mask 0)) }
 {
-    if s < states {
-        return has_beyond(states, successors);
+    if i < count {
+        has_beyond(states, mask)
+    } else {
+        mask != 0
     }
-    if observation != 0 {
-        return true;
-    }
-    successors != 0
+}
+
+// Whether some of these masks does, of which the first `count` are used. Here and in `first_empty` the count stands beside the masks, and they are not cut
+// there: it may be any number.
+fn masks_beyond(states: usize, count: usize, masks: &[u64]) -> bool
+    ensures { result ≡ some (length masks.now) (set_beyond states count masks.now) }
+{
+    (0..masks.len()).any(|i| mask_beyond(states, count, masks[i], i))
+}
+
+// Whether a state past the count has an observation.
+fn observed_beyond(states: usize, observations: &[u8; 64]) -> bool
+    ensures { result ≡ observed_beyond states observations.now }
+{
+    (0..64).any(|s| states <= s && observations[s] != 0)
 }
 
 // Whether some state's entries lie beyond the count of states.
-fn states_beyond(states: usize, observations: &[u8; 64], successors: &[u64; 64]) -> bool
-    ensures { result ≡ some 64 (state_beyond states observations.now successors.now) }
+fn states_beyond(m: &Machine) -> bool
+    ensures { result ≡ some 64 (state_beyond m.now.states m.now.observations m.now.successors) }
 {
-    (0..64).any(|s| state_beyond(states, observations[s], successors[s], s))
-}
-
-// Whether the entry of set k, or a state of that set, lies beyond the counts.
-fn set_beyond(states: usize, sets: usize, members: u64, k: usize) -> bool
-    ensures { result ≡ cond (ltb k sets) (beyond states members) (not (eqb members 0)) }
-{
-    if k < sets {
-        return has_beyond(states, members);
-    }
-    members != 0
-}
-
-// Whether some set's entry, or a state of a set, lies beyond the counts.
-fn sets_beyond(states: usize, sets: usize, fairness: &[u64; 8]) -> bool
-    ensures { result ≡ some 8 (set_beyond states sets fairness.now) }
-{
-    (0..8).any(|k| set_beyond(states, sets, fairness[k], k))
+    masks_beyond(m.states, m.states, &m.successors) || observed_beyond(m.states, &m.observations)
 }
 
 // The lowest of the first `count` masks that has no state.
@@ -88,19 +85,17 @@ fn first_empty(count: usize, masks: &[u64]) -> Option<usize>
 fn beyond_counts(m: Machine) -> bool
     ensures { result ≡ is_beyond_counts m }
 {
-    let observations = m.observations;
-    let successors = m.successors;
-    let fairness = m.fairness;
     if has_beyond(m.states, m.start) {
         return true;
     }
-    if states_beyond(m.states, &observations, &successors) {
+    if states_beyond(&m) {
         return true;
     }
-    sets_beyond(m.states, m.sets, &fairness)
+    masks_beyond(m.states, m.sets, &m.fairness)
 }
 
-// Refusals 9, 10 and 11 of one machine, which is number `index` of a pair.
+// Refusals 9, 10 and 11 of one machine, which is number `index` of a pair. The number goes into the spot as it is, and a machine by itself is number
+// 0 of either kind, so that a type with two kinds would say more than is so.
 fn content_validity(index: usize, m: Machine) -> Result<(), Refusal>
     ensures { result ≡ content_validity index m }
 {
@@ -148,7 +143,8 @@ fn sets_validity(index: usize, m: Machine) -> Result<(), Refusal>
     }
 }
 
-// Refusals 9 to 11 of machine number `index`, and 21 behind them where its sets shall be nonempty.
+// Refusals 9 to 11 of machine number `index`, and 21 behind them where its sets shall be nonempty: one row of tests for both, which a
+// function handed in for the last of them would not make plainer.
 fn content_tests(sets: Sets, index: usize, m: Machine) -> Result<(), Refusal>
     ensures { result ≡ content_tests (asks_states sets) index m }
 {

@@ -1,8 +1,7 @@
 -- The lowest state of least entry is found first; the present state takes its place if it is in the set and as good.
 use mathlib.Core.Bool.{true}
-use mathlib.Core.List.{List}
-use mathlib.Core.Path.{◌≡◌, sym, ap, ◌∙◌}
-use Prim.Native.Nat.{ℕ, ◌≤◌, ◌<◌, ◌^◌}
+use mathlib.Core.Path.{◌≡◌, sym, ◌∙◌}
+use Prim.Native.Nat.{ℕ, ◌≤◌, ◌<◌}
 use native.Mathlib.Omega.{arith}
 use lib.Bits.{bit_and}
 use lib.ListN.{length, get_or}
@@ -11,7 +10,7 @@ use Rattle.mask.specs.Bits.{has_bit}
 use Rattle.mask.specs.LogicLaws.{and_l, and_r, and_i, clash}
 use Rattle.mask.specs.BitsLaws.{has_and, has_lt}
 use Rattle.machine.specs.Step.{single_step, in_row, present_of}
-use Rattle.machine.specs.SingleStep.{Best, Candidate}
+use Rattle.machine.specs.SingleStep.{Best}
 use Rattle.machine.specs.PartnerLaws.{partner_at}
 use Rattle.machine.specs.RowLaws.{in_row_at, in_row_of}
 use Rattle.machine.specs.SingleStepLaws.{single_stays, single_leaves, single_nobody}

@@ -8,7 +8,7 @@ use Rattle.machine.specs.declared.Pair.{Pair}
 use Rattle.machine.specs.declared.Checked.{Checked}
 use Rattle.machine.specs.Refusals.{Answer, valid}
 use Rattle.machine.specs.Machines.{starts}
-use Rattle.machine.specs.WellFormedLaws.{well_valid}
+use Rattle.machine.specs.WellFormedLaws.{well_valid, valid_is_well}
 use Rattle.machine.specs.Lassos.{moment, given}
 use Rattle.machine.specs.Step.{present_of, state_of}
 use Rattle.machine.specs.Verdict.{verdict_of, check_verdict}
@@ -41,9 +41,8 @@ returns-in_err-check_table c =
     (check_stops x.p x.table.now l x.run.now c.if-run-lt-RUN_ROOM.false _ (sym c.check_table.ensures.verdict ∙ ap verdict_of c.in_err-check_table.was)) in
     record { answer = passed_on c.from_residual.ensures ∙ s.0; buffer = s.1 }
 
-pub validity-requires : goal.validity-requires
-validity-requires c =
-    (well_valid c.args.p (passes c.args.p c.args.table.now c.check_table.ensures.verdict c.in_ok-check_table.was).pair).concrete.sets_high
+pub invariant_of-formed : goal.invariant_of-formed
+invariant_of-formed c = record { well = valid_is_well c.args.p (passes c.args.p c.args.table.now c.check_table.ensures.verdict c.in_ok-check_table.was).pair }
 
 pub returns-in_err-validity : goal.returns-in_err-validity
 returns-in_err-validity c =

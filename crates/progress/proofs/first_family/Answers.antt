@@ -11,10 +11,10 @@ pub returns-in_err-pair_validity : goal.returns-in_err-pair_validity
 returns-in_err-pair_validity c =
     passed_on c.from_residual.ensures ∙ sym (first_refused c.args.p (sym c.pair_validity.ensures ∙ c.in_err-pair_validity.was))
 
-pub first_rows-requires : goal.first_rows-requires
-first_rows-requires c =
+pub invariant_of-formed : goal.invariant_of-formed
+invariant_of-formed c =
     let p = c.args.p in
-    valid_is_well p (nonempty_at p (sym c.pair_validity.ensures ∙ c.in_ok-pair_validity.was)).0
+    record { well = valid_is_well p (nonempty_at p (sym c.pair_validity.ensures ∙ c.in_ok-pair_validity.was)).0 }
 
 pub returns : goal.returns
 returns c = ap Ok c.first_rows.ensures ∙ sym (first_of c.args.p (sym c.pair_validity.ensures ∙ c.in_ok-pair_validity.was))

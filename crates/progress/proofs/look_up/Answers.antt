@@ -26,10 +26,13 @@ returns-in_err-and c =
     ∙ sym (looked_refused x.p x.section x.c x.a x.family.now (tests_told c.pair_validity-machines.ensures c.range_validity-range.ensures c.and.ensures ∙ c.in_err-and.was))
 
 pub overflow_sub-section : goal.overflow_sub-section
-overflow_sub-section c = omega (arith, (passed c).1.0)
+overflow_sub-section c = omega (arith, (passed (goal.at.overflow_sub-section c).In_ok-and).1.0)
+
+pub invariant_of-formed : goal.invariant_of-formed
+invariant_of-formed c = record { well = (passed (goal.at.invariant_of-formed c).In_ok-and).0 }
 
 pub still_in-requires : goal.still_in-requires
-still_in-requires c = let q = passed c in (q.0, (omega (arith, q.1.0), (q.1.1.0, q.1.1.1)))
+still_in-requires c = let q = passed (goal.at.still_in-requires c).In_ok-and in (omega (arith, q.1.0), (q.1.1.0, q.1.1.1))
 
 pub returns : goal.returns
 returns c =

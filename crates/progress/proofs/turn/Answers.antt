@@ -24,10 +24,10 @@ returns-in_err-turn_family c =
     let k = turn_stopped x.p x.family.now x.table.now c.if-table-lt-TABLE_ROOM.false c.turn_family.ensures.answer c.turn_family.ensures.family c.in_err-turn_family.was in
     record { answer = passed_on c.from_residual.ensures ∙ k.0; family = k.1.0; content = k.1.1 }
 
-pub entries_of-written-requires : goal.entries_of-written-requires
-entries_of-written-requires c =
+pub invariant_of-formed : goal.invariant_of-formed
+invariant_of-formed c =
     let x = c.args in
-    turn_well x.p x.family.now x.table.now c.if-table-lt-TABLE_ROOM.false c.turn_family.ensures.answer c.turn_family.ensures.family c.in_ok-turn_family.was
+    record { well = turn_well x.p x.family.now x.table.now c.if-table-lt-TABLE_ROOM.false c.turn_family.ensures.answer c.turn_family.ensures.family c.in_ok-turn_family.was }
 
 -- all entries or none are due
 written : (c : Joined-finished) →

@@ -1,6 +1,6 @@
 use Rattle.std.proofs.Common.{rules, tests}
 use Rattle.rows.specs.Rows.{goal_rows}
-use Rattle.rows.proofs.MadeLaws.{made_table}
+use Rattle.mask.proofs.MadeLaws.{made_table}
 use Rattle.rows.proofs.goal_rows.Goals as goal
 
 pub returns : goal.returns

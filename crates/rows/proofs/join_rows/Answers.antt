@@ -1,6 +1,6 @@
 use Rattle.std.proofs.Common.{rules, tests}
 use Rattle.rows.specs.Rows.{join_rows}
-use Rattle.rows.proofs.MadeLaws.{made_table}
+use Rattle.mask.proofs.MadeLaws.{made_table}
 use Rattle.rows.proofs.join_rows.Goals as goal
 
 pub returns : goal.returns

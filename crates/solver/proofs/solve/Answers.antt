@@ -10,8 +10,8 @@ returns-in_err-tests c =
     let e = sym c.tests.ensures ∙ c.in_err-tests.was in
     record { answer = passed_on c.from_residual.ensures ∙ sym e; content = solved_refused s.p s.table.now _ e }
 
-pub new-game-requires : goal.new-game-requires
-new-game-requires c = (solve_passed c.args.p _ (sym c.tests.ensures ∙ c.in_ok-tests.was)).0
+pub invariant_of-formed : goal.invariant_of-formed
+invariant_of-formed c = record { well = (solve_passed c.args.p _ (sym c.tests.ensures ∙ c.in_ok-tests.was)).0 }
 
 pub rank_all-requires : goal.rank_all-requires
 rank_all-requires c = (solve_passed c.args.p _ (sym c.tests.ensures ∙ c.in_ok-tests.was)).1

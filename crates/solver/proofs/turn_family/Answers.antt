@@ -11,8 +11,8 @@ returns-in_err-tests c =
     let kept = turned_refused s.p s.family.now s.table.now _ e in
     record { answer = passed_on c.from_residual.ensures ∙ sym e; family = kept.0; content = kept.1 }
 
-pub new-game-requires : goal.new-game-requires
-new-game-requires c = (solve_passed c.args.p _ (sym c.tests.ensures ∙ c.in_ok-tests.was)).0
+pub invariant_of-formed : goal.invariant_of-formed
+invariant_of-formed c = record { well = (solve_passed c.args.p _ (sym c.tests.ensures ∙ c.in_ok-tests.was)).0 }
 
 pub turn-requires : goal.turn-requires
 turn-requires c = (solve_passed c.args.p _ (sym c.tests.ensures ∙ c.in_ok-tests.was)).1

@@ -1,5 +1,5 @@
 -- There is a lowest empty set exactly if its number is below 8.
-use Rattle.std.proofs.Common.{sym, ap, ◌∙◌, ltb-true, lt-ltb, le-ltb}
+use Rattle.std.proofs.Common.{ap, ◌∙◌}
 use Rattle.std.specs.Prelude.{is_some}
 use Rattle.mask.specs.BoundedLaws.{is_below}
 use Rattle.machine.specs.WellFormed.{has_empty_set}

@@ -1,9 +1,10 @@
 -- At the loop's head the states before this moment are written and the loop starts before it marked; a mark that is met is the rule's end.
 use mathlib.Core.List.{List}
 use mathlib.Core.Path.{sym, subst}
-use Prim.Native.Nat.{ℕ, ◌-◌, ◌*◌, ◌≤◌, ◌<◌}
+use Prim.Native.Nat.{ℕ, ◌*◌, ◌≤◌, ◌<◌}
 use native.Mathlib.Omega.{arith}
-use lib.ListN.{length, get_or, replicate, length-replicate, get_or-replicate}
+use Rattle.std.specs.Prelude.{Option, None}
+use lib.ListN.{length, replicate, length-replicate, get_or-replicate}
 use Rattle.player.specs.Given.{lent}
 use Rattle.machine.specs.Player.{run_room}
 use Rattle.player.specs.declared.Place.{Place}
@@ -11,17 +12,17 @@ use Rattle.player.specs.Places.{Playing, NotEnded}
 use Rattle.player.specs.PlaceLaws.{state_lt}
 use Rattle.player.specs.MarkLaws.{number_low}
 use Rattle.player.specs.RunLaws.{run_said, rounds_low}
-use Rattle.player.specs.PlayingLaws.{at_start, round_low, now_low, marks_low, met, earlier_low, run_written, marked_on, unmarked_on, room, plays_on}
+use Rattle.player.specs.PlayingLaws.{at_start, round_low, now_low, met, earlier_low, run_written, marked_on, unmarked_on, room, plays_on}
 use Rattle.player.proofs.TabledPair.write_run.Goals as goal
-use Rattle.player.proofs.TabledPair.write_run.Goals.{After-number_of-number, Then-seen-ne0, At-loop-place, After-struct_known-in-loop-place-1, else-place-start, then-place-start+else-seen-ne0}
+use Rattle.player.proofs.TabledPair.write_run.Goals.{After-number_of-number, In-Some, At-loop-place, After-struct_known-in-loop-place-1, else-place-start, then-place-start+in_default}
 
 pub loop-place-init : goal.loop-place-init
 loop-place-init c =
     let x = c.args in
     let r = c.requires in
-    let Begun : Place → Type 0 = λ at. Playing x.self.now.pair.now x.self.now.table.now (lent x.lasso.now) x.run.now x.run.now (replicate 448 0) at 0 in
+    let Begun : Place → Type 0 = λ at. Playing x.self.now.pair.now x.self.now.table.now (lent x.lasso.now) x.run.now x.run.now (replicate 448 None) at 0 in
     subst Begun (sym c.new-place.ensures)
-    (at_start r.playable x.run.now (replicate 448 0) x.first r.first_value (length-replicate {A = ℕ} 448 0) (λ i h. get_or-replicate {A = ℕ} 448 i 0 0 h))
+    (at_start r.playable x.run.now (replicate 448 None) x.first r.first_value (length-replicate {A = Option ℕ} 448 None) (λ i h. get_or-replicate {A = Option ℕ} 448 i None None h))
 
 -- what is known at the loop's head
 round_small : (c : At-loop-place) → c.loop-place.place.round ≤ 448
@@ -35,13 +36,13 @@ number_small : (c : After-number_of-number) → c.number_of-number.result < 448
 number_small c = let at = c.loop-place.place in omega (arith, c.number_of-number.ensures, number_low at.a at.j)
 
 -- a mark that is met: the rule's end
-pub returns-then-seen-ne0 : goal.returns-then-seen-ne0
-returns-then-seen-ne0 c =
+pub returns-in-Some : goal.returns-in-Some
+returns-in-Some c =
     let x = c.args in
     let l = lent x.lasso.now in
     let k = c.requires.playable in
     let h = c.loop-place.invariant in
-    let e = met k h c.if-place-start.true c.number_of-number.result c.number_of-number.ensures c.if-seen-ne0.true in
+    let e = met k h c.if-place-start.true c.number_of-number.result c.number_of-number.ensures _ c.in-Some.is in
     record { answer = run_said x.self.now.pair.now x.self.now.table.now l _ _ e.0 e.1; buffer = run_written k h c.if-place-start.true e.0 }
 
 -- no mark, or no loop start: the marks are as the next turn wants them
@@ -53,10 +54,10 @@ not_ended c =
     let x = c.args in
     let k = c.requires.playable in
     let h = c.loop-place.invariant in
-    let Goes : List ℕ → Type 0 = λ m. NotEnded x.self.now.pair.now x.self.now.table.now (lent x.lasso.now) m c.loop-place.place in
+    let Goes : List (Option ℕ) → Type 0 = λ m. NotEnded x.self.now.pair.now x.self.now.table.now (lent x.lasso.now) m c.loop-place.place in
     elim c.if-place-start.branch [
-      | then-place-start+else-seen-ne0 w ↦
-          subst Goes (sym w.marks-is) (marked_on k h w.if-place-start.true w.number_of-number.result w.number_of-number.ensures w.if-seen-ne0.false)
+      | then-place-start+in_default w ↦
+          subst Goes (sym w.marks-is) (marked_on k h w.if-place-start.true w.number_of-number.result w.number_of-number.ensures w.in_default.is)
       | else-place-start w ↦ subst Goes (sym w.marks-is) (unmarked_on k h w.if-place-start.false)
     ]
 
@@ -74,34 +75,25 @@ offset_bounds-marks-number c = omega (arith, number_small (goal.at.offset_bounds
 pub bounds-marks-number : goal.bounds-marks-number
 bounds-marks-number c = number_small (goal.at.bounds-marks-number c).After-number_of-number
 
-pub overflow_cast-seen : goal.overflow_cast-seen
-overflow_cast-seen c = omega (arith, marks_low c.requires.playable c.loop-place.invariant c.number_of-number.result (number_small (goal.at.overflow_cast-seen c).After-number_of-number))
-
 -- the earlier round is before this one, and rounds are few
-abbrev earlier : Then-seen-ne0 → ℕ
-earlier c = get_or c.loop-place.marks c.number_of-number.result 0 - 1
+earlier_small : (c : In-Some) → c.in-Some.seen < c.loop-place.place.round
+earlier_small c = earlier_low c.requires.playable c.loop-place.invariant c.if-place-start.true c.number_of-number.result c.number_of-number.ensures _ c.in-Some.is
 
-earlier_small : (c : Then-seen-ne0) → earlier c < c.loop-place.place.round
-earlier_small c = earlier_low c.requires.playable c.loop-place.invariant c.if-place-start.true c.number_of-number.result c.number_of-number.ensures c.if-seen-ne0.true
-
-turns_small : (c : Then-seen-ne0) (x : ℕ) → x ≤ c.loop-place.place.round → x * length c.args.lasso.now.cycle.now ≤ run_room
+turns_small : (c : In-Some) (x : ℕ) → x ≤ c.loop-place.place.round → x * length c.args.lasso.now.cycle.now ≤ run_room
 turns_small c x h = let k = c.requires.playable in rounds_low k x (omega (arith, round_low k c.loop-place.invariant))
 
 pub overflow_mul-result : goal.overflow_mul-result
 overflow_mul-result c =
-    let d : Then-seen-ne0 = (goal.at.overflow_mul-result c).Then-seen-ne0 in
-    omega (arith, turns_small d (earlier d) (omega (arith, earlier_small d)))
+    let d : In-Some = (goal.at.overflow_mul-result c).In-Some in
+    omega (arith, turns_small d d.in-Some.seen (omega (arith, earlier_small d)))
 
 pub overflow_add-result : goal.overflow_add-result
 overflow_add-result c =
-    let d : Then-seen-ne0 = (goal.at.overflow_add-result c).Then-seen-ne0 in
-    omega (arith, turns_small d (earlier d) (omega (arith, earlier_small d)), c.requires.playable.good.short)
+    let d : In-Some = (goal.at.overflow_add-result c).In-Some in
+    omega (arith, turns_small d d.in-Some.seen (omega (arith, earlier_small d)), c.requires.playable.good.short)
 
 pub overflow_sub-result : goal.overflow_sub-result
-overflow_sub-result c = omega (arith, earlier_small (goal.at.overflow_sub-result c).Then-seen-ne0)
-
-pub overflow_add-marks : goal.overflow_add-marks
-overflow_add-marks c = omega (arith, round_small (goal.at.overflow_add-marks c).At-loop-place)
+overflow_sub-result c = omega (arith, earlier_small (goal.at.overflow_sub-result c).In-Some)
 
 pub overflow_cast-marks : goal.overflow_cast-marks
 overflow_cast-marks c = omega (arith, round_small (goal.at.overflow_cast-marks c).At-loop-place)
@@ -123,3 +115,6 @@ bounds-run-t c = omega (arith, has_room c, c.loop-place.invariant.long, c.requir
 
 pub loop-place-smaller : goal.loop-place-smaller
 loop-place-smaller c = omega (arith, has_room c)
+
+pub bounds : goal.bounds
+bounds c = number_small (goal.at.bounds c).After-number_of-number
