@@ -2,7 +2,7 @@
 use Rattle.std.proofs.Common.{ap₂}
 use Rattle.std.proofs.Math.Dec.{eqb}
 use Rattle.codec.specs.Reader.{check_holds}
-use Rattle.codec.proofs.reader.check_holds.Goals as goal
+use Rattle.codec.proofs.reader.Block.check_holds.Goals as goal
 
 pub returns : goal.returns
 unfolding check_holds

@@ -4,7 +4,7 @@ use mathlib.Core.Path.{sym, ap, ◌∙◌}
 use native.Mathlib.Omega.{arith}
 use Rattle.codec.proofs.ReaderLaws.{block_damaged, block_misplaced, block_valid}
 use Rattle.std.specs.Prelude.{Err}
-use Rattle.codec.proofs.reader.block_validity.Goals as goal
+use Rattle.codec.proofs.reader.Block.validity.Goals as goal
 
 pub returns : goal.returns
 returns c =
@@ -14,7 +14,7 @@ pub returns-then-not-check_holds : goal.returns-then-not-check_holds
 returns-then-not-check_holds c =
     ap Err c.damaged.ensures ∙ sym (block_damaged _ _ (sym c.check_holds.ensures ∙ c.if-not-check_holds.true))
 
-pub returns-then-number-i : goal.returns-then-number-i
-returns-then-number-i c =
+pub returns-then-number-self : goal.returns-then-number-self
+returns-then-number-self c =
     let found = c.number_found-number.ensures in
     rw found (sym (block_misplaced _ _ (sym c.check_holds.ensures ∙ c.if-not-check_holds.false) (λ e. omega (arith, found, e))))
