@@ -1,8 +1,9 @@
 -- Laws of blocks: the check as a loop sums it.
 use Rattle.std.specs.Prelude.{List, ◌≡◌, refl, ℕ, suc, ◌+◌, ◌*◌, ◌/◌, ◌%◌, ◌≤◌, ◌<◌, length, get_or, take, drop}
-use Rattle.std.proofs.Common.{sym, ap, ◌∙◌, le_trans, mul-le-mul_left, mul-le-mul_right, add-one, arith}
+use Rattle.std.proofs.Common.{sym, ap, ◌∙◌, le_trans, mul-le-mul_left, mul-le-mul_right, add-one, zero-add, arith}
 use borrow.Rule.Slice.PartMut.{put_mid}
 use Rattle.mask.specs.Bounded.{sum}
+use Rattle.mask.specs.BoundedLaws.{sum_cong}
 use Rattle.codec.specs.Format.{check_at}
 use Rattle.codec.specs.Reader.{payload_byte}
 use Rattle.mask.specs.Tables.{front}
@@ -10,21 +11,21 @@ use Rattle.codec.specs.ListLaws.{part_table}
 use Rattle.codec.specs.FrontLaws.{front_part}
 
 -- ---- the check, one byte a turn
--- the sum over the first n bytes of the block that starts at a place
-unfoldable pub weighed : List ℕ → ℕ → ℕ → ℕ
-weighed s at n = sum n (λ i. suc i * get_or s (at + i) 0)
+-- the sum over the first n bytes
+unfoldable pub weighed : List ℕ → ℕ → ℕ
+weighed s n = sum n (λ i. suc i * get_or s i 0)
 
-pub weighed_none : (s : List ℕ) (at : ℕ) → weighed s at 0 ≡ 0
+pub weighed_none : (s : List ℕ) → weighed s 0 ≡ 0
 unfolding weighed sum
-weighed_none s at = refl
+weighed_none s = refl
 
-pub weighed_turn : (s : List ℕ) (at i : ℕ) → weighed s at (i + 1) ≡ weighed s at i + (i + 1) * get_or s (at + i) 0
+pub weighed_turn : (s : List ℕ) (i : ℕ) → weighed s (i + 1) ≡ weighed s i + (i + 1) * get_or s i 0
 unfolding weighed sum
-weighed_turn s at i = rw (add-one i)
+weighed_turn s i = rw (add-one i)
 
-pub weighed_all : (s : List ℕ) (at : ℕ) → weighed s at 510 % 65521 ≡ check_at s at
+pub weighed_all : (s : List ℕ) → weighed s 510 % 65521 ≡ check_at s 0
 unfolding weighed check_at
-weighed_all s at = refl
+weighed_all s = ap (λ (x : ℕ). x % 65521) (sum_cong 510 _ _ (λ i l. ap (λ (k : ℕ). suc i * get_or s k 0) (sym (zero-add i))))
 
 -- the weight of one byte
 pub weight_le : (i b : ℕ) → i < 510 → b < 256 → (i + 1) * b ≤ 130050

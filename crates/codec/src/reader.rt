@@ -11,7 +11,7 @@ ghost use Rattle.codec.specs.Answers.{read_of, pair_given};
 ghost use Rattle.codec.specs.Loading.{counts_of, Loaded};
 ghost use Rattle.mask.specs.Tables.{table, front};
 
-use super::{PAYLOAD_ROOM, Show, Stored, check_at};
+use super::{PAYLOAD_ROOM, Show, Stored, check_of};
 use machine::{Machine, Pair, Refusal};
 use validity::Sets;
 
@@ -31,14 +31,15 @@ impl<'a> Block<'a> {
         ensures { result ≡ check_holds self.now.bytes.now self.now.i }
     {
         let at = 512 * self.i;
-        u16::read(self.bytes, at + 510) == check_at(self.bytes, at)
+        u16::read(&self.bytes[at + 510..at + 512]) == check_of(&self.bytes[at..at + 510])
     }
 
     // The number found in it.
     fn number_found(&self) -> usize
         ensures { result ≡ number_found self.now.bytes.now self.now.i }
     {
-        u16::read(self.bytes, 512 * self.i) as usize
+        let at = 512 * self.i;
+        u16::read(&self.bytes[at..at + 2]) as usize
     }
 
     // Its check, and right after it its number.
@@ -277,13 +278,14 @@ fn join(bytes: &[u8], payload: &mut [u8])
     }
 }
 
-// Fills a buffer with the numbers at a place.
-fn numbers_at<T: Stored>(q: &[u8], at: usize, out: &mut [T])
-    requires { at + T.BYTES * length out.old ≤ length q.now }
-    ensures { out.new ≡ table (length out.old) (λ k. T.of (number_at T.BYTES q.now (at + T.BYTES * k))) }
+// Fills a buffer with the numbers at the front of some bytes.
+fn read_numbers<T: Stored>(bytes: &[u8], out: &mut [T])
+    requires { T.BYTES * length out.old ≤ length bytes.now }
+    ensures { out.new ≡ table (length out.old) (λ k. T.of (number_at T.BYTES bytes.now (T.BYTES * k))) }
 {
-    for k in 0..out.len() {
-        out[k] = T::read(q, at + T::BYTES * k);
+    for (k, number) in out.iter_mut().enumerate() {
+        let at = T::BYTES * k;
+        *number = T::read(&bytes[at..at + T::BYTES]);
     }
 }
 
@@ -297,12 +299,14 @@ fn machine_at(q: &[u8], at: usize, n: usize, sets: usize) -> Machine
     let mut successors = [0u64; 64];
     let mut fairness = [0u64; 8];
     observations[..n].copy_from_slice(&q[at..at + n]);
-    numbers_at(q, at + n + 8, &mut successors[..n]);
-    numbers_at(q, at + 9 * n + 8, &mut fairness[..sets]);
+    let successors_at = at + n + 8;
+    let sets_at = successors_at + 8 * n;
+    read_numbers(&q[successors_at..sets_at], &mut successors[..n]);
+    read_numbers(&q[sets_at..sets_at + 8 * sets], &mut fairness[..sets]);
     Machine {
         states: n,
         sets,
-        start: u64::read(q, at + n),
+        start: u64::read(&q[at + n..at + n + 8]),
         observations,
         successors,
         fairness,
@@ -333,7 +337,8 @@ fn table_at(head: &Head, q: &[u8], table: &mut [u16])
 {
     let counts = head.counts();
     let at = counts.payload_length(false);
-    numbers_at(q, at, &mut table[..counts.entries()]);
+    let entries = counts.entries();
+    read_numbers(&q[at..at + 2 * entries], &mut table[..entries]);
 }
 
 // ---- The reader

@@ -8,7 +8,7 @@ ghost use Rattle.machine.specs.Table.{table_room};
 ghost use Rattle.codec.specs.Writer.{file_room, write_answer, write_buffer};
 ghost use Rattle.codec.specs.Format.{bytes_of, numbers, header, machine_bytes, payload, payload_most, payload_length, file_length, block, file_of};
 
-use super::{FILE_ROOM, PAYLOAD_ROOM, Stored, check_at};
+use super::{FILE_ROOM, PAYLOAD_ROOM, Stored, check_of};
 use machine::{Machine, Pair, Refusal};
 use validity::Sets;
 
@@ -103,7 +103,7 @@ fn put_block(out: &mut [u8], payload: &[u8], i: usize)
     ((i % 65536) as u16).write(out, at);
     let from = 508 * i;
     out[at + 2..at + 510].copy_from_slice(&payload[from..from + 508]);
-    let check = check_at(out, at);
+    let check = check_of(&out[at..at + 510]);
     check.write(out, at + 510);
 }
 
