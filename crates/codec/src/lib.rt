@@ -45,10 +45,10 @@ trait Stored: Copy {
         requires { length bytes.now ≡ BYTES }
         ensures { result ≡ of (number_at BYTES bytes.now 0) };
 
-    // Writes it at a place.
-    fn write(self, out: &mut [u8], at: usize)
-        requires { at + BYTES ≤ length out.old }
-        ensures { out.new ≡ sets out.old at (bytes_of BYTES (value self)) };
+    // Writes it over its bytes.
+    fn write(self, bytes: &mut [u8])
+        requires { length bytes.old ≡ BYTES }
+        ensures { bytes.new ≡ bytes_of BYTES (value self) };
 
     ghost some: { 0 < BYTES };
 }
@@ -68,8 +68,8 @@ impl Stored for u16 {
         u16::from_le_bytes(number)
     }
 
-    fn write(self, out: &mut [u8], at: usize) {
-        out[at..at + 2].copy_from_slice(&self.to_le_bytes());
+    fn write(self, bytes: &mut [u8]) {
+        bytes.copy_from_slice(&self.to_le_bytes());
     }
 
     ghost some = { Prim.omega arith };
@@ -90,8 +90,8 @@ impl Stored for u64 {
         u64::from_le_bytes(number)
     }
 
-    fn write(self, out: &mut [u8], at: usize) {
-        out[at..at + 8].copy_from_slice(&self.to_le_bytes());
+    fn write(self, bytes: &mut [u8]) {
+        bytes.copy_from_slice(&self.to_le_bytes());
     }
 
     ghost some = { Prim.omega arith };
