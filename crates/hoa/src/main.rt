@@ -20,10 +20,10 @@ fn write_machine(rt: &impl Print, bytes: &[u8], which: usize) -> io::Result<bool
 }
 
 fn main(rt: HostRuntime) -> io::Result<()> {
-    let mut input = [0u8; codec::INPUT_ROOM];
-    let count = stream::read_full(&mut rt.stdin(), &mut input);
-    if write_machine(&rt, &input[..count], 0)? {
-        write_machine(&rt, &input[..count], 1)?;
+    let mut buffer = [0u8; codec::INPUT_ROOM];
+    let bytes = stream::filled(&mut rt.stdin(), &mut buffer);
+    if write_machine(&rt, bytes, 0)? {
+        write_machine(&rt, bytes, 1)?;
     }
     Ok(())
 }
