@@ -4,11 +4,12 @@
 // of two.
 #![tactic(auto)]
 
-ghost use Rattle.std.specs.Prelude.{true, ◌≡◌, ◌<◌, ◌≤◌, length, get_or, eqb, Ok};
+ghost use Rattle.std.specs.Prelude.{◌≡◌, ◌+◌, ◌<◌, ◌≤◌, length, get_or, eqb, Ok};
 ghost use Rattle.mask.specs.Logic.{not, and};
 ghost use Rattle.mask.specs.Bounded.{count, below};
 ghost use Rattle.machine.specs.Machines.{n_c, starts};
-ghost use Rattle.machine.specs.WellFormed.{has_empty_set, well_formed};
+ghost use Rattle.machine.specs.WellFormed.{has_empty_set};
+ghost use Rattle.machine.specs.declared.Refusal.TheVariants.{FailingEntry};
 ghost use Rattle.machine.specs.Ranks.{level_of, set_of};
 ghost use Rattle.machine.specs.Table.{blank, table_room};
 ghost use Rattle.machine.specs.Lines.{lines_validity};
@@ -17,7 +18,7 @@ ghost use Rattle.machine.specs.Verdict.{start_covered, lacking_start, start_verd
 ghost use Rattle.linecheck.specs.Bounds.{line_of};
 ghost use Rattle.linecheck.specs.Reciprocal.{reciprocal_of};
 
-use machine::{Checked, Pair, Refusal, Verdict};
+use machine::{Checked, Formed, Pair, Refusal, Verdict};
 use validity::Sets;
 
 // What an entry asks of each step: partners in `section` whose entry is at most `bound`.
@@ -102,13 +103,23 @@ fn line_of(
     Some(Line { section: j, bound })
 }
 
-// Whether each line of a table of well-formed machines holds, and if not where the first is that fails.
-fn lines_validity(p: Pair, matched: [u64; 64], table: &[u16]) -> Result<(), Refusal>
-    requires { (well_formed p ≡ true) × ((matched ≡ matched_masks p) × (table_room ≤ length table.now)) }
-    ensures { result ≡ lines_validity p table.now }
+// The refusal of the entry that fails; its spot counts sections from 1.
+fn failing_entry(j: usize, c: usize, a: usize) -> Refusal
+    requires { j < 7 }
+    ensures { result ≡ FailingEntry (j + 1) c a }
 {
-    let concrete = p.concrete;
-    let abstraction = p.abstraction;
+    let section = j + 1;
+    Refusal::FailingEntry { section, c, a }
+}
+
+// Whether each line of a table holds, and if not where the first is that fails. The loops are left by their label (document 01 names this form), and
+// the refusal is made only there: made before each line it took a third more time on dense tables.
+fn lines_validity(formed: Formed, matched: [u64; 64], table: &[u16]) -> Result<(), Refusal>
+    requires { (matched ≡ matched_masks formed.pair.now) × (table_room ≤ length table.now) }
+    ensures { result ≡ lines_validity formed.entry.pair.now table.now }
+{
+    let concrete = formed.pair.concrete;
+    let abstraction = formed.pair.abstraction;
     let nc = concrete.states;
     let na = abstraction.states;
     let m = concrete.sets;
@@ -123,12 +134,6 @@ fn lines_validity(p: Pair, matched: [u64; 64], table: &[u16]) -> Result<(), Refu
                 let at = machine::entry_index(nc, na, j, c, a);
                 let e = table[at];
                 if e != machine::BLANK {
-                    // the spot of this entry, its section counted from 1
-                    let spot = Refusal::FailingEntry {
-                        section: j + 1,
-                        c,
-                        a,
-                    };
                     let Some(line) = line_of(
                         m,
                         most,
@@ -141,7 +146,7 @@ fn lines_validity(p: Pair, matched: [u64; 64], table: &[u16]) -> Result<(), Refu
                         &concrete_sets,
                         abstraction.fairness[j],
                     ) else {
-                        answer = Err(spot);
+                        answer = Err(failing_entry(j, c, a));
                         break 'lines;
                     };
                     let section = line.section;
@@ -153,7 +158,7 @@ fn lines_validity(p: Pair, matched: [u64; 64], table: &[u16]) -> Result<(), Refu
                         let from = machine::entry_index(nc, na, section, d, 0);
                         let to = from + na;
                         if !machine::has_partner(moves, matched[d], &table[from..to], bound) {
-                            answer = Err(spot);
+                            answer = Err(failing_entry(j, c, a));
                             break 'lines;
                         }
                         rest = mask::rest(rest);
@@ -165,33 +170,41 @@ fn lines_validity(p: Pair, matched: [u64; 64], table: &[u16]) -> Result<(), Refu
     answer
 }
 
-// How many entries are not blank.
+// How many entries are not blank. A loop: `filter` and `count` take twice the instructions.
 fn covered_count(entries: &[u16]) -> usize
     ensures { result ≡ count (length entries.now) (λ e. not (eqb (get_or entries.now e 0) blank)) }
 {
-    entries.iter().filter(|e| **e != machine::BLANK).count()
+    let mut found = 0;
+    for e in entries {
+        if *e != machine::BLANK {
+            found += 1;
+        }
+    }
+    found
 }
 
 // Whether c is a concrete start state without an abstract start state beside it that is not blank in section 1.
-fn lacks_partner(p: &Pair, table: &[u16], c: usize) -> bool
-    requires { (well_formed p.now ≡ true) × ((table_room ≤ length table.now) × (c < n_c p.now)) }
-    ensures { result ≡ and (starts p.now.concrete c) (not (start_covered p.now table.now c)) }
+fn lacks_partner(formed: Formed, table: &[u16], c: usize) -> bool
+    requires { (table_room ≤ length table.now) × (c < n_c formed.pair.now) }
+    ensures { result ≡ and (starts formed.entry.pair.now.concrete c) (not (start_covered formed.entry.pair.now table.now c)) }
 {
-    if !mask::has(p.concrete.start, c) {
+    let concrete = &formed.pair.concrete;
+    let abstraction = &formed.pair.abstraction;
+    if !mask::has(concrete.start, c) {
         return false;
     }
-    let na = p.abstraction.states;
-    let start = p.abstraction.start;
-    let from = machine::entry_index(p.concrete.states, na, 0, c, 0);
+    let na = abstraction.states;
+    let start = abstraction.start;
+    let from = machine::entry_index(concrete.states, na, 0, c, 0);
     !machine::has_partner(start, start, &table[from..from + na], machine::BLANK - 1)
 }
 
 // The lowest such state.
-fn lacking_start(p: Pair, table: &[u16]) -> Option<usize>
-    requires { (well_formed p ≡ true) × (table_room ≤ length table.now) }
-    ensures { result ≡ below (n_c p) (lacking_start p table.now) }
+fn lacking_start(formed: Formed, table: &[u16]) -> Option<usize>
+    requires { table_room ≤ length table.now }
+    ensures { result ≡ below (n_c formed.entry.pair.now) (lacking_start formed.entry.pair.now table.now) }
 {
-    (0..p.concrete.states).find(|c| lacks_partner(&p, table, *c))
+    (0..formed.pair.concrete.states).find(|c| lacks_partner(formed, table, *c))
 }
 
 // The check: what the table says of the pair, or where it was stopped.
@@ -203,23 +216,24 @@ pub fn check_table(p: Pair, table: &[u16]) -> Result<Checked, Refusal>
         return Err(Refusal::ShortBuffer);
     }
     validity::pair_validity(p, Sets::Any)?;
-    lines_validity(p, machine::matched_masks(p), table)?;
-    Ok(checked_of_starts(p, table))
+    let formed = Formed { pair: &p };
+    lines_validity(formed, machine::matched_masks(p), table)?;
+    Ok(checked_of_starts(formed, table))
 }
 
 // What is said of a table that passes each line.
-fn checked_of_starts(p: Pair, table: &[u16]) -> Checked
-    requires { (well_formed p ≡ true) × (table_room ≤ length table.now) }
-    ensures verdict { result.verdict ≡ start_verdict p table.now }
-    ensures empty { result.empty_set ≡ has_empty_set p.concrete }
+fn checked_of_starts(formed: Formed, table: &[u16]) -> Checked
+    requires { table_room ≤ length table.now }
+    ensures verdict { result.verdict ≡ start_verdict formed.entry.pair.now table.now }
+    ensures empty { result.empty_set ≡ has_empty_set formed.entry.pair.now.concrete }
 {
-    let concrete = p.concrete;
-    let abstraction = p.abstraction;
+    let concrete = formed.pair.concrete;
+    let abstraction = formed.pair.abstraction;
     let nc = concrete.states;
     let na = abstraction.states;
     let n = abstraction.sets;
     let covered = covered_count(&table[..n * (nc * na)]);
-    let verdict = match lacking_start(p, table) {
+    let verdict = match lacking_start(formed, table) {
         Some(lacking) => Verdict::NotCarried { lacking, covered },
         None => Verdict::Carried { covered },
     };

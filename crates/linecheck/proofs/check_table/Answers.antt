@@ -23,8 +23,11 @@ returns-in_err-pair_validity c =
     let said = check_invalid x.p x.table.now (omega arith) _ (sym c.pair_validity.ensures ∙ c.in_err-pair_validity.was) in
     record { verdict = ap verdict_of passed ∙ sym said; empty = ap empty_set_of passed ∙ sym (empty_told_refused x.p x.table.now said) }
 
+pub invariant_of-formed : goal.invariant_of-formed
+invariant_of-formed c = record { well = valid_is_well c.args.p (sym c.pair_validity.ensures ∙ c.in_ok-pair_validity.was) }
+
 pub lines_validity-requires : goal.lines_validity-requires
-lines_validity-requires c = (valid_is_well c.args.p (sym c.pair_validity.ensures ∙ c.in_ok-pair_validity.was), (c.matched_masks.ensures, omega arith))
+lines_validity-requires c = (c.matched_masks.ensures, omega arith)
 
 pub returns-in_err-lines_validity : goal.returns-in_err-lines_validity
 unfolding verdict_of empty_set_of
@@ -34,9 +37,6 @@ returns-in_err-lines_validity c =
     let said =
     check_fails x.p x.table.now (omega arith) _ (sym c.pair_validity.ensures ∙ c.in_ok-pair_validity.was) (sym c.lines_validity.ensures ∙ c.in_err-lines_validity.was) in
     record { verdict = ap verdict_of passed ∙ sym said; empty = ap empty_set_of passed ∙ sym (empty_told_refused x.p x.table.now said) }
-
-pub checked_of_starts-requires : goal.checked_of_starts-requires
-checked_of_starts-requires c = (valid_is_well c.args.p (sym c.pair_validity.ensures ∙ c.in_ok-pair_validity.was), omega arith)
 
 pub returns : goal.returns
 unfolding verdict_of empty_set_of

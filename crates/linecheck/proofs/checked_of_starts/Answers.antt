@@ -20,24 +20,24 @@ front_count : (n : ℕ) (T : List ℕ) → n ≤ length T
 front_count n T h = rw (length-take-le n T h) (count_cong n _ _ (λ i l. ap (λ (x : ℕ). not (eqb x blank)) (get_or-take n T i 0 l)))
 
 pub overflow_mul-nc : goal.overflow_mul-nc
-overflow_mul-nc c = let x = c.args in omega (arith, pairs_small x.p (well_pair x.p c.requires.0))
+overflow_mul-nc c = let x = c.args in omega (arith, pairs_small x.formed.pair.now (well_pair x.formed.pair.now x.formed.well))
 
 pub overflow_mul-n : goal.overflow_mul-n
-overflow_mul-n c = let x = c.args in omega (arith, entries_small x.p (well_pair x.p c.requires.0))
+overflow_mul-n c = let x = c.args in omega (arith, entries_small x.formed.pair.now (well_pair x.formed.pair.now x.formed.well))
 
 -- as many entries as are counted are in the table
 pub slice_bounds-covered_count-end : goal.slice_bounds-covered_count-end
-slice_bounds-covered_count-end c = let x = c.args in sym (length-take-le _ x.table.now (omega (arith, entries_small x.p (well_pair x.p c.requires.0), c.requires.1)))
+slice_bounds-covered_count-end c = let x = c.args in sym (length-take-le _ x.table.now (omega (arith, entries_small x.formed.pair.now (well_pair x.formed.pair.now x.formed.well), c.requires)))
 
 pub returns-clause-verdict : goal.returns-clause-verdict
 unfolding covered_count
 returns-clause-verdict c =
     let x = c.args in
-    let counted = c.covered_count-covered.ensures ∙ front_count _ x.table.now (omega (arith, entries_small x.p (well_pair x.p c.requires.0), c.requires.1)) in
+    let counted = c.covered_count-covered.ensures ∙ front_count _ x.table.now (omega (arith, entries_small x.formed.pair.now (well_pair x.formed.pair.now x.formed.well), c.requires)) in
     elim c.match-lacking_start.branch [
       | in-Some w ↦
-          let lowest = below_at (n_c x.p) (lacking_start x.p x.table.now) (sym c.lacking_start.ensures ∙ w.in-Some.is) in
-          w.verdict-is ∙ sym (start_lacking x.p x.table.now _ _ counted lowest.0 (rw lowest.0 lowest.1))
+          let lowest = below_at (n_c x.formed.pair.now) (lacking_start x.formed.pair.now x.table.now) (sym c.lacking_start.ensures ∙ w.in-Some.is) in
+          w.verdict-is ∙ sym (start_lacking x.formed.pair.now x.table.now _ _ counted lowest.0 (rw lowest.0 lowest.1))
       | in-None w ↦
-          w.verdict-is ∙ sym (start_carried x.p x.table.now _ _ counted refl (below_past (n_c x.p) (lacking_start x.p x.table.now) (sym c.lacking_start.ensures ∙ w.in-None.is)))
+          w.verdict-is ∙ sym (start_carried x.formed.pair.now x.table.now _ _ counted refl (below_past (n_c x.formed.pair.now) (lacking_start x.formed.pair.now x.table.now) (sym c.lacking_start.ensures ∙ w.in-None.is)))
     ]

@@ -13,10 +13,10 @@ use Rattle.linecheck.proofs.lacks_partner.Goals as goal
 use Rattle.linecheck.proofs.lacks_partner.Goals.{After-entry_index-from}
 
 -- the row lies within the table
-room : (c : After-entry_index-from) → c.entry_index-from.result + n_a c.args.p.now ≤ length c.args.table.now
+room : (c : After-entry_index-from) → c.entry_index-from.result + n_a c.args.formed.pair.now ≤ length c.args.table.now
 room c =
     let x = c.args in
-    row_fits x.p.now (well_pair x.p.now c.requires.0) _ 0 x.c _ c.entry_index-from.ensures (omega arith) c.requires.1.1 c.requires.1.0
+    row_fits x.formed.pair.now (well_pair x.formed.pair.now x.formed.well) _ 0 x.c _ c.entry_index-from.ensures (omega arith) c.requires.1 c.requires.0
 
 pub overflow_add-from : goal.overflow_add-from
 overflow_add-from c = omega (arith, room (goal.at.overflow_add-from c).After-entry_index-from)
@@ -35,11 +35,11 @@ pub returns : goal.returns
 unfolding starts
 returns c =
     let x = c.args in
-    let w = well_pair x.p.now c.requires.0 in
+    let w = well_pair x.formed.pair.now x.formed.well in
     let from = c.entry_index-from.result in
     let found =
     c.has_partner.ensures 0
-    ∙ start_found x.p.now x.table.now w (λ i. omega (arith, c.type_inv.table i)) x.c from (from + n_a x.p.now)
-    (place_at_lem x.p.now w from 0 x.c 0 c.entry_index-from.ensures (omega arith) c.requires.1.1 (omega arith)) refl
+    ∙ start_found x.formed.pair.now x.table.now w (λ i. omega (arith, c.type_inv.table i)) x.c from (from + n_a x.formed.pair.now)
+    (place_at_lem x.formed.pair.now w from 0 x.c 0 c.entry_index-from.ensures (omega arith) c.requires.1 (omega arith)) refl
     (room (goal.at.returns c).After-entry_index-from) 0 _ in
     sym (and_true_l _ (sym c.has.ensures ∙ c.if-not-has.false) ∙ not_is _ ∙ ap B.not (sym found))
