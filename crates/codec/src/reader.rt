@@ -265,7 +265,8 @@ fn file_validity(bytes: &[u8]) -> Result<(), Refusal>
 
 // ---- The payload
 
-// Joins the payloads of all blocks, at the front of a buffer.
+// Joins the payloads of all blocks, at the front of a buffer. (Tried: `chunks_exact` zipped with `chunks_exact_mut`. It is as fast, but after the
+// loop a proof knows only how long the payload is.)
 fn join(bytes: &[u8], payload: &mut [u8])
     requires { 508 * (length bytes.now / 512) ≤ length payload.old }
     ensures { payload.new ≡ front (508 * (length bytes.now / 512)) (payload_byte bytes.now) payload.old }
@@ -343,7 +344,7 @@ fn table_at(head: &Head, q: &[u8], table: &mut [u16])
 
 // ---- The reader
 
-// A machine of zeros.
+// A machine of zeros, field by field, since `machine::Machine` derives no Default.
 fn zero_machine() -> Machine
     ensures { result ≡ zero_machine }
 {
@@ -357,7 +358,7 @@ fn zero_machine() -> Machine
     }
 }
 
-// The answer beside a refusal.
+// The answer beside a refusal: document 01 gives the reader's answer this form, with machines of zeros, so that a refusal is put into it here.
 fn refused_show(r: Refusal) -> Show
     ensures answer { read_of result ≡ Err r }
     ensures machines { result.pair ≡ zero_pair }
@@ -372,7 +373,8 @@ fn refused_show(r: Refusal) -> Show
     }
 }
 
-// The show of a file whose blocks hold, with its table in the lent one: refusals 9 to 11, and what is taken.
+// The show of a file whose blocks hold, with its table in the lent one: refusals 9 to 11, and what is taken. A refusal goes by a match and not by
+// `?`: it is handed over in a Show, as document 01 has it.
 fn take_show(bytes: &[u8], table: &mut [u16]) -> Show
     requires bytes_value { and_then (first_validity bytes.now) (blocks_validity bytes.now) ≡ valid }
     requires table_room_in_bounds { table_room ≤ length table.old }
@@ -399,7 +401,8 @@ fn take_show(bytes: &[u8], table: &mut [u16]) -> Show
     }
 }
 
-// Reads a file: its machines with their hidden mask, the note whether a table came, and the table into a lent one.
+// Reads a file: its machines with their hidden mask, the note whether a table came, and the table into a lent one. A refusal goes by a match, since
+// document 01 wants machines of zeros beside it.
 pub fn read_file(bytes: &[u8], table: &mut [u16]) -> Show
     ensures answer { read_of result ≡ read_answer bytes.now table.old }
     ensures machines { result.pair ≡ pair_given (read_answer bytes.now table.old) }

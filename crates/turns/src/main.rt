@@ -25,6 +25,7 @@ fn take_turns(rt: &impl Print, pair: Pair, first: [u64; 448], table: &mut [u16])
     Ok(())
 }
 
+// Like each caller of the reader it lends a table of its own, and goes on from what is read directly: document 01 names this form.
 fn main(rt: HostRuntime) -> io::Result<()> {
     let mut buffer = [0u8; codec::INPUT_ROOM];
     let bytes = stream::filled(&mut rt.stdin(), &mut buffer);
