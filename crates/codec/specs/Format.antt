@@ -67,6 +67,10 @@ file_length c a m n note = 512 * blocks_for (payload_length c a m n note)
 unfoldable pub check_at : List ℕ → ℕ → ℕ
 check_at s at = sum 510 (λ i. suc i * get_or s (at + i) 0) % 65521
 
+-- block i with its part of the payload: its number, the part and the check of both
+unfoldable pub block_of : List ℕ → ℕ → List ℕ
+block_of part i = let front = bytes_of 2 i ++ part in front ++ bytes_of 2 (check_at front 0)
+
 -- "Bytes 0 and 1 are the block's number from 0, bytes 2 to 509 payload": "zeros to the block's end"
 unfoldable pub block_front : List ℕ → ℕ → List ℕ
 block_front Q i = bytes_of 2 i ++ table 508 (λ k. get_or Q (508 * i + k) 0)

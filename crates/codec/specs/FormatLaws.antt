@@ -1,6 +1,6 @@
 -- Laws of the format: how long each part is, and that a block rests on its own part of the payload.
 use Rattle.std.specs.Prelude.{Bool, true, false, cond, ◌≡◌, refl, List, ◌++◌, ℕ, suc, ◌+◌, ◌*◌, ◌/◌, ◌%◌, ◌≤◌, ◌<◌, length, get_or}
-use Rattle.std.proofs.Common.{sym, ap, ap₂, ◌∙◌, arith, length-append, get_or-append-add}
+use Rattle.std.proofs.Common.{sym, ap, ap₂, ◌∙◌, arith, length-append, get_or-append-add, take, drop, zero-add, get_or-take, get_or-drop}
 use Rattle.std.proofs.Math.ListN.{get_or-append}
 use Rattle.mask.specs.BoundedLaws.{sum_cong}
 use Rattle.mask.specs.LogicLaws.{cond_cases}
@@ -110,6 +110,11 @@ block_cong Q R i h = ap (λ (l : List ℕ). l ++ bytes_of 2 (check_at l 0)) (fro
 pub check_cong : (s t : List ℕ) (at to : ℕ) → ((i : ℕ) → i < 510 → get_or s (at + i) 0 ≡ get_or t (to + i) 0) → check_at s at ≡ check_at t to
 unfolding check_at
 check_cong s t at to h = ap (λ (x : ℕ). x % 65521) (sum_cong 510 _ _ (λ i l. ap (λ (x : ℕ). suc i * x) (h i l)))
+
+pub part_check : (m : ℕ) (s : List ℕ) (at : ℕ) → m ≡ 510 → check_at (take m (drop at s)) 0 ≡ check_at s at
+part_check m s at e =
+    check_cong (take m (drop at s)) s 0 at
+    (λ i l. ap (λ (k : ℕ). get_or (take m (drop at s)) k 0) (zero-add i) ∙ get_or-take m (drop at s) i 0 (omega arith) ∙ get_or-drop at s i 0)
 
 -- ---- what stands in a block, and in a file of blocks
 pub front_at : (Q : List ℕ) (i j : ℕ) → j < 510 → get_or (block Q i) j 0 ≡ get_or (block_front Q i) j 0

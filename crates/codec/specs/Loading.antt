@@ -1,7 +1,12 @@
 -- Names that the contracts of the reader's own parts cite.
 use Rattle.std.specs.Prelude.{List, true, false, ◌≡◌, ℕ, ◌*◌, ◌/◌, ◌≤◌, length, get_or}
+use Rattle.codec.specs.declared.reader.Counts.{Counts}
 use Rattle.codec.specs.Format.{payload_length}
 use Rattle.codec.specs.Reader.{header_byte, counts_hold, payload_demanded, payload_of}
+
+-- the counts of a header
+abbrev pub counts_of : List ℕ → Counts
+counts_of f = record { c = header_byte f 4; a = header_byte f 5; m = header_byte f 6; n = header_byte f 7 }
 
 -- where the table's entries begin in the payload, and how many they are
 abbrev pub entries_place : List ℕ → ℕ

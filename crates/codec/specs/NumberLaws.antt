@@ -75,18 +75,11 @@ whole_of (suc n) x g h e =
     whole_front n g ∙ omega (arith, upper, e 0 (omega arith), byte_zero x)
 
 -- ---- std's conversions
--- the number that they read of bytes that stand at a place
-pub read_is : (k : ℕ) (s bytes : List ℕ) (at : ℕ) → ((i : ℕ) → i < suc k → get_or bytes i 0 ≡ get_or s (at + i) 0)
-    → sum_through (λ i. byte_worth i (get_or bytes i 0)) k ≡ number_at (suc k) s at
+-- the number that they read of bytes
+pub read_is : (k : ℕ) (s : List ℕ) → sum_through (λ i. byte_worth i (get_or s i 0)) k ≡ number_at (suc k) s 0
 unfolding number_at sum
-read_is zero s bytes at h = h 0 (omega arith) ∙ omega arith
-read_is (suc k) s bytes at h = ap₂ ◌+◌ (read_is k s bytes at (λ i l. h i (omega arith))) (ap (λ (b : ℕ). b * 256 ^ suc k) (h (suc k) (omega arith)))
-
--- the same, of a part of the list
-pub read_part : (k n : ℕ) (s bytes : List ℕ) (at : ℕ) → bytes ≡ take n (drop at s) → n ≡ suc k
-    → sum_through (λ i. byte_worth i (get_or bytes i 0)) k ≡ number_at (suc k) s at
-read_part k n s bytes at e z =
-    read_is k s bytes at (λ i l. ap (λ (b : List ℕ). get_or b i 0) e ∙ get_or-take n (drop at s) i 0 (omega arith) ∙ get_or-drop at s i 0)
+read_is zero s = omega arith
+read_is (suc k) s = ap₂ ◌+◌ (read_is k s) (ap (λ (i : ℕ). get_or s i 0 * 256 ^ suc k) (sym (zero-add (suc k))))
 
 -- the bytes that they give of a number
 byte_is : (i n : ℕ) → byte_at i n ≡ byte_of n i
@@ -109,6 +102,19 @@ given_bytes k n = given_from k 0 n ∙ table_cong k _ _ (λ j l. ap (byte_of n) 
 pub number_cong : (n : ℕ) (s t : List ℕ) (at to : ℕ) → ((i : ℕ) → i < n → get_or s (at + i) 0 ≡ get_or t (to + i) 0) → number_at n s at ≡ number_at n t to
 unfolding number_at
 number_cong n s t at to h = sum_cong n _ _ (λ i l. ap (λ (x : ℕ). x * 256 ^ i) (h i l))
+
+-- of a part, and the numbers of a part
+pub part_number : (n m : ℕ) (s : List ℕ) (at : ℕ) → m ≡ n → number_at n (take m (drop at s)) 0 ≡ number_at n s at
+part_number n m s at e =
+    number_cong n (take m (drop at s)) s 0 at
+    (λ i l. ap (λ (k : ℕ). get_or (take m (drop at s)) k 0) (zero-add i) ∙ get_or-take m (drop at s) i 0 (omega arith) ∙ get_or-drop at s i 0)
+
+pub part_numbers : (n count m : ℕ) (s : List ℕ) (at : ℕ) → m ≡ n * count
+    → table count (λ k. number_at n (take m (drop at s)) (n * k)) ≡ table count (λ k. number_at n s (at + n * k))
+part_numbers n count m s at e =
+    table_cong count _ _ (λ k h. number_cong n (take m (drop at s)) s (n * k) (at + n * k)
+    (λ i l. get_or-take m (drop at s) (n * k + i) 0 (rw (e, mul_comm n k, mul_comm n count) (digits_lt h l))
+    ∙ get_or-drop at s (n * k + i) 0 ∙ ap (λ (j : ℕ). get_or s j 0) (sym (add_assoc at (n * k) i))))
 
 pub number_lt : (n : ℕ) (s : List ℕ) (at : ℕ) → ((i : ℕ) → i < n → get_or s (at + i) 0 < 256) → number_at n s at < 256 ^ n
 unfolding number_at

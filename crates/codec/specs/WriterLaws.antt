@@ -1,14 +1,13 @@
 -- Laws of the format that the writer goes by: the stores of its parts, and what one number or one block more adds.
 use Rattle.std.specs.Prelude.{◌≡◌, Bool, true, false, cond, List, [], ◌∷◌, ◌++◌, ℕ, ◌+◌, ◌*◌, ◌/◌, ◌%◌, ◌≤◌, ◌<◌, length, take, drop, replicate, Err, Ok}
 use Rattle.std.proofs.Math.Path.{refl, sym, ap, ap₂}
-use Rattle.std.proofs.Common.{◌∙◌, zero-add, arith, length-append, length-drop, length-take-le, get_or-take, mul_comm}
+use Rattle.std.proofs.Common.{◌∙◌, arith, length-append, length-take-le, get_or-take, take_at, append-nil, append_assoc, mul_comm}
 use Rattle.std.proofs.Math.ListN.{get_or}
-use Rattle.std.proofs.lemmas.List.{length-replicate, get_or-replicate}
 use Rattle.std.proofs.lemmas.Nat.{div_below}
-use Rattle.std.proofs.lemmas.List.Edits.{sets}
 use borrow.Rule.Slice.PartMut.{put_mid}
 use mir.Val.{bool_byte}
-use Rattle.mask.specs.Tables.{table}
+use Rattle.mask.specs.Tables.{table, front}
+use Rattle.mask.specs.FrontLaws.{front_padded}
 use Rattle.mask.specs.TablesLaws.{table_length, table_cong}
 use Rattle.machine.specs.declared.Machine.{Machine}
 use Rattle.machine.specs.declared.Pair.{Pair}
@@ -18,29 +17,30 @@ use Rattle.machine.specs.declared.Refusal.{Refusal}
 use Rattle.machine.specs.Refusals.{valid, and_then, buffer_validity}
 use Rattle.machine.specs.RefusalsLaws.{then_of, then_refused, then_answer, given_at, buffer_valid, buffer_short, buffer_made, buffer_kept}
 use Rattle.machine.specs.WellFormed.{nonempty_validity, nonempty_sets, well_formed}
-use Rattle.machine.specs.WellFormedLaws.{WellPair, well_valid}
+use Rattle.machine.specs.WellFormedLaws.{WellPair, well_pair, well_valid, pairs_small, entries_small}
 use Rattle.machine.specs.EmptySetsLaws.{nonempty_valid, nonempty_at}
 use Rattle.codec.specs.Writer.{file_room, write_validity, write_answer, write_buffer}
-use Rattle.codec.specs.Format.{byte_of, bytes_of, numbers, letters, header, machine_bytes, table_bytes, payload, payload_most, payload_room, payload_length, blocks_for, file_length, check_at, block_front, block, blocked, file_of}
+use Rattle.codec.specs.Format.{byte_of, bytes_of, numbers, header, machine_bytes, table_bytes, payload, payload_most, payload_length, blocks_for, file_length, check_at, block_of, block_front, block, blocked, file_of}
 use Rattle.codec.specs.NumberLaws.{bytes_length, numbers_length}
-use Rattle.codec.specs.ListLaws.{table_of_lem, rows_more, sets_then, sets_none, sets_at, sets_front, sets_zeros, part_stored}
-use Rattle.codec.specs.FormatLaws.{header_length, machine_length, payload_length_lem, payload_small, blocks_small, front_length, block_length, block_cong, check_cong}
+use Rattle.codec.specs.FrontLaws.{front_part}
+use Rattle.codec.specs.ListLaws.{table_of_lem, rows_more, part_table, part_next, part_last}
+use Rattle.codec.specs.FormatLaws.{header_length, machine_length, payload_length_lem, payload_small, blocks_small, block_length, block_cong}
 use Rattle.machine.specs.declared.Refusal.TheVariants.{ShortBuffer}
 
 -- ---- numbers, one a turn
-pub numbers_none : (n : ℕ) (l : List ℕ) (at : ℕ) (f : ℕ → ℕ) → l ≡ sets l at (numbers n 0 f)
+pub numbers_none : (n : ℕ) (l : List ℕ) (f : ℕ → ℕ) → l ≡ numbers n 0 f ++ drop (n * 0) l
 unfolding numbers table
-numbers_none n l at f = let e : n * 0 ≡ 0 = omega arith in rw e
+numbers_none n l f = let e : n * 0 ≡ 0 = omega arith in rw e
 
-pub numbers_more : (n count : ℕ) (f : ℕ → ℕ) → 0 < n → numbers n (count + 1) f ≡ numbers n count f ++ bytes_of n (f count)
+numbers_more : (n count : ℕ) (f : ℕ → ℕ) → 0 < n → numbers n (count + 1) f ≡ numbers n count f ++ bytes_of n (f count)
 unfolding numbers bytes_of
 numbers_more n count f h = rows_more n count (λ k. byte_of (f k)) h
 
-pub store_next : (n : ℕ) (l s t : List ℕ) (at count : ℕ) (f : ℕ → ℕ) → 0 < n → s ≡ sets l at (numbers n count f)
-    → t ≡ sets s (at + n * count) (bytes_of n (f count)) → t ≡ sets l at (numbers n (count + 1) f)
-store_next n l s t at count f h e g =
-    sets_then l s t (numbers n count f) (bytes_of n (f count)) at (n * count) (at + n * count) e g (numbers_length n count f) refl
-    ∙ ap (sets l at) (sym (numbers_more n count f h))
+pub store_next : (n : ℕ) (l s ys : List ℕ) (count : ℕ) (f : ℕ → ℕ) (at k : ℕ) → 0 < n → s ≡ numbers n count f ++ drop (n * count) l → ys ≡ bytes_of n (f count)
+    → at ≡ n * count → k ≡ n → put_mid at k s ys ≡ numbers n (count + 1) f ++ drop (n * (count + 1)) l
+store_next n l s ys count f at k some e g p q =
+    let more : n * count + n ≡ n * (count + 1) = omega arith in
+    rw (e, g, p, q, numbers_more n count f some, ← more) (part_next (numbers n count f) l (bytes_of n (f count)) (n * count) n (numbers_length n count f) (bytes_length n (f count)))
 
 -- the numbers at the front of a list
 pub numbers_front : (n count : ℕ) (xs : List ℕ) → 0 < n → count ≤ length xs
@@ -50,70 +50,97 @@ numbers_front n count xs some h =
     ap (λ (m : ℕ). numbers n m (λ i. get_or (take count xs) i 0)) (length-take-le count xs h)
     ∙ table_cong (n * count) _ _ (λ i l. ap (λ (x : ℕ). byte_of x (i % n)) (get_or-take count xs (i / n) 0 (div_below i n count some (rw mul_comm at l))))
 
--- ---- the header: the letters, then the rest, with the note as the code makes it a byte
-note_byte : (note : Bool) → bool_byte note ≡ cond note 1 0
+-- ---- the header, with the note as the code makes it a byte
+pub note_byte : (note : Bool) → bool_byte note ≡ cond note 1 0
 note_byte true = refl
 note_byte false = refl
 
-pub store_header : (p : Pair) (note : Bool) (l first rest : List ℕ) → 16 ≤ length l → first ≡ letters
-    → rest ≡ n_c p ∷ n_a p ∷ sets_c p ∷ sets_a p ∷ p.hidden ∷ bool_byte note ∷ 0 ∷ 0 ∷ 0 ∷ 0 ∷ 0 ∷ 0 ∷ []
-    → put_mid 4 12 (first ++ drop 4 l) rest ≡ sets l 0 (header p note)
-unfolding header
-store_header p note l first rest room e f =
-    let rest_is = n_c p ∷ n_a p ∷ sets_c p ∷ sets_a p ∷ p.hidden ∷ cond note 1 0 ∷ 0 ∷ 0 ∷ 0 ∷ 0 ∷ 0 ∷ 0 ∷ [] in
-    let start : first ++ drop 4 l ≡ sets l 0 letters = part_stored l first letters 0 4 e refl (omega arith) in
-    let long : length (first ++ drop 4 l) ≡ length l = rw (e, length-append, length-drop) (omega arith) in
-    sets_then l (first ++ drop 4 l) _ letters rest_is 0 4 4 start
-    (part_stored (first ++ drop 4 l) rest rest_is 4 12 (rw (note_byte note) at f) refl (omega arith)) refl refl
-
 -- ---- a machine: observations, start mask, successor masks, sets
-pub store_machine : (m : Machine) (l s t u v : List ℕ) (at : ℕ)
-    → s ≡ sets l at (table m.states (λ i. get_or m.observations (0 + i) 0))
-    → t ≡ sets s (at + m.states) (bytes_of 8 m.start) → u ≡ sets t (at + m.states + 8) (numbers 8 m.states (λ i. get_or m.successors i 0))
-    → v ≡ sets u (at + m.states + 8 + 8 * m.states) (numbers 8 m.sets (λ i. get_or m.fairness i 0)) → v ≡ sets l at (machine_bytes m)
+pub store_machine : (m : Machine) (l o s ms fs : List ℕ) (k₁ k₂ k₃ : ℕ) → let N = m.states in length l ≡ 9 * N + 8 * m.sets + 8 → k₁ ≡ 8 → k₂ ≡ 8 * N → k₃ ≡ 8 * m.sets
+    → o ≡ table N (λ i. get_or m.observations i 0) → s ≡ bytes_of 8 m.start → ms ≡ numbers 8 N (λ i. get_or m.successors i 0) → fs ≡ numbers 8 m.sets (λ i. get_or m.fairness i 0)
+    → put_mid (N + 8 + 8 * N) k₃ (put_mid (N + 8) k₂ (put_mid N k₁ (o ++ drop N l) s) ms) fs ≡ machine_bytes m
 unfolding machine_bytes observation successors fair_set
-store_machine m l s t u v at e f g h =
+store_machine m l o s ms fs k₁ k₂ k₃ room e₁ e₂ e₃ o_is s_is ms_is fs_is =
     let N = m.states in
     let O = table N (λ i. get_or m.observations i 0) in
     let S = bytes_of 8 m.start in
     let M = numbers 8 N (λ i. get_or m.successors i 0) in
     let F = numbers 8 m.sets (λ i. get_or m.fairness i 0) in
-    let observed : s ≡ sets l at O = e
-    ∙ ap (sets l at) (table_cong N (λ i. get_or m.observations (0 + i) 0) (λ i. get_or m.observations i 0) (λ i q. ap (λ (k : ℕ). get_or m.observations k 0) (zero-add i))) in
-    let behind_start = sets_then t u v M F (at + N + 8) (8 * N) (at + N + 8 + 8 * N) g h (numbers_length 8 N (λ i. get_or m.successors i 0)) refl in
-    let behind_observations = sets_then s t v S (M ++ F) (at + N) 8 (at + N + 8) f behind_start (bytes_length 8 m.start) refl in
-    sets_then l s v O (S ++ (M ++ F)) at N (at + N) observed behind_observations (table_length N (λ i. get_or m.observations i 0)) refl
+    let O_long = table_length N (λ i. get_or m.observations i 0) in
+    let S_long = bytes_length 8 m.start in
+    let M_long = numbers_length 8 N (λ i. get_or m.successors i 0) in
+    let F_long = numbers_length 8 m.sets (λ i. get_or m.fairness i 0) in
+    rw (o_is, s_is, ms_is, fs_is, e₁, e₂, e₃)
+    (ap (λ (x : List ℕ). put_mid (N + 8 + 8 * N) (8 * m.sets) (put_mid (N + 8) (8 * N) x M) F) (part_next O l S N 8 O_long S_long)
+    ∙ ap (λ (x : List ℕ). put_mid (N + 8 + 8 * N) (8 * m.sets) x F) (part_next (O ++ S) l M (N + 8) (8 * N) (length-append O S ∙ omega (arith, O_long, S_long)) M_long)
+    ∙ part_next ((O ++ S) ++ M) l F (N + 8 + 8 * N) (8 * m.sets) (length-append (O ++ S) M ∙ omega (arith, length-append O S, O_long, S_long, M_long)) F_long
+    ∙ part_last (((O ++ S) ++ M) ++ F) l (N + 8 + 8 * N + 8 * m.sets) (omega (arith, room))
+    ∙ append_assoc (O ++ S) M F ∙ append_assoc O S (M ++ F))
 
--- ---- the payload: l, the lists after the header and after each machine, and the list after the table
-module _ (p : Pair) (note : Bool) (T l s t u : List ℕ) (i j : ℕ)
-    (head : s ≡ sets l 0 (header p note))
-    (rig : t ≡ sets s 16 (machine_bytes p.concrete)) (i_is : i ≡ 16 + (9 * n_c p + 8 * sets_c p + 8))
-    (score : u ≡ sets t i (machine_bytes p.abstraction)) (j_is : j ≡ i + (9 * n_a p + 8 * sets_a p + 8)) where
-  store_payload : (v : List ℕ) → v ≡ sets u j (table_bytes p note T) → v ≡ sets l 0 (payload p note T)
-  unfolding payload
-  store_payload v e =
+-- the counts of a well-formed pair are small
+pub formed_small : (p : Pair) → well_formed p ≡ true
+    → (p.concrete.states ≤ 64) × (p.abstraction.states ≤ 64) × (p.concrete.sets ≤ 8) × (p.abstraction.sets ≤ 7) × (p.concrete.states * p.abstraction.states ≤ 4096)
+    × (p.abstraction.sets * (p.concrete.states * p.abstraction.states) ≤ table_room)
+formed_small p t =
+    let w = well_pair p t in (w.concrete.states_high, w.abstraction.states_high, w.concrete.sets_high, w.abstraction.sets_high, pairs_small p w, entries_small p w)
+
+-- ---- the payload: header, machines and table written over the front of l
+module _ (p : Pair) (note : Bool) (T l h c a : List ℕ) (i j k₁ k₂ : ℕ)
+    (h_is : h ≡ header p note) (c_is : c ≡ machine_bytes p.concrete) (a_is : a ≡ machine_bytes p.abstraction)
+    (i_is : i ≡ 16 + (9 * n_c p + 8 * sets_c p + 8)) (j_is : j ≡ i + (9 * n_a p + 8 * sets_a p + 8))
+    (k₁_is : 16 + k₁ ≡ i) (k₂_is : i + k₂ ≡ j) where
+  -- what stands before the table
+  abbrev before : List ℕ
+  before = (header p note ++ machine_bytes p.concrete) ++ machine_bytes p.abstraction
+
+  before_long : length before ≡ j
+  before_long =
+      length-append (header p note ++ machine_bytes p.concrete) (machine_bytes p.abstraction)
+      ∙ omega (arith, length-append (header p note) (machine_bytes p.concrete), header_length p note, machine_length p.concrete, machine_length p.abstraction, i_is, j_is)
+
+  store_before : put_mid i k₂ (put_mid 16 k₁ (h ++ drop 16 l) c) a ≡ before ++ drop j l
+  store_before =
+      let H = header p note in
       let C = machine_bytes p.concrete in
       let A = machine_bytes p.abstraction in
-      let E = table_bytes p note T in
-      let behind_rig = sets_then t u v A E i (9 * n_a p + 8 * sets_a p + 8) j score e (machine_length p.abstraction) j_is in
-      let behind_header = sets_then s t v C (A ++ E) 16 (9 * n_c p + 8 * sets_c p + 8) i rig behind_rig (machine_length p.concrete) i_is in
-      sets_then l s v (header p note) (C ++ (A ++ E)) 0 16 16 head behind_header (header_length p note) refl
+      let first : put_mid 16 k₁ (H ++ drop 16 l) C ≡ (H ++ C) ++ drop i l =
+      part_next H l C 16 k₁ (header_length p note) (machine_length p.concrete ∙ omega (arith, i_is, k₁_is)) ∙ ap (λ (n : ℕ). (H ++ C) ++ drop n l) k₁_is in
+      rw (h_is, c_is, a_is)
+      (ap (λ (x : List ℕ). put_mid i k₂ x A) first
+      ∙ part_next (H ++ C) l A i k₂ (length-append H C ∙ omega (arith, header_length p note, machine_length p.concrete, i_is)) (machine_length p.abstraction ∙ omega (arith, j_is, k₂_is))
+      ∙ ap (λ (n : ℕ). before ++ drop n l) k₂_is)
 
   -- the payload's length and its bytes, with a table and without
-  pub store_table : note ≡ true → (v : List ℕ) → v ≡ sets u j (numbers 2 (entries p) (λ e. get_or T e 0))
-      → (j + 2 * entries p ≡ payload_length (n_c p) (n_a p) (sets_c p) (sets_a p) note) × (v ≡ sets l 0 (payload p note T))
-  unfolding table_bytes payload_length
-  store_table h v e = (
-    rw h (omega arith),
-    store_payload v (e ∙ ap (λ (b : Bool). sets u j (cond b (numbers 2 (entries p) (λ e. get_or T e 0)) [])) (sym h)),
-  )
+  pub store_table : note ≡ true → (e : List ℕ) (k end : ℕ) → e ≡ numbers 2 (entries p) (λ e. get_or T e 0) → j + 2 * entries p ≡ end → j + k ≡ end
+      → (end ≡ payload_length (n_c p) (n_a p) (sets_c p) (sets_a p) note)
+      × (put_mid j k (put_mid i k₂ (put_mid 16 k₁ (h ++ drop 16 l) c) a) e ≡ payload p note T ++ drop end l)
+  unfolding payload table_bytes payload_length
+  store_table t e k end e_is end_is k_is =
+      let H = header p note in
+      let C = machine_bytes p.concrete in
+      let A = machine_bytes p.abstraction in
+      let E = numbers 2 (entries p) (λ e. get_or T e 0) in (
+        rw t (omega (arith, i_is, j_is, end_is)),
+        ap₂ (put_mid j k) store_before e_is
+            ∙ part_next before l E j k before_long (numbers_length 2 (entries p) (λ e. get_or T e 0) ∙ omega (arith, end_is, k_is))
+            ∙ ap₂ (λ (x : List ℕ) (n : ℕ). x ++ drop n l) (append_assoc (H ++ C) A E ∙ append_assoc H C (A ++ E)) k_is
+            ∙ ap (λ (b : Bool). (H ++ (C ++ (A ++ cond b E []))) ++ drop end l) (sym t),
+      )
 
-  pub store_no_table : note ≡ false → (j ≡ payload_length (n_c p) (n_a p) (sets_c p) (sets_a p) note) × (u ≡ sets l 0 (payload p note T))
-  unfolding table_bytes payload_length
-  store_no_table h = (
-    rw h (omega arith),
-    store_payload u (ap (λ (b : Bool). sets u j (cond b (numbers 2 (entries p) (λ e. get_or T e 0)) [])) (sym h)),
-  )
+  pub store_no_table : note ≡ false
+      → (j ≡ payload_length (n_c p) (n_a p) (sets_c p) (sets_a p) note)
+      × (put_mid i k₂ (put_mid 16 k₁ (h ++ drop 16 l) c) a ≡ payload p note T ++ drop j l)
+  unfolding payload table_bytes payload_length
+  store_no_table t =
+      let H = header p note in
+      let C = machine_bytes p.concrete in
+      let A = machine_bytes p.abstraction in
+      let E = numbers 2 (entries p) (λ e. get_or T e 0) in (
+        rw t (omega (arith, i_is, j_is)),
+        store_before
+            ∙ ap (λ (x : List ℕ). x ++ drop j l) (append_assoc H C A ∙ ap (λ (x : List ℕ). H ++ (C ++ x)) (sym (append-nil A)))
+            ∙ ap (λ (b : Bool). (H ++ (C ++ (A ++ cond b E []))) ++ drop j l) (sym t),
+      )
 
 -- a number's low two bytes are those of its remainder
 pub low_two : (x : ℕ) → bytes_of 2 (x % 65536) ≡ bytes_of 2 x
@@ -123,38 +150,49 @@ low_two x =
     let high : x % 65536 / 256 % 256 ≡ x / 256 % 256 = omega arith in
     ap₂ (λ (a b : ℕ). a ∷ b ∷ []) low high
 
--- ---- a block: the list after its number, after its part of the payload, and after its check
-module _ (Q l s t u : List ℕ) (i check : ℕ) (room : 512 * i + 512 ≤ length l)
-    (number : s ≡ sets l (512 * i) (bytes_of 2 i))
-    (part : t ≡ sets s (512 * i + 2) (table 508 (λ k. get_or Q (508 * i + k) 0)))
-    (sum : check ≡ check_at t (512 * i))
-    (last : u ≡ sets t (512 * i + 510) (bytes_of 2 check)) where
-  store_front : t ≡ sets l (512 * i) (block_front Q i)
-  unfolding block_front
-  store_front = sets_then l s t (bytes_of 2 i) (table 508 (λ k. get_or Q (508 * i + k) 0)) (512 * i) 2 (512 * i + 2) number part (bytes_length 2 i) refl
+-- ---- a block: number, part of the payload and check written over l
+module _ (part l number middle : List ℕ) (i : ℕ) (room : length l ≡ 512) (long : length part ≡ 508) (number_is : number ≡ bytes_of 2 i) (middle_is : middle ≡ part) where
+  abbrev fronted : List ℕ
+  fronted = bytes_of 2 i ++ part
 
-  check_is : check ≡ check_at (block_front Q i) 0
-  check_is = sum ∙ check_cong t (block_front Q i) (512 * i) 0
-      (λ k h. ap (λ (x : List ℕ). get_or x (512 * i + k) 0) store_front
-      ∙ sets_at l (block_front Q i) (512 * i) k 0 (omega (arith, front_length Q i)) (omega (arith, front_length Q i))
-      ∙ ap (λ (n : ℕ). get_or (block_front Q i) n 0) (sym (zero-add k)))
+  fronted_long : length fronted ≡ 510
+  fronted_long = length-append (bytes_of 2 i) part ∙ omega (arith, bytes_length 2 i, long)
 
-  pub store_block : u ≡ sets l (512 * i) (block Q i)
-  unfolding block
-  store_block =
-      sets_then l t u (block_front Q i) (bytes_of 2 (check_at (block_front Q i) 0)) (512 * i) 510 (512 * i + 510)
-      store_front (last ∙ ap (λ (n : ℕ). sets t (512 * i + 510) (bytes_of 2 n)) check_is) (front_length Q i) refl
+  store_front : put_mid 2 508 (number ++ drop 2 l) middle ≡ fronted ++ drop 510 l
+  store_front = rw (number_is, middle_is) (part_next (bytes_of 2 i) l part 2 508 (bytes_length 2 i) long)
+
+  pub front_is : take 510 (put_mid 2 508 (number ++ drop 2 l) middle) ≡ fronted
+  front_is = ap (take 510) store_front ∙ take_at fronted (drop 510 l) 510 fronted_long
+
+  pub front_long : length (take 510 (put_mid 2 508 (number ++ drop 2 l) middle)) ≡ 510
+  front_long = ap length front_is ∙ fronted_long
+
+  pub store_block : (check : ℕ) (last : List ℕ) → check ≡ check_at (take 510 (put_mid 2 508 (number ++ drop 2 l) middle)) 0 → last ≡ bytes_of 2 check
+      → put_mid 510 2 (put_mid 2 508 (number ++ drop 2 l) middle) last ≡ block_of part i
+  unfolding block_of
+  store_block check last e f =
+      let sum = bytes_of 2 (check_at fronted 0) in
+      ap₂ (put_mid 510 2) store_front (f ∙ ap (bytes_of 2) (e ∙ ap (λ (x : List ℕ). check_at x 0) front_is))
+      ∙ part_next fronted l sum 510 2 fronted_long (bytes_length 2 (check_at fronted 0)) ∙ part_last (fronted ++ sum) l 512 (omega (arith, room))
+
+-- the block of a payload that has this part
+pub block_is : (Q part : List ℕ) (i m : ℕ) → part ≡ take m (drop (508 * i) Q) → m ≡ 508 → 508 * i + 508 ≤ length Q → block_of part i ≡ block Q i
+unfolding block_of block block_front
+block_is Q part i m e f h =
+    ap (λ (x : List ℕ). block_of x i)
+    (e ∙ part_table Q (508 * i) m (λ k. get_or Q (508 * i + k) 0) (omega arith) (λ k l. refl) ∙ ap (λ (n : ℕ). table n (λ k. get_or Q (508 * i + k) 0)) f)
 
 -- ---- blocks, one a turn
-pub blocks_none : (Q l : List ℕ) → l ≡ sets l 0 (table (512 * 0) (λ k. get_or (block Q (k / 512)) (k % 512) 0))
-blocks_none Q l = sets_none l 0 (λ k. get_or (block Q (k / 512)) (k % 512) 0)
-
-pub store_blocks : (Q l s t : List ℕ) (i : ℕ) → s ≡ sets l 0 (table (512 * i) (λ k. get_or (block Q (k / 512)) (k % 512) 0)) → t ≡ sets s (512 * i) (block Q i)
-    → t ≡ sets l 0 (table (512 * (i + 1)) (λ k. get_or (block Q (k / 512)) (k % 512) 0))
-store_blocks Q l s t i e f =
-    sets_then l s t (table (512 * i) (λ k. get_or (block Q (k / 512)) (k % 512) 0)) (block Q i) 0 (512 * i) (512 * i) e f (table_length (512 * i) _) (omega arith)
-    ∙ ap (sets l 0) (sym (rows_more 512 i (λ j k. get_or (block Q j) k 0) (omega arith)
-    ∙ ap (λ (x : List ℕ). table (512 * i) (λ k. get_or (block Q (k / 512)) (k % 512) 0) ++ x) (table_of_lem 0 512 (block Q i) (block_length Q i))))
+pub store_blocks : (Q l s new part : List ℕ) (i k m : ℕ) → let g : ℕ → ℕ = λ k. get_or (block Q (k / 512)) (k % 512) 0 in s ≡ front (512 * i) g l
+    → new ≡ block_of part i → part ≡ take m (drop (508 * i) Q) → m ≡ 508 → 508 * i + 508 ≤ length Q → k ≡ 512 → put_mid (512 * i) k s new ≡ front (512 * (i + 1)) g l
+store_blocks Q l s new part i k m e f p q h z =
+    let g : ℕ → ℕ = λ k. get_or (block Q (k / 512)) (k % 512) 0 in
+    let more : 512 * i + 512 ≡ 512 * (i + 1) = omega arith in
+    ap (λ (k : ℕ). put_mid (512 * i) k s new) z
+    ∙ front_part g l s new (512 * i) 512 e
+    (f ∙ block_is Q part i m p q h ∙ sym (table_of_lem 0 512 (block Q i) (block_length Q i))
+    ∙ table_cong 512 _ _ (λ k l. ap₂ (λ (x y : ℕ). get_or (block Q x) y 0) (omega arith) (omega arith)))
+    ∙ ap (λ (n : ℕ). front n g l) more
 
 -- ---- a file: the payload, whose length is len, is stored over zeros, then cut into blocks
 pub length_small : (p : Pair) (note : Bool) (len : ℕ) → WellPair p → len ≡ payload_length (n_c p) (n_a p) (sets_c p) (sets_a p) note → len ≤ payload_most
@@ -165,22 +203,21 @@ pub file_end : (p : Pair) (note : Bool) (len : ℕ) → len ≡ payload_length (
 unfolding file_length blocks_for
 file_end p note len e = ap (λ (n : ℕ). 512 * ((n + 507) / 508)) e
 
-pub store_file : (p : Pair) (note : Bool) (T R l s : List ℕ) (zeros len : ℕ) → len ≤ payload_most → payload_room ≤ zeros → file_room ≤ length l
-    → len ≡ payload_length (n_c p) (n_a p) (sets_c p) (sets_a p) note → R ≡ sets (replicate zeros 0) 0 (payload p note T)
-    → s ≡ sets l 0 (table (512 * ((len + 507) / 508)) (λ k. get_or (block R (k / 512)) (k % 512) 0)) → s ≡ file_of p note T ++ drop (length (file_of p note T)) l
+pub store_file : (p : Pair) (note : Bool) (T R l s : List ℕ) (zeros len : ℕ)
+    → len ≡ payload_length (n_c p) (n_a p) (sets_c p) (sets_a p) note → R ≡ payload p note T ++ drop len (replicate zeros 0)
+    → s ≡ front (512 * ((len + 507) / 508)) (λ k. get_or (block R (k / 512)) (k % 512) 0) l → s ≡ file_of p note T ++ drop (length (file_of p note T)) l
 unfolding file_of blocked blocks_for
-store_file p note T R l s zeros len small room long len_is e f =
+store_file p note T R l s zeros len len_is e f =
     let Q = payload p note T in
-    let Z : List ℕ = replicate zeros 0 in
     let Q_length : length Q ≡ len = payload_length_lem p note T ∙ sym len_is in
-    let Z_length : length Z ≡ zeros = length-replicate {A = ℕ} zeros 0 in
+    let padded = front_padded (λ k. get_or Q k 0) zeros len (e ∙ ap (λ (x : List ℕ). x ++ drop len (replicate zeros 0)) (sym (table_of_lem 0 len Q Q_length))) in
     let same = table_cong (512 * ((len + 507) / 508)) (λ k. get_or (block R (k / 512)) (k % 512) 0) (λ k. get_or (block Q (k / 512)) (k % 512) 0)
     (λ k h. ap (λ (x : List ℕ). get_or x (k % 512) 0) (block_cong R Q (k / 512) (λ j r.
-    ap (λ (x : List ℕ). get_or x (508 * (k / 512) + j) 0) e
-    ∙ sets_zeros Z Q (508 * (k / 512) + j) (omega arith) (get_or-replicate zeros (508 * (k / 512) + j) 0 0 (omega arith))))) in
-    let whole = table (512 * ((length Q + 507) / 508)) (λ k. get_or (block Q (k / 512)) (k % 512) 0) in
-    f ∙ ap (sets l 0) (same ∙ ap (λ (m : ℕ). table (512 * ((m + 507) / 508)) (λ k. get_or (block Q (k / 512)) (k % 512) 0)) (sym Q_length))
-    ∙ sets_front l whole (omega (arith, table_length (512 * ((length Q + 507) / 508)) (λ k. get_or (block Q (k / 512)) (k % 512) 0)))
+    padded (508 * (k / 512) + j) ∙ ap (λ (x : List ℕ). get_or x (508 * (k / 512) + j) 0) (table_of_lem 0 len Q Q_length)))) in
+    let g : ℕ → ℕ = λ k. get_or (block Q (k / 512)) (k % 512) 0 in
+    f ∙ ap (λ (x : List ℕ). x ++ drop (512 * ((len + 507) / 508)) l) same
+    ∙ ap (λ (m : ℕ). front (512 * ((m + 507) / 508)) g l) (sym Q_length)
+    ∙ ap (λ (n : ℕ). table (512 * ((length Q + 507) / 508)) g ++ drop n l) (sym (table_length (512 * ((length Q + 507) / 508)) g))
 
 -- ---- the whole answer, and what the buffer holds then
 pub short_table : (p : Pair) (table_len buffer_len : ℕ) → table_len < table_room → write_validity p table_len buffer_len ≡ Err ShortBuffer

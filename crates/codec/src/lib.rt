@@ -40,15 +40,15 @@ trait Stored: Copy {
 
     ghost BYTES: { ℕ };
 
-    // The number at a place.
-    fn read(bytes: &[u8], at: usize) -> Self
-        requires { at + BYTES ≤ length bytes.now }
-        ensures { result ≡ of (number_at BYTES bytes.now at) };
+    // The number that its bytes hold.
+    fn read(bytes: &[u8]) -> Self
+        requires { length bytes.now ≡ BYTES }
+        ensures { result ≡ of (number_at BYTES bytes.now 0) };
 
-    // Writes it at a place.
-    fn write(self, out: &mut [u8], at: usize)
-        requires { at + BYTES ≤ length out.old }
-        ensures { out.new ≡ sets out.old at (bytes_of BYTES (value self)) };
+    // Writes it over its bytes.
+    fn write(self, bytes: &mut [u8])
+        requires { length bytes.old ≡ BYTES }
+        ensures { bytes.new ≡ bytes_of BYTES (value self) };
 
     ghost some: { 0 < BYTES };
 }
@@ -62,14 +62,14 @@ impl Stored for u16 {
 
     ghost BYTES = { 2 };
 
-    fn read(bytes: &[u8], at: usize) -> u16 {
+    fn read(bytes: &[u8]) -> u16 {
         let mut number = [0u8; 2];
-        number.copy_from_slice(&bytes[at..at + 2]);
+        number.copy_from_slice(bytes);
         u16::from_le_bytes(number)
     }
 
-    fn write(self, out: &mut [u8], at: usize) {
-        out[at..at + 2].copy_from_slice(&self.to_le_bytes());
+    fn write(self, bytes: &mut [u8]) {
+        bytes.copy_from_slice(&self.to_le_bytes());
     }
 
     ghost some = { Prim.omega arith };
@@ -84,27 +84,27 @@ impl Stored for u64 {
 
     ghost BYTES = { 8 };
 
-    fn read(bytes: &[u8], at: usize) -> u64 {
+    fn read(bytes: &[u8]) -> u64 {
         let mut number = [0u8; 8];
-        number.copy_from_slice(&bytes[at..at + 8]);
+        number.copy_from_slice(bytes);
         u64::from_le_bytes(number)
     }
 
-    fn write(self, out: &mut [u8], at: usize) {
-        out[at..at + 8].copy_from_slice(&self.to_le_bytes());
+    fn write(self, bytes: &mut [u8]) {
+        bytes.copy_from_slice(&self.to_le_bytes());
     }
 
     ghost some = { Prim.omega arith };
 }
 
-// The check of the block that starts at a place: the reader compares it, and the writer writes it.
-fn check_at(s: &[u8], at: usize) -> u16
-    requires { at + 510 ≤ length s.now }
-    ensures { result ≡ check_at s.now at }
+// The check of a block, of which these are the 510 bytes before it: the reader compares it, and the writer writes it.
+fn check_of(front: &[u8]) -> u16
+    requires { length front.now ≡ 510 }
+    ensures { result ≡ check_at front.now 0 }
 {
     let mut total: u32 = 0;
-    for i in 0..510 {
-        total += (i as u32 + 1) * s[at + i] as u32;
+    for (i, byte) in front.iter().enumerate() {
+        total += (i as u32 + 1) * *byte as u32;
     }
     (total % 65521) as u16
 }

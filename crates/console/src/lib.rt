@@ -8,12 +8,14 @@ ghost use Rattle.console.specs.FirstBlock.{size_number};
 
 use machine::Verdict;
 
+// What C is told of a carried show: a number, as document 01 has it for C.
 pub const CARRIED: u32 = 100;
 
-// With the lowest start state that lacks a partner added.
+// What C is told of one that is not, with the lowest start state that lacks a partner added: a number, as document 01 has it for C.
 pub const NOT_CARRIED: u32 = 200;
 
-// What is said of the file with these bytes, as one number: a refusal's, 101 without a table, or one of those above.
+// What is said of the file with these bytes, as one number, since C's interface wants bytes in and a number back: a refusal's, 101 without a
+// table, or one of those above.
 pub fn console_answer(bytes: &[u8]) -> u32
     ensures { result ≡ outcome_number (file_outcome bytes.now) }
 {

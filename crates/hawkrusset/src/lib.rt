@@ -1,4 +1,5 @@
-// The calls for C, in one archive. Each is the call of the same name of its library, and has its clauses.
+// The calls for C, in one archive. Each is the call of the same name of its library, and has its clauses. C's interface is why they take bytes, lent
+// buffers and `spot` side by side and give one number back.
 #![tactic(auto)]
 
 ghost use Rattle.std.specs.Prelude.{◌≡◌, take, length};

@@ -4,7 +4,8 @@
 
 use std::io;
 
-// Writes the text of a machine of the file, and says whether it did; or writes the line of the refusal, which is the same for both machines.
+// Writes the text of a machine of the file, and says whether it did; or writes the line of the refusal, which is the same for both machines. The
+// machine is a number, as `export::text_bytes` takes it.
 fn write_machine(rt: &impl Print, bytes: &[u8], which: usize) -> io::Result<bool> {
     let mut out = [0u8; hanoi::TEXT_ROOM];
     match export::text_bytes(bytes, which, &mut out) {
@@ -20,10 +21,10 @@ fn write_machine(rt: &impl Print, bytes: &[u8], which: usize) -> io::Result<bool
 }
 
 fn main(rt: HostRuntime) -> io::Result<()> {
-    let mut input = [0u8; codec::INPUT_ROOM];
-    let count = stream::read_full(&mut rt.stdin(), &mut input);
-    if write_machine(&rt, &input[..count], 0)? {
-        write_machine(&rt, &input[..count], 1)?;
+    let mut buffer = [0u8; codec::INPUT_ROOM];
+    let bytes = stream::filled(&mut rt.stdin(), &mut buffer);
+    if write_machine(&rt, bytes, 0)? {
+        write_machine(&rt, bytes, 1)?;
     }
     Ok(())
 }

@@ -9,6 +9,7 @@ use machine::{Refusal, Run};
 
 // Plays a lasso of the concrete machine by the table of a file: the abstract run goes to the lent buffer `run`, and its stem length and loop length
 // come back, or that the file has no table; or where the call was stopped.
+// Each caller of the reader lends a table of its own and passes a refusal on directly: document 01 names this form.
 pub fn play_bytes(
     bytes: &[u8],
     stem: &[u8],
@@ -31,8 +32,8 @@ pub fn play_bytes(
     Ok(Some(lengths))
 }
 
-// The same for C: stem length x 65,536 + loop length, or 0 with the refusal's number and spot in `spot`, which is unchanged beside a run. A
-// file without a table has the number 101.
+// The same for C, whose interface wants bytes, lent buffers and `spot`, and one number back: stem length x 65,536 + loop length, or 0 with the
+// refusal's number and spot in `spot`, which is unchanged beside a run. A file without a table has the number 101.
 pub fn play_file(
     bytes: &[u8],
     stem: &[u8],

@@ -10,6 +10,7 @@ use machine::Refusal;
 
 // Writes the show of a file with the solver's table into the buffer, and gives the new file's length, or where it was stopped: by the reader, or
 // by the solver, which refuses an empty set.
+// Each caller of the reader lends a table of its own and passes a refusal on directly: document 01 names this form.
 pub fn solve_bytes(bytes: &[u8], out: &mut [u8]) -> Result<usize, Refusal>
     ensures answer { result ≡ restore_answer bytes.now out.old }
     ensures content { out.new ≡ restore_buffer bytes.now out.old }
@@ -25,7 +26,8 @@ pub fn solve_bytes(bytes: &[u8], out: &mut [u8]) -> Result<usize, Refusal>
     codec::writer::write_file(pair, true, &table, out)
 }
 
-// The same for C: the file's length, or 0 with the refusal's number and spot in `spot`, which is unchanged beside a length.
+// The same for C, whose interface wants bytes, a lent buffer and `spot`, and one number back: the file's length, or 0 with the refusal's number and
+// spot in `spot`, which is unchanged beside a length.
 pub fn solve_file(bytes: &[u8], out: &mut [u8], spot: &mut [u64; 4]) -> usize
     ensures value { result ≡ length_of (restore_answer bytes.now out.old) }
     ensures content { out.new ≡ restore_buffer bytes.now out.old }

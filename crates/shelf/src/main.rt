@@ -5,6 +5,6 @@ use std::io;
 
 fn main(rt: HostRuntime) -> io::Result<()> {
     let mut buffer = [0u8; codec::INPUT_ROOM];
-    let count = stream::read_full(&mut rt.stdin(), &mut buffer);
-    rt.write_all(&report::shelf_line(&buffer[..count]))
+    let bytes = stream::filled(&mut rt.stdin(), &mut buffer);
+    rt.write_all(&report::shelf_line(bytes))
 }

@@ -5,10 +5,10 @@
 use std::io;
 
 fn main(rt: HostRuntime) -> io::Result<()> {
-    let mut input = [0u8; codec::INPUT_ROOM];
-    let count = stream::read_full(&mut rt.stdin(), &mut input);
+    let mut buffer = [0u8; codec::INPUT_ROOM];
+    let bytes = stream::filled(&mut rt.stdin(), &mut buffer);
     let mut out = [0u8; codec::FILE_ROOM];
-    match restore::solve_bytes(&input[..count], &mut out) {
+    match restore::solve_bytes(bytes, &mut out) {
         Ok(n) => rt.write_all(&out[..n]),
         Err(refusal) => rt.stderr().write_all(&report::refusal_line(refusal)),
     }

@@ -25,11 +25,12 @@ fn take_turns(rt: &impl Print, pair: Pair, first: [u64; 448], table: &mut [u16])
     Ok(())
 }
 
+// Like each caller of the reader it lends a table of its own, and goes on from what is read directly: document 01 names this form.
 fn main(rt: HostRuntime) -> io::Result<()> {
-    let mut input = [0u8; codec::INPUT_ROOM];
-    let count = stream::read_full(&mut rt.stdin(), &mut input);
+    let mut buffer = [0u8; codec::INPUT_ROOM];
+    let bytes = stream::filled(&mut rt.stdin(), &mut buffer);
     let mut table = [0u16; machine::TABLE_ROOM];
-    let show = codec::reader::read_file(&input[..count], &mut table);
+    let show = codec::reader::read_file(bytes, &mut table);
     let pair = show.pair;
     match show.reading.and_then(|_| progress::first_family(pair)) {
         Err(refusal) => rt.write_all(&report::refusal_line(refusal)),

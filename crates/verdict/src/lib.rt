@@ -7,6 +7,7 @@ ghost use Rattle.verdict.specs.Outcomes.{file_outcome};
 use machine::{Refusal, Verdict};
 
 // What is said of the file with these bytes: what the check says of its table, or that it has none; or where it was stopped.
+// Each caller of the reader lends a table of its own and passes a refusal on directly: document 01 names this form.
 pub fn file_verdict(bytes: &[u8]) -> Result<Option<Verdict>, Refusal>
     ensures { result ≡ file_outcome bytes.now }
 {

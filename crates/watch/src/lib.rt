@@ -8,6 +8,7 @@ ghost use Rattle.watch.specs.Watching.{machines_read, first_file, first_file_ans
 use machine::{Pair, Refusal};
 
 // Reads the machines of a file; a table that came with them is not kept.
+// Each caller of the reader lends a table of its own and passes a refusal on directly: document 01 names this form.
 fn machines_of(bytes: &[u8]) -> Result<Pair, Refusal>
     ensures { result ≡ machines_read bytes.now }
 {
@@ -27,7 +28,8 @@ pub fn first_family_bytes(bytes: &[u8]) -> Result<[u64; 448], Refusal>
     progress::first_family(pair)
 }
 
-// A turn over a file's machines, and whether it is finished; the table that the file may have is not looked at.
+// A turn over a file's machines, and whether it is finished; the table that the file may have is not looked at. The lent table's room is tested here
+// too, and not only by `progress::turn`: refusal 1 comes before the reader's.
 pub fn turn_bytes(bytes: &[u8], family: &mut [u64; 448], table: &mut [u16]) -> Result<bool, Refusal>
     ensures answer { result ≡ turn_file bytes.now family.old (length table.old) }
     ensures family { family.new ≡ turn_file_rows bytes.now family.old (length table.old) }
@@ -54,7 +56,8 @@ pub fn look_up_bytes(
     progress::look_up(pair, family, section, c, a)
 }
 
-// ---- The same for C. The four numbers of a refusal go to `spot`, which is unchanged beside an answer.
+// ---- The same for C, whose interface wants bytes, lent buffers and `spot`, and one number back
+// The four numbers of a refusal go to `spot`, which is unchanged beside an answer.
 
 // 1, and the first family; 0 for a refusal, which leaves `family` as it is.
 pub fn first_family_file(bytes: &[u8], family: &mut [u64; 448], spot: &mut [u64; 4]) -> u32

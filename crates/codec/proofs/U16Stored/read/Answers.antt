@@ -1,7 +1,8 @@
--- The bytes of the part are those that stand at the place.
-use Rattle.std.proofs.Common.{◌∙◌, arith}
-use Rattle.codec.specs.NumberLaws.{read_part}
+-- The bytes are read as the definition reads them.
+use Rattle.std.proofs.Common.{List, ℕ, ap, ◌∙◌}
+use Rattle.codec.specs.Format.{number_at}
+use Rattle.codec.specs.NumberLaws.{read_is}
 use Rattle.codec.proofs.U16Stored.read.Goals as goal
 
 pub returns : goal.returns
-returns c = c.from_le_bytes.ensures ∙ read_part 1 _ c.args.bytes.now _ c.args.at c.copy_from_slice.ensures.after (omega arith)
+returns c = c.from_le_bytes.ensures ∙ read_is 1 _ ∙ ap (λ (s : List ℕ). number_at 2 s 0) c.copy_from_slice.ensures.after

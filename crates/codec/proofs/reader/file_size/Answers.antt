@@ -8,8 +8,8 @@ use Rattle.codec.proofs.ReaderLaws.{first_valid, demanded_is}
 use Rattle.std.specs.Prelude.{Ok}
 use Rattle.codec.proofs.reader.file_size.Goals as goal
 
-pub payload_demanded-requires : goal.payload_demanded-requires
-payload_demanded-requires c = (first_valid _ (sym c.first_validity.ensures ∙ c.in_ok-first_validity.was)).long
+pub invariant_of-head : goal.invariant_of-head
+invariant_of-head c = record { there = (first_valid _ (sym c.first_validity.ensures ∙ c.in_ok-first_validity.was)).long }
 
 pub returns-in_err-first_validity : goal.returns-in_err-first_validity
 unfolding size_of

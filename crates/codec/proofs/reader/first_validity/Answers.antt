@@ -21,14 +21,14 @@ returns-then-bytes-eq0 c =
     ] in
     rw refused refl
 
-pub returns-in_err-block_validity : goal.returns-in_err-block_validity
+pub returns-in_err-validity : goal.returns-in_err-validity
 unfolding first_validity
-returns-in_err-block_validity c =
+returns-in_err-validity c =
     passed_on c.from_residual.ensures
-    ∙ sym (rw (not_ragged c.args.bytes.now c.if-bytes-eq0.false c.if-bytes-ne0.false) (then_refused _ _ _ (sym c.block_validity.ensures ∙ c.in_err-block_validity.was)))
+    ∙ sym (rw (not_ragged c.args.bytes.now c.if-bytes-eq0.false c.if-bytes-ne0.false) (then_refused _ _ _ (sym c.validity.ensures ∙ c.in_err-validity.was)))
 
 pub returns : goal.returns
 unfolding first_validity
 returns c =
-    c.header_validity.ensures
-    ∙ sym (rw (not_ragged c.args.bytes.now c.if-bytes-eq0.false c.if-bytes-ne0.false) (then_of _ _ (sym c.block_validity.ensures ∙ c.in_ok-block_validity.was)))
+    c.validity-2.ensures
+    ∙ sym (rw (not_ragged c.args.bytes.now c.if-bytes-eq0.false c.if-bytes-ne0.false) (then_of _ _ (sym c.validity.ensures ∙ c.in_ok-validity.was)))

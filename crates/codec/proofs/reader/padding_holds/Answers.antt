@@ -5,8 +5,8 @@ use Rattle.mask.specs.Bounded.{every}
 use Rattle.codec.proofs.ReaderLaws.{fitting, part_zeros, padding_is}
 use Rattle.codec.proofs.reader.padding_holds.Goals as goal
 
-pub payload_demanded-len-requires : goal.payload_demanded-len-requires
-payload_demanded-len-requires c = let w = fitting _ c.requires in omega arith
+pub invariant_of-head : goal.invariant_of-head
+invariant_of-head c = let w = fitting _ c.requires in record { there = omega arith }
 
 pub overflow_sub-len : goal.overflow_sub-len
 overflow_sub-len c = let w = fitting _ c.requires in omega arith

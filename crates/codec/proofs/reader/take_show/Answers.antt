@@ -47,14 +47,14 @@ join-requires c = rw (length-replicate {A = ℕ} payload_room 0) (room _ c.requi
 pub pair_at-pair-requires : goal.pair_at-pair-requires
 pair_at-pair-requires c = there (goal.at.pair_at-pair-requires c).After-join
 
-pub note_of-note-requires : goal.note_of-note-requires
-note_of-note-requires c = (first _ c.requires.bytes_value).long
+pub invariant_of-head : goal.invariant_of-head
+invariant_of-head c = record { there = (first _ c.requires.bytes_value).long }
 
 pub table_at-requires : goal.table_at-requires
 table_at-requires c =
     record {
       loaded = there (goal.at.table_at-requires c).After-join;
-      bytes_value = sym c.note_of-note.ensures ∙ c.if-note.true;
+      note = sym c.note-note.ensures ∙ c.if-note.true;
       table_room_in_bounds = omega arith;
     }
 
@@ -68,16 +68,16 @@ pub returns-then-note : goal.returns-then-note
 unfolding read_of
 returns-then-note c =
     let e = right (goal.at.returns-then-note c).In-Ok in
-    let shown = shown_taken _ (then_of _ _ e) c.pair_at-pair.ensures c.note_of-note.ensures in
+    let shown = shown_taken _ (then_of _ _ e) c.pair_at-pair.ensures c.note-note.ensures in
     record {
       answer = shown.0;
       machines = shown.1;
-      content = c.table_at.ensures ∙ sym (table_after _ _ _ true e (sym c.note_of-note.ensures ∙ c.if-note.true));
+      content = c.table_at.ensures ∙ sym (table_after _ _ _ true e (sym c.note-note.ensures ∙ c.if-note.true));
     }
 
 pub returns-else-note : goal.returns-else-note
 unfolding read_of
 returns-else-note c =
     let e = right (goal.at.returns-else-note c).In-Ok in
-    let shown = shown_taken _ (then_of _ _ e) c.pair_at-pair.ensures c.note_of-note.ensures in
-    record { answer = shown.0; machines = shown.1; content = sym (table_after _ _ _ false e (sym c.note_of-note.ensures ∙ c.if-note.false)) }
+    let shown = shown_taken _ (then_of _ _ e) c.pair_at-pair.ensures c.note-note.ensures in
+    record { answer = shown.0; machines = shown.1; content = sym (table_after _ _ _ false e (sym c.note-note.ensures ∙ c.if-note.false)) }

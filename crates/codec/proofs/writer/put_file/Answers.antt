@@ -13,7 +13,7 @@ use Rattle.codec.proofs.writer.put_file.Goals.{After-put_payload-len}
 small : (c : After-put_payload-len) → c.put_payload-len.result ≤ payload_most
 small c =
     let x = c.args in
-    length_small x.p x.with_table c.put_payload-len.result (well_pair x.p c.requires.p_value) c.put_payload-len.ensures.length
+    length_small x.formed.pair.now x.with_table c.put_payload-len.result (well_pair x.formed.pair.now x.formed.well) c.put_payload-len.ensures.length
 
 pub overflow_add-blocks : goal.overflow_add-blocks
 overflow_add-blocks c = omega (arith, small (goal.at.overflow_add-blocks c).After-put_payload-len)
@@ -21,7 +21,7 @@ overflow_add-blocks c = omega (arith, small (goal.at.overflow_add-blocks c).Afte
 pub put_blocks-requires : goal.put_blocks-requires
 put_blocks-requires c =
     let kept : length c.put_payload-len.new.out ≡ payload_room = c.put_payload-len.auto.out in
-    omega (arith, small (goal.at.put_blocks-requires c).After-put_payload-len, c.requires.table_room_in_bounds.1)
+    omega (arith, small (goal.at.put_blocks-requires c).After-put_payload-len, c.requires.1)
 
 pub overflow_mul-result : goal.overflow_mul-result
 overflow_mul-result c = omega (arith, small (goal.at.overflow_mul-result c).After-put_payload-len)
@@ -30,8 +30,7 @@ pub returns : goal.returns
 returns c =
     let x = c.args in
     let p = c.put_payload-len in
-    let b = c.put_blocks in record {
-      length = file_end x.p x.with_table p.result p.ensures.length;
-      bytes = store_file x.p x.with_table x.table.now p.new.out x.buffer.now b.new.out payload_room p.result (small (goal.at.returns c).After-put_payload-len) (omega arith)
-          c.requires.table_room_in_bounds.1 p.ensures.length p.ensures.bytes b.ensures;
+    record {
+      length = file_end x.formed.pair.now x.with_table p.result p.ensures.length;
+      bytes = store_file x.formed.pair.now x.with_table x.table.now p.new.out x.buffer.now c.put_blocks.new.out payload_room p.result p.ensures.length p.ensures.bytes c.put_blocks.ensures;
     }

@@ -27,11 +27,8 @@ returns-then-buffer-lt-FILE_ROOM c =
 right : (c : In_ok-pair_validity) → nonempty_validity c.args.p ≡ valid
 right c = sym c.pair_validity.ensures ∙ c.in_ok-pair_validity.was
 
-pub put_file-requires : goal.put_file-requires
-put_file-requires c = record {
-  p_value = valid_is_well _ (nonempty_at _ (right (goal.at.put_file-requires c).In_ok-pair_validity)).0;
-  table_room_in_bounds = omega arith;
-}
+pub invariant_of-formed : goal.invariant_of-formed
+invariant_of-formed c = record { well = valid_is_well _ (nonempty_at _ (right (goal.at.invariant_of-formed c).In_ok-pair_validity)).0 }
 
 pub returns-in_err-pair_validity : goal.returns-in_err-pair_validity
 returns-in_err-pair_validity c =

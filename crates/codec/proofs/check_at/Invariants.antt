@@ -1,7 +1,0 @@
-use Prim.Native.Nat.{◌*◌, ◌≤◌}
-use mathlib.Core.Path.{◌≡◌}
-use Rattle.codec.specs.BlockLaws.{weighed}
-use Rattle.codec.proofs.check_at.Given as goal
-
-abbrev pub invariant-loop-i : goal.invariant-loop-i
-invariant-loop-i l = (l.total ≡ weighed l.s l.at l.i) × (l.total ≤ 130050 * l.i)
