@@ -7,6 +7,7 @@ ghost use Rattle.turnline.specs.Lines.{rows_count, turn_line, finished_line};
 
 use machine::Pair;
 use report::Line;
+use text::{append, append_number};
 
 // How many bits of a section's rows are matched pairs: of section j, counted from 0.
 fn section_count(matched: &[u64; 64], family: &[u64; 448], j: usize) -> usize
@@ -24,8 +25,8 @@ fn section_count(matched: &[u64; 64], family: &[u64; 448], j: usize) -> usize
 fn append_count(line: &mut Line, n: usize)
     ensures { line.new.items ≡ take 128 (line.old.items ++ (32 ∷ decimal n)) }
 {
-    report::append(line, b" ");
-    report::append(line, &text::digits_of(n));
+    append(line, b" ");
+    append_number(line, n);
 }
 
 // The line of turn t, which left this family: how many pairs are still in, section by section.
@@ -37,12 +38,12 @@ pub fn turn_line(p: Pair, t: usize, family: [u64; 448]) -> Line
     let n = abstraction.sets.min(7);
     let matched = machine::matched_masks(p);
     let mut line = Line::new();
-    report::append(&mut line, b"turn ");
-    report::append(&mut line, &text::digits_of(t));
+    append(&mut line, b"turn ");
+    append_number(&mut line, t);
     for j in 0..n {
         append_count(&mut line, section_count(&matched, &family, j));
     }
-    report::append(&mut line, b"\n");
+    append(&mut line, b"\n");
     line
 }
 
@@ -51,7 +52,8 @@ pub fn finished_line(t: usize) -> Line
     ensures { result.items ≡ finished_line t }
 {
     let mut line = Line::new();
-    report::append(&mut line, b"finished ");
-    report::append_number(&mut line, t, b'\n');
+    append(&mut line, b"finished ");
+    append_number(&mut line, t);
+    append(&mut line, b"\n");
     line
 }
