@@ -39,13 +39,6 @@ pub struct Formed<'a> {
     pub ghost well: { well_formed pair.now ≡ true },
 }
 
-// A lasso, as its stem and its loop are lent.
-#[derive(Clone, Copy)]
-pub struct Lasso<'a> {
-    pub stem: &'a [u8],
-    pub cycle: &'a [u8],
-}
-
 // The least length of a lent table, in entries: 7 x 64 x 64.
 pub const TABLE_ROOM: usize = 28672;
 
