@@ -45,7 +45,8 @@ fn main(rt: HostRuntime) -> io::Result<()> {
     let wanted = playline::is_lasso(&text[..length]);
     let mut buffer = [0u8; codec::INPUT_ROOM];
     let count = shown(wanted, &mut rt.stdin(), &mut buffer);
-    let mut out = [0u8; playline::LINE_ROOM];
-    let n = playline::play_line(&buffer[..count], &text[..length], &mut out);
-    rt.write_all(&out[..n])
+    rt.write_all(&playline::play_line(
+        &buffer[..count],
+        &text[..length],
+    ))
 }
