@@ -68,7 +68,7 @@ module _ (m : ℕ) {x r : ℕ} (some : m ≡ 0 → ⊥) (small : m < 2 ^ 64) (lo
   unfolding items spaced
   items_next = ap (λ (l : List ℕ). joined (ascii " ") (map decimal l)) next ∙ joined_more (ascii " ") _ _
 
-  pub spaced_next : spaced m ≡ (ascii " " ++ decimal x) ++ spaced r
+  pub spaced_next : spaced m ≡ ascii " " ++ (decimal x ++ spaced r)
   unfolding spaced
   spaced_next = ap (λ (l : List ℕ). spread (ascii " ") (map decimal l)) next ∙ spread_more (ascii " ") _ _
 

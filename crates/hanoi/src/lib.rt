@@ -1,7 +1,7 @@
 // The text of a machine in the Hanoi Omega-Automata format, HOA v1 (document 02, No. 1). Each function puts a part of the text behind what is there.
 #![tactic(auto)]
 
-ghost use Rattle.std.specs.Prelude.{cond, ◌++◌, ◌≡◌, ◌≤◌, ◌<◌, length, take};
+ghost use Rattle.std.specs.Prelude.{cond, [], ◌++◌, ◌≡◌, ◌≤◌, ◌<◌, length, take};
 ghost use Rattle.mask.specs.Bits.{has_bit};
 ghost use Rattle.text.specs.Decimal.{decimal};
 ghost use Rattle.machine.specs.Refusals.{valid};
@@ -11,7 +11,7 @@ ghost use Rattle.hanoi.specs.Parts.{items, start_lines, braces, state_text, sets
 
 use arrayvec::ArrayVec;
 use machine::{Machine, Refusal};
-use text::{append, append_number};
+use text::{append, append_byte, append_number};
 
 // The least length of a lent buffer; every text is shorter.
 pub const TEXT_ROOM: usize = 20000;
@@ -40,7 +40,8 @@ fn append_items(text: &mut Text, m: u64)
     append_number(text, mask::lowest(m));
     let mut later = mask::rest(m);
     while later != 0 {
-        append_numbered(text, b" ", mask::lowest(later));
+        append_byte(text, b' ');
+        append_number(text, mask::lowest(later));
         later = mask::rest(later);
     }
 }
@@ -55,7 +56,7 @@ fn append_starts(text: &mut Text, start: u64)
     let mut left = start;
     while left != 0 {
         append_numbered(text, b"Start: ", mask::lowest(left));
-        append(text, b"\n");
+        append_byte(text, b'\n');
         left = mask::rest(left);
     }
 }
@@ -68,26 +69,26 @@ fn append_acceptance(text: &mut Text, n: usize)
     append(text, b"Inf(0)");
     for k in 1..n {
         append_numbered(text, b"&Inf(", k);
-        append(text, b")");
+        append_byte(text, b')');
     }
 }
 
-// Puts all lines before those of the states, by the counts of states and sets and the start mask.
-fn append_head(text: &mut Text, states: usize, sets: usize, start: u64)
-    requires { 0 < sets }
-    ensures { text.new.items ≡ take text_room (text.old.items ++ head_text states sets start) }
+// Puts all lines before those of the states.
+fn append_head(text: &mut Text, m: &Machine)
+    requires { 0 < m.now.sets }
+    ensures { text.new.items ≡ take text_room (text.old.items ++ head_text m.now.states m.now.sets m.now.start) }
 {
-    append_numbered(text, b"HOA: v1\nStates: ", states);
-    append(text, b"\n");
-    append_starts(text, start);
+    append_numbered(text, b"HOA: v1\nStates: ", m.states);
+    append_byte(text, b'\n');
+    append_starts(text, m.start);
     append_numbered(
         text,
         b"AP: 8 \"o0\" \"o1\" \"o2\" \"o3\" \"o4\" \"o5\" \"o6\" \"o7\"\nacc-name: generalized-Buchi ",
-        sets,
+        m.sets,
     );
-    append_numbered(text, b"\nAcceptance: ", sets);
-    append(text, b" ");
-    append_acceptance(text, sets);
+    append_numbered(text, b"\nAcceptance: ", m.sets);
+    append_byte(text, b' ');
+    append_acceptance(text, m.sets);
     append(
         text,
         b"\nproperties: state-labels state-acc\n--BODY--\n",
@@ -124,7 +125,7 @@ fn append_braces(text: &mut Text, members: u64)
     }
     append(text, b" {");
     append_items(text, members);
-    append(text, b"}");
+    append_byte(text, b'}');
 }
 
 // Puts the two lines of state s, by its observation and the masks of its sets and successors.
@@ -135,9 +136,9 @@ fn append_state(text: &mut Text, s: usize, o: u8, members: u64, successors: u64)
     append_label(text, o);
     append_numbered(text, b"] ", s);
     append_braces(text, members);
-    append(text, b"\n");
+    append_byte(text, b'\n');
     append_items(text, successors);
-    append(text, b"\n");
+    append_byte(text, b'\n');
 }
 
 // The mask of the sets below k that have state s.
@@ -169,19 +170,19 @@ fn append_states(text: &mut Text, m: &Machine)
 
 // ---- The call
 
-// The text of a well-formed machine.
-fn text_of(m: Machine) -> Text
-    requires { machine_validity 8 m ≡ valid }
-    ensures { result.items ≡ hoa_text m }
+// Puts the text of a well-formed machine into an empty text.
+fn append_text(text: &mut Text, m: &Machine)
+    requires empty { text.old.items ≡ [] }
+    requires formed { machine_validity 8 m.now ≡ valid }
+    ensures { text.new.items ≡ hoa_text m.now }
 {
-    let mut text = Text::new();
-    append_head(&mut text, m.states, m.sets, m.start);
-    append_states(&mut text, &m);
-    append(&mut text, b"--END--\n");
-    text
+    append_head(text, m);
+    append_states(text, m);
+    append(text, b"--END--\n");
 }
 
 // Writes the text of one machine, of either kind, into a lent buffer of 20,000 bytes or more, and gives the text's length, or where the call was stopped.
+// The C interface lends the buffer, so that the text goes there and its length comes back.
 pub fn write_text(m: Machine, out: &mut [u8]) -> Result<usize, Refusal>
     ensures answer { result ≡ text_answer m (length out.old) }
     ensures content { out.new ≡ text_buffer m out.old }
@@ -190,7 +191,8 @@ pub fn write_text(m: Machine, out: &mut [u8]) -> Result<usize, Refusal>
         return Err(Refusal::ShortBuffer);
     }
     validity::machine_validity(8, m)?;
-    let text = text_of(m);
+    let mut text = Text::new();
+    append_text(&mut text, &m);
     let n = text.len();
     out[..n].copy_from_slice(&text);
     Ok(n)

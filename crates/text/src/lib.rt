@@ -1,7 +1,7 @@
 // Text: the decimal digits of a number, and words and numbers put behind a text.
 #![tactic(auto)]
 
-ghost use Rattle.std.specs.Prelude.{◌≡◌, ◌++◌, take};
+ghost use Rattle.std.specs.Prelude.{◌≡◌, [], ◌∷◌, ◌++◌, take};
 ghost use Rattle.text.specs.Decimal.{decimal};
 
 use arrayvec::ArrayVec;
@@ -12,6 +12,15 @@ pub fn append<const N: usize>(text: &mut ArrayVec<u8, N>, word: &[u8])
 {
     let end = word.len().min(text.remaining_capacity());
     text.try_extend_from_slice(&word[..end]).unwrap();
+}
+
+// Puts one byte behind a text; a full text stays as it is.
+pub fn append_byte<const N: usize>(text: &mut ArrayVec<u8, N>, byte: u8)
+    ensures { text.new.items ≡ take N (text.old.items ++ (byte ∷ [])) }
+{
+    if !text.is_full() {
+        text.push(byte);
+    }
 }
 
 // Puts a number's digits behind a text, in the same way.

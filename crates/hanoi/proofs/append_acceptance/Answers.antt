@@ -11,7 +11,7 @@ loop-k-init c = left_first _ _ (acceptance_first c.args.n c.requires) c.append.e
 pub loop-k-preserved : goal.loop-k-preserved
 loop-k-preserved c =
     let l = c.loop-k in
-    left_next (left_next l.invariant _ _ (conditions_next l.k c.args.n c.loop-k-test.true) c.append_numbered.ensures) _ _ refl c.append-in-loop-k.ensures
+    left_next (left_next l.invariant _ _ (conditions_next l.k c.args.n c.loop-k-test.true) c.append_numbered.ensures) _ _ refl c.append_byte.ensures
 
 pub returns : goal.returns
 returns c = left_none c.loop-k.invariant (conditions_past c.loop-k.k c.args.n (omega arith))

@@ -15,5 +15,5 @@ returns-then-members-eq0 c = put_none 20000 c.args.text.now.items _ (omega (arit
 pub returns : goal.returns
 returns c =
     let x = c.args in
-    appended 20000 x.text.now.items (braces_parts x.members) (next c.append.ensures (next c.append_items.ensures (last c.append-2.ensures)))
+    appended 20000 x.text.now.items (braces_parts x.members) (next c.append.ensures (next c.append_items.ensures (last c.append_byte.ensures)))
     ∙ ap (λ (w : List ℕ). take 20000 (x.text.now.items ++ w)) (sym (braces_some x.members c.if-members-eq0.false))

@@ -1,6 +1,6 @@
 -- The first number, and then a blank and a number for each state that is left.
 use mathlib.Core.List.{◌++◌}
-use mathlib.Core.Path.{◌≡◌, sym, ap, ap₂, ◌∙◌}
+use mathlib.Core.Path.{◌≡◌, refl, sym, ap, ap₂, ◌∙◌}
 use Prim.Native.Nat.{ℕ, ◌^◌, ◌<◌}
 use native.Mathlib.Omega.{arith}
 use mir.Val.{Fits}
@@ -28,7 +28,7 @@ pub loop-later-preserved : goal.loop-later-preserved
 loop-later-preserved c =
     let l = c.loop-later in
     let next = spaced_next l.later c.loop-later-test.true l.invariant.0 c.lowest-in-loop-later.ensures c.rest-later-in-loop-later.ensures in
-    (c.rest-later-in-loop-later.type_inv, left_next l.invariant.1 _ _ next c.append_numbered.ensures)
+    (c.rest-later-in-loop-later.type_inv, left_next (left_next l.invariant.1 _ _ next c.append_byte.ensures) _ _ refl c.append_number-in-loop-later.ensures)
 
 pub returns : goal.returns
 returns c = left_none c.loop-later.invariant.1 (ap spaced (omega (arith, c.loop-later-test.false)) ∙ spaced_none)

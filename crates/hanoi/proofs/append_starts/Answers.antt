@@ -20,7 +20,7 @@ pub loop-left-preserved : goal.loop-left-preserved
 loop-left-preserved c =
     let l = c.loop-left in
     let line = starts_next l.left c.loop-left-test.true l.invariant.0 c.lowest.ensures c.rest-left.ensures in
-    (c.rest-left.type_inv, left_next (left_next l.invariant.1 _ _ line c.append_numbered.ensures) _ _ refl c.append.ensures)
+    (c.rest-left.type_inv, left_next (left_next l.invariant.1 _ _ line c.append_numbered.ensures) _ _ refl c.append_byte.ensures)
 
 pub returns : goal.returns
 returns c = left_none c.loop-left.invariant.1 (ap start_lines (omega (arith, c.loop-left-test.false)) ∙ starts_none)

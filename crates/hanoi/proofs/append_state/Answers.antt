@@ -12,6 +12,6 @@ returns c =
     (next c.append_label.ensures
     (next c.append_numbered.ensures
     (next c.append_braces.ensures
-    (next c.append-2.ensures
+    (next c.append_byte.ensures
     (next c.append_items.ensures
-    (last c.append-3.ensures)))))))
+    (last c.append_byte-2.ensures)))))))

@@ -21,7 +21,7 @@ returns-in_err-machine_validity c =
 pub returns : goal.returns
 returns c =
     let x = c.args in
-    let text = c.text_of-text.ensures in
+    let text = c.append_text.ensures in
     let both =
     text_copied x.m x.out.now (omega (arith, c.if-out-lt-TEXT_ROOM.false)) (sym c.machine_validity.ensures ∙ c.in_ok-machine_validity.was)
     (c.len-n.ensures.value ∙ ap length text) (c.copy_from_slice.ensures.after ∙ c.deref.ensures.0 ∙ text) in
