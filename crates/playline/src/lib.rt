@@ -11,7 +11,7 @@ ghost use Rattle.playline.specs.Line.{line_room, run_line, run_outcome_line, usa
 
 use arrayvec::ArrayVec;
 use machine::{Refusal, Run};
-use text::{append, append_number};
+use text::{append, append_byte, append_number};
 
 // The room that any line has: four bytes for each state of a run, and the words.
 pub const LINE_ROOM: usize = 114700;
@@ -43,12 +43,12 @@ fn numbers_in(text: &[u8]) -> Numbers
         if b.is_ascii_digit() {
             begun = Some(grown(begun.unwrap_or(0), *b));
         } else if let Some(n) = begun {
-            append(&mut list, &[n]);
+            append_byte(&mut list, n);
             begun = None;
         }
     }
     if let Some(n) = begun {
-        append(&mut list, &[n]);
+        append_byte(&mut list, n);
     }
     list
 }
@@ -97,7 +97,7 @@ fn append_states(line: &mut Line, states: &[u8])
 {
     prove!(line.len() <= LINE_ROOM);
     for s in states {
-        append(line, b" ");
+        append_byte(line, b' ');
         append_number(line, *s as usize);
     }
 }
@@ -110,7 +110,7 @@ fn append_run(line: &mut Line, stem: &[u8], cycle: &[u8])
     append_states(line, stem);
     append(line, b" /");
     append_states(line, cycle);
-    append(line, b"\n");
+    append_byte(line, b'\n');
 }
 
 // The line of what is said, where the run stands in a buffer.

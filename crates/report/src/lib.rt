@@ -7,7 +7,7 @@ ghost use Rattle.report.specs.Text.{no_table_text, refusal_line, verdict_line, o
 
 use arrayvec::ArrayVec;
 use machine::{Refusal, Verdict};
-use text::{append, append_number};
+use text::{append, append_byte, append_number};
 
 // A line of text with its line feed. Words are put one behind the other: `write!` promises what it writes only where it gives Ok, and never that it
 // does, so that the proof of its `unwrap` does not close (tried on digits).
@@ -18,7 +18,7 @@ fn append_field(line: &mut Line, n: usize, after: u8)
     ensures { line.new.items ≡ take 128 (line.old.items ++ (decimal n ++ (after ∷ []))) }
 {
     append_number(line, n);
-    append(line, &[after]);
+    append_byte(line, after);
 }
 
 // The line of a refusal.

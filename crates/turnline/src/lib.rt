@@ -7,7 +7,7 @@ ghost use Rattle.turnline.specs.Lines.{rows_count, turn_line, finished_line};
 
 use machine::Pair;
 use report::Line;
-use text::{append, append_number};
+use text::{append, append_byte, append_number};
 
 // How many bits of a section's rows are matched pairs: of section j, counted from 0.
 fn section_count(matched: &[u64; 64], family: &[u64; 448], j: usize) -> usize
@@ -25,7 +25,7 @@ fn section_count(matched: &[u64; 64], family: &[u64; 448], j: usize) -> usize
 fn append_count(line: &mut Line, n: usize)
     ensures { line.new.items ≡ take 128 (line.old.items ++ (32 ∷ decimal n)) }
 {
-    append(line, b" ");
+    append_byte(line, b' ');
     append_number(line, n);
 }
 
@@ -43,7 +43,7 @@ pub fn turn_line(p: Pair, t: usize, family: [u64; 448]) -> Line
     for j in 0..n {
         append_count(&mut line, section_count(&matched, &family, j));
     }
-    append(&mut line, b"\n");
+    append_byte(&mut line, b'\n');
     line
 }
 
@@ -54,6 +54,6 @@ pub fn finished_line(t: usize) -> Line
     let mut line = Line::new();
     append(&mut line, b"finished ");
     append_number(&mut line, t);
-    append(&mut line, b"\n");
+    append_byte(&mut line, b'\n');
     line
 }

@@ -24,14 +24,14 @@ loop-b-preserved c =
           (read_digit l.invariant w.grown.result c.loop-b-test.true (digit ∙ w.if-is_ascii_digit.true)
           (w.grown.ensures ∙ ap (λ (n : ℕ). grown n (get_or c.args.text.now l.b-index 0)) w.unwrap_or.ensures))
       | else-is_ascii_digit+in-Some w ↦
-          read_as w.list-is w.begun-is (read_end l.invariant w.in-Some.is w.append.ensures c.loop-b-test.true (digit ∙ w.if-is_ascii_digit.false))
+          read_as w.list-is w.begun-is (read_end l.invariant w.in-Some.is w.append_byte.ensures c.loop-b-test.true (digit ∙ w.if-is_ascii_digit.false))
       | else-is_ascii_digit+in_default w ↦
           read_as w.list-is (w.begun-is ∙ w.in_default.is) (read_blank l.invariant w.in_default.is c.loop-b-test.true (digit ∙ w.if-is_ascii_digit.false))
     ] in
     read
 
 pub returns-in-Some-begun : goal.returns-in-Some-begun
-returns-in-Some-begun c = read_last c.loop-b.invariant c.in-Some-begun.is c.append-in-Some-begun.ensures (omega (arith, c.loop-b-test.false))
+returns-in-Some-begun c = read_last c.loop-b.invariant c.in-Some-begun.is c.append_byte-in-Some-begun.ensures (omega (arith, c.loop-b-test.false))
 
 pub returns-in_default-begun : goal.returns-in_default-begun
 returns-in_default-begun c = read_all c.loop-b.invariant c.in_default-begun.is (omega (arith, c.loop-b-test.false))

@@ -7,4 +7,4 @@ use Rattle.report.proofs.append_field.Goals as goal
 pub returns : goal.returns
 returns c =
     let x = c.args in
-    c.append.ensures ∙ ap (λ (l : List ℕ). take 128 (l ++ (x.after ∷ []))) c.append_number.ensures ∙ cut_two 128 x.line.now.items (decimal x.n) (x.after ∷ [])
+    c.append_byte.ensures ∙ ap (λ (l : List ℕ). take 128 (l ++ (x.after ∷ []))) c.append_number.ensures ∙ cut_two 128 x.line.now.items (decimal x.n) (x.after ∷ [])

@@ -8,5 +8,5 @@ use Rattle.turnline.proofs.finished_line.Goals as goal
 
 pub returns : goal.returns
 returns c =
-    appended_new 128 (finished_text ∷ decimal c.args.t ∷ (10 ∷ []) ∷ []) c.new-line.ensures (next c.append.ensures (next c.append_number.ensures (last c.append-2.ensures)))
+    appended_new 128 (finished_text ∷ decimal c.args.t ∷ (10 ∷ []) ∷ []) c.new-line.ensures (next c.append.ensures (next c.append_number.ensures (last c.append_byte.ensures)))
     ∙ finished_line_lem c.args.t

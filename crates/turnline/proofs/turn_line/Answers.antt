@@ -42,5 +42,5 @@ returns c =
     let x = c.args in
     let l = c.loop-j in
     let M = c.matched_masks-matched.result in
-    behind 128 (told M x.family x.t l.j) (10 ∷ []) l.invariant.1.1 c.append-2.ensures
+    behind 128 (told M x.family x.t l.j) (10 ∷ []) l.invariant.1.1 c.append_byte.ensures
     ∙ turn_line_lem x.p x.family x.t c.matched_masks-matched.ensures (omega (arith, c.min-n.ensures)) (small (goal.at.returns c).Start)
