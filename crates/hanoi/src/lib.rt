@@ -16,7 +16,7 @@ use text::{append, append_byte, append_number};
 // The least length of a lent buffer; every text is shorter.
 pub const TEXT_ROOM: usize = 20000;
 
-// A text; what there is no room for is left out.
+// A text; what there is no room for is left out. `prove!` tells the proof of its room where it may be that nothing is put.
 type Text = ArrayVec<u8, TEXT_ROOM>;
 
 // ---- Numbers and lists of numbers
@@ -89,10 +89,7 @@ fn append_head(text: &mut Text, m: &Machine)
     append_numbered(text, b"\nAcceptance: ", m.sets);
     append_byte(text, b' ');
     append_acceptance(text, m.sets);
-    append(
-        text,
-        b"\nproperties: state-labels state-acc\n--BODY--\n",
-    );
+    append(text, b"\nproperties: state-labels state-acc\n--BODY--\n");
 }
 
 // ---- The lines of the states

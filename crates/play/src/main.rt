@@ -8,7 +8,7 @@ use std::env::FillError;
 use std::io;
 use std::rt::Env;
 
-// The arguments' text, a blank behind each, and its length; none where it does not fit.
+// The arguments' text, a blank behind each, put into a lent buffer as `arg` puts each of them: its length, and none where it does not fit.
 fn arguments(rt: &impl Env, text: &mut [u8]) -> Option<usize>
     ensures { IfSome result (λ n. n ≤ length text.old) }
 {
@@ -28,8 +28,8 @@ fn arguments(rt: &impl Env, text: &mut [u8]) -> Option<usize>
     Some(at)
 }
 
-// Reads the show from standard input where the arguments are a lasso, and gives how many bytes were read; a caller who is to be told how to call it is
-// not kept waiting.
+// Reads the show from standard input where the arguments are a lasso, and gives how many bytes were read, as `read_full` does; a caller who is to be
+// told how to call it is not kept waiting.
 fn shown<R: io::Read>(wanted: bool, input: &mut R, buffer: &mut [u8]) -> usize
     ensures { result ≤ length buffer.new }
 {
@@ -47,8 +47,5 @@ fn main(rt: HostRuntime) -> io::Result<()> {
     let wanted = playline::is_lasso(&text[..length]);
     let mut buffer = [0u8; codec::INPUT_ROOM];
     let count = shown(wanted, &mut rt.stdin(), &mut buffer);
-    rt.write_all(&playline::play_line(
-        &buffer[..count],
-        &text[..length],
-    ))
+    rt.write_all(&playline::play_line(&buffer[..count], &text[..length]))
 }

@@ -95,6 +95,7 @@ pub fn is_lasso(text: &[u8]) -> bool
 fn append_states(line: &mut Line, states: &[u8])
     ensures { line.new.items ≡ take line_room (line.old.items ++ states_text states.now) }
 {
+    // there may be no state
     prove!(line.len() <= LINE_ROOM);
     for s in states {
         append_byte(line, b' ');

@@ -15,6 +15,7 @@ fn section_count(matched: &[u64; 64], family: &[u64; 448], j: usize) -> usize
     ensures { result ≡ rows_count matched.now family.now j }
 {
     let mut n = 0;
+    // c is the row's place in two arrays: `zip` over a part of one of them is no plainer
     for c in 0..64 {
         n += mask::size(family[j * 64 + c] & matched[c]);
     }
