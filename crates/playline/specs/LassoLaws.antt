@@ -8,7 +8,7 @@ use Rattle.arrayvec.specs.ArrayVec.{ArrayVec}
 use Rattle.std.proofs.Common.{◌∙◌, add-one, arith, length-append, length-take, drop_of_length-le, drop-cons, take_all, get_or-append-add, get_or-take, get_or-drop}
 use Rattle.std.proofs.Math.Logic.{by_cases}
 use Rattle.std.proofs.Math.Decide.{dec_lt, ℕ_discrete}
-use borrow.Author.Tests.{leb-true, ltb-true, le-leb, lt-leb, lt-ltb, le-ltb, eq-eqb, ne_eqb}
+use borrow.Author.Tests.{leb-true, le-leb, lt-leb, lt-ltb, le-ltb, eq-eqb, ne_eqb}
 use Rattle.std.proofs.Math.ListN.{take, drop, get_or-append, length-drop}
 use Rattle.std.proofs.Math.Seq.{get_or-append_seam, take-append_seam, drop-append-add}
 use Rattle.text.specs.Decimal.{decimal, is_digit}
@@ -135,10 +135,6 @@ module _ (t : List ℕ) where
 -- at place i stands the stroke or a plain byte
 abbrev pub fits : List ℕ → ℕ → ℕ → Bool
 fits t stroke i = or (eqb i stroke) (is_plain (get_or t i 0))
-
-pub readable_stroke : (t : List ℕ) → readable t ≡ true → stroke_at t < length t
-unfolding readable
-readable_stroke t e = ltb-true _ _ (and_l _ _ e)
 
 module _ (t : List ℕ) (stroke : ℕ) (at : stroke ≡ stroke_at t) where
   readable_is : readable t ≡ and (ltb stroke (length t)) (every (length t) (fits t stroke))

@@ -1,12 +1,9 @@
 -- The first number, and then a blank and a number for each state that is left.
-use mathlib.Core.List.{◌++◌}
-use mathlib.Core.Path.{◌≡◌, refl, sym, ap, ap₂, ◌∙◌}
-use Prim.Native.Nat.{ℕ, ◌^◌, ◌<◌}
+use mathlib.Core.Path.{refl, ap, ◌∙◌}
 use native.Mathlib.Omega.{arith}
 use mir.Val.{Fits}
 use mir.Syntax.{w64}
 use borrow.Author.Rules.{rules}
-use Rattle.mask.specs.Bits.{lowest_of, rest_of}
 use Rattle.mask.specs.BitsLaws.{rest_lt}
 use Rattle.text.specs.AppendLaws.{left_first, left_next, left_none, put_none}
 use Rattle.hanoi.specs.Parts.{items, spaced}

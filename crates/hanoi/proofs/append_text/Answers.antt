@@ -1,5 +1,4 @@
 -- The parts of the text, one behind the other; a well-formed machine's text is shorter than the room.
-use mathlib.Core.Path.{◌∙◌, sym}
 use native.Mathlib.Omega.{arith}
 use Rattle.machine.specs.WellFormedLaws.{WellMachine, valid_machine}
 use Rattle.text.specs.AppendLaws.{appended, last, next}
