@@ -1,25 +1,24 @@
 -- Laws of the call: by its tests, what is answered and what is left in the lent buffer.
-use Rattle.std.specs.Prelude.{List, ◌++◌, ◌≡◌, ℕ, ◌≤◌, ◌<◌, length, drop, Err, Ok}
-use Rattle.std.proofs.Common.{sym, ap, ◌∙◌, arith}
+use mathlib.Core.List.{List, [], ◌++◌, flatten}
+use Rattle.std.specs.Prelude.{◌≡◌, ℕ, ◌≤◌, ◌<◌, length, take, drop, Err, Ok}
+use Rattle.std.proofs.Common.{sym, ap, ap₂, ◌∙◌, arith, take_all}
 use Rattle.machine.specs.declared.Machine.{Machine}
 use Rattle.machine.specs.declared.Refusal.{Refusal}
 use Rattle.machine.specs.Refusals.{valid}
 use Rattle.machine.specs.RefusalsLaws.{then_of, then_refused, buffer_valid, buffer_short, buffer_made, buffer_kept}
 use Rattle.machine.specs.WellFormed.{machine_validity}
 use Rattle.machine.specs.WellFormedLaws.{WellMachine}
-use Rattle.codec.specs.ListLaws.{sets_front}
 use Rattle.hanoi.specs.Text.{text_room, hoa_text, text_validity, text_answer, text_buffer}
 use Rattle.hanoi.specs.Parts.{text_parts}
-use Rattle.hanoi.specs.Puts.{Placed}
-use Rattle.hanoi.specs.PutLaws.{Left, left_parts}
 use Rattle.hanoi.proofs.TextLaws.{text_parts_lem}
 use Rattle.hanoi.proofs.FitsLaws.{text_most}
 use Rattle.machine.specs.declared.Refusal.TheVariants.{ShortBuffer}
 
--- the parts of a well-formed machine's text, and their room
-pub text_start : (out : List ℕ) (m : Machine) → WellMachine 8 m
-    → Left out 0 (hoa_text m) out 0 (text_parts m)
-text_start out m w = left_parts out 0 (hoa_text m) _ (text_parts_lem m (omega (arith, w.sets_high))) (omega (arith, text_most m w))
+-- a well-formed machine's text is shorter than the room, so that nothing is cut
+pub text_whole : (m : Machine) → WellMachine 8 m → {x y : List ℕ} → x ≡ [] → y ≡ take 20000 (x ++ flatten (text_parts m)) → y ≡ hoa_text m
+text_whole m w e f =
+    f ∙ ap (λ (v : List ℕ). take 20000 (v ++ flatten (text_parts m))) e ∙ ap (take 20000) (sym (text_parts_lem m (omega (arith, w.sets_high))))
+    ∙ take_all 20000 (hoa_text m) (omega (arith, text_most m w))
 
 module _ (m : Machine) (buffer : List ℕ) where
   stopped : (r : Refusal) → text_validity m (length buffer) ≡ Err r → (text_answer m (length buffer) ≡ Err r) × (text_buffer m buffer ≡ buffer)
@@ -48,9 +47,7 @@ module _ (m : Machine) (buffer : List ℕ) where
     unfolding text_buffer
     text_left = buffer_made _ _ buffer tests
 
-    pub text_placed : WellMachine 8 m → {after : List ℕ} {n : ℕ} → Placed buffer 0 (hoa_text m) after n
-        → (Ok n ≡ text_answer m (length buffer)) × (after ≡ text_buffer m buffer)
-    text_placed w p = (
-      ap Ok (omega (arith, p.place)) ∙ sym text_given,
-      p.bytes ∙ sets_front buffer (hoa_text m) (omega (arith, text_most m w)) ∙ sym text_left,
-    )
+    -- a text copied to the front
+    pub text_copied : {w : List ℕ} {n : ℕ} → n ≡ length (hoa_text m) → w ≡ hoa_text m
+        → (Ok n ≡ text_answer m (length buffer)) × (w ++ drop n buffer ≡ text_buffer m buffer)
+    text_copied e f = (ap Ok e ∙ sym text_given, ap₂ (λ (v : List ℕ) (k : ℕ). v ++ drop k buffer) f e ∙ sym text_left)

@@ -2,17 +2,17 @@
 use Rattle.std.specs.Prelude.{Bool, true, false, cond, ◌≡◌, ℕ, ◌+◌, ◌-◌, ◌^◌, ◌≤◌, ◌<◌, get_or}
 use mathlib.Core.List.{List, [], ◌∷◌, ◌++◌, map, flat_map, flatten, append_assoc}
 use Rattle.std.proofs.Math.Path.{refl, ap}
-use Rattle.std.proofs.Common.{sym, ◌∙◌, ne_eqb, add-one}
+use Rattle.std.proofs.Common.{sym, ap₂, ◌∙◌, ne_eqb, add-one}
 use native.Mathlib.Omega.{arith}
 use Rattle.mask.specs.Bits.{has_bit, lowest_of, rest_of, with_bit}
 use Rattle.mask.specs.Tables.{mask_of}
 use Rattle.mask.specs.TablesLaws.{mask_of_hit, mask_of_miss}
 use Rattle.text.specs.Decimal.{decimal}
 use Rattle.text.specs.DecimalLaws.{decimal_one}
-use Rattle.hanoi.specs.Words.{ascii, numbers, below, spread, joined}
+use Rattle.hanoi.specs.Words.{ascii, numbers, below, states_of, spread, joined}
 use Rattle.hanoi.specs.WordsLaws.{spread_none, spread_more, joined_none, joined_more, states_none, states_next, numbers_at, numbers_past, below_more_lem}
 use Rattle.hanoi.specs.Text.{line, start_line, infinitely, acceptance, literal, label}
-use Rattle.hanoi.specs.Parts.{items, start_lines, braces_parts, braces, sets_mask, lines_at, lines_below, spaced, conditions, literals, lines_from}
+use Rattle.hanoi.specs.Parts.{items, start_lines, braces_parts, braces, state_text, sets_mask, lines_at, lines_below, spaced, conditions, literals, lines_from}
 
 -- ---- the texts of numbers from k of n on
 module _ (between : List ℕ) (f : ℕ → List ℕ) where
@@ -50,15 +50,6 @@ pub spaced_none : spaced 0 ≡ []
 unfolding spaced
 spaced_none = ap (λ (l : List ℕ). spread (ascii " ") (map decimal l)) states_none ∙ spread_none (ascii " ")
 
-module _ (m : ℕ) (some : m ≡ 0 → ⊥) (small : m < 2 ^ 64) where
-  pub items_next : items m ≡ decimal (lowest_of 64 m) ++ spaced (rest_of m)
-  unfolding items spaced
-  items_next = ap (λ (l : List ℕ). joined (ascii " ") (map decimal l)) (states_next m some small) ∙ joined_more (ascii " ") _ _
-
-  pub spaced_next : spaced m ≡ (ascii " " ++ decimal (lowest_of 64 m)) ++ spaced (rest_of m)
-  unfolding spaced
-  spaced_next = ap (λ (l : List ℕ). spread (ascii " ") (map decimal l)) (states_next m some small) ∙ spread_more (ascii " ") _ _
-
 -- ---- start states
 pub starts_none : start_lines 0 ≡ []
 unfolding start_lines
@@ -68,14 +59,26 @@ start_line_lem : (s : ℕ) → start_line s ≡ (ascii "Start: " ++ decimal s) +
 unfolding start_line line joined spread flat_map
 start_line_lem s = simp append_assoc
 
-module _ (m : ℕ) (some : m ≡ 0 → ⊥) (small : m < 2 ^ 64) where
-  pub starts_next : start_lines m ≡ (ascii "Start: " ++ decimal (lowest_of 64 m)) ++ (ascii "\n" ++ start_lines (rest_of m))
+-- by the lowest state x and the mask r of the rest
+module _ (m : ℕ) {x r : ℕ} (some : m ≡ 0 → ⊥) (small : m < 2 ^ 64) (low : x ≡ lowest_of 64 m) (rest : r ≡ rest_of m) where
+  next : states_of m ≡ x ∷ states_of r
+  next = states_next m some small ∙ sym (ap₂ (λ (s k : ℕ). s ∷ states_of k) low rest)
+
+  pub items_next : items m ≡ decimal x ++ spaced r
+  unfolding items spaced
+  items_next = ap (λ (l : List ℕ). joined (ascii " ") (map decimal l)) next ∙ joined_more (ascii " ") _ _
+
+  pub spaced_next : spaced m ≡ ascii " " ++ (decimal x ++ spaced r)
+  unfolding spaced
+  spaced_next = ap (λ (l : List ℕ). spread (ascii " ") (map decimal l)) next ∙ spread_more (ascii " ") _ _
+
+  pub starts_next : start_lines m ≡ (ascii "Start: " ++ decimal x) ++ (ascii "\n" ++ start_lines r)
   unfolding start_lines
   starts_next =
-      ap (flat_map start_line) (states_next m some small)
+      ap (flat_map start_line) next
       ∙ flat_more start_line _ _
-      ∙ ap (λ (w : List ℕ). w ++ start_lines (rest_of m)) (start_line_lem (lowest_of 64 m))
-      ∙ append_assoc (ascii "Start: " ++ decimal (lowest_of 64 m)) (ascii "\n") (start_lines (rest_of m))
+      ∙ ap (λ (w : List ℕ). w ++ start_lines r) (start_line_lem x)
+      ∙ append_assoc (ascii "Start: " ++ decimal x) (ascii "\n") (start_lines r)
 
 -- ---- the acceptance condition
 pub acceptance_first : (n : ℕ) → 0 < n → acceptance n ≡ ascii "Inf(0)" ++ conditions 1 n
@@ -122,9 +125,12 @@ module _ (k : ℕ) (observations successors fairness : List ℕ) where
   unfolding lines_below lines_from
   lines_all n = let e : n ≡ n - 0 = omega arith in ap (λ (i : ℕ). flat_map (lines_at k observations successors fairness) (numbers 0 i)) e
 
-  pub lines_next : (s n : ℕ) → s < n → lines_from k observations successors fairness s n ≡ lines_at k observations successors fairness s ++ lines_from k observations successors fairness (s + 1) n
-  unfolding lines_from
-  lines_next s n h = flat_at (lines_at k observations successors fairness) s n h
+  pub lines_next : (s n : ℕ) {members : ℕ} → members ≡ sets_mask k fairness s → s < n → lines_from k observations successors fairness s n
+      ≡ state_text s (get_or observations s 0) members (get_or successors s 0) ++ lines_from k observations successors fairness (s + 1) n
+  unfolding lines_from lines_at
+  lines_next s n e h =
+      flat_at (lines_at k observations successors fairness) s n h
+      ∙ ap (λ (m : ℕ). state_text s (get_or observations s 0) m (get_or successors s 0) ++ lines_from k observations successors fairness (s + 1) n) (sym e)
 
   pub lines_past : (s n : ℕ) → n ≤ s → lines_from k observations successors fairness s n ≡ []
   unfolding lines_from

@@ -1,166 +1,141 @@
-// The text of a machine in the Hanoi Omega-Automata format, HOA v1 (document 02, No. 1). Each function that puts a part of the text is handed the
-// place where the part begins, and gives the place behind it.
+// The text of a machine in the Hanoi Omega-Automata format, HOA v1 (document 02, No. 1). Each function puts a part of the text behind what is there.
 #![tactic(auto)]
 
-ghost use Rattle.std.specs.Prelude.{cond, ◌++◌, ◌≡◌, ◌≤◌, ◌<◌, length};
+ghost use Rattle.std.specs.Prelude.{cond, [], ◌++◌, ◌≡◌, ◌≤◌, ◌<◌, length, take};
 ghost use Rattle.mask.specs.Bits.{has_bit};
 ghost use Rattle.text.specs.Decimal.{decimal};
 ghost use Rattle.machine.specs.Refusals.{valid};
 ghost use Rattle.machine.specs.WellFormed.{machine_validity};
-ghost use Rattle.hanoi.specs.Text.{acceptance, label, hoa_text, text_answer, text_buffer};
+ghost use Rattle.hanoi.specs.Text.{acceptance, label, hoa_text, text_room, text_answer, text_buffer};
 ghost use Rattle.hanoi.specs.Parts.{items, start_lines, braces, state_text, sets_mask, lines_below, head_text};
-ghost use Rattle.hanoi.specs.Puts.{Room, Placed};
 
+use arrayvec::ArrayVec;
 use machine::{Machine, Refusal};
+use text::{append, append_byte, append_number};
 
 // The least length of a lent buffer; every text is shorter.
 pub const TEXT_ROOM: usize = 20000;
 
-// ---- Words, numbers and lists of numbers
+// A text; what there is no room for is left out. `prove!` tells the proof of its room where it may be that nothing is put.
+type Text = ArrayVec<u8, TEXT_ROOM>;
 
-// Puts a word.
-fn put_word(out: &mut [u8], at: usize, word: &[u8]) -> usize
-    requires { Room at word.now }
-    ensures { Placed out.old at word.now out.new result }
-{
-    text::put(out, at, word);
-    at + word.len()
-}
+// ---- Numbers and lists of numbers
 
 // Puts a word, and a number behind it.
-fn put_numbered(out: &mut [u8], at: usize, word: &[u8], n: usize) -> usize
-    requires { Room at (word.now ++ decimal n) }
-    ensures { Placed out.old at (word.now ++ decimal n) out.new result }
+fn append_numbered(text: &mut Text, word: &[u8], n: usize)
+    ensures { text.new.items ≡ take text_room (text.old.items ++ (word.now ++ decimal n)) }
 {
-    text::put(out, at, word);
-    let behind = at + word.len();
-    behind + text::put_number(out, behind, n)
+    append(text, word);
+    append_number(text, n);
 }
 
 // Puts the numbers of a mask, ascending, a blank between two.
-fn put_items(out: &mut [u8], at: usize, m: u64) -> usize
-    requires { Room at (items m) }
-    ensures { Placed out.old at (items m) out.new result }
+fn append_items(text: &mut Text, m: u64)
+    ensures { text.new.items ≡ take text_room (text.old.items ++ items m) }
 {
+    prove!(text.len() <= TEXT_ROOM);
     if m == 0 {
-        return at;
+        return;
     }
-    let mut to = put_numbered(out, at, b"", mask::lowest(m));
+    append_number(text, mask::lowest(m));
     let mut later = mask::rest(m);
     while later != 0 {
-        to = put_numbered(out, to, b" ", mask::lowest(later));
+        append_byte(text, b' ');
+        append_number(text, mask::lowest(later));
         later = mask::rest(later);
     }
-    to
 }
 
 // ---- The lines before those of the states
 
 // Puts a line for each start state.
-fn put_starts(out: &mut [u8], at: usize, start: u64) -> usize
-    requires { Room at (start_lines start) }
-    ensures { Placed out.old at (start_lines start) out.new result }
+fn append_starts(text: &mut Text, start: u64)
+    ensures { text.new.items ≡ take text_room (text.old.items ++ start_lines start) }
 {
-    let mut to = at;
+    prove!(text.len() <= TEXT_ROOM);
     let mut left = start;
     while left != 0 {
-        let end = put_numbered(out, to, b"Start: ", mask::lowest(left));
-        to = put_word(out, end, b"\n");
+        append_numbered(text, b"Start: ", mask::lowest(left));
+        append_byte(text, b'\n');
         left = mask::rest(left);
     }
-    to
 }
 
 // Puts the acceptance condition of n sets.
-fn put_acceptance(out: &mut [u8], at: usize, n: usize) -> usize
-    requires n_nonzero { 0 < n }
-    requires room { Room at (acceptance n) }
-    ensures { Placed out.old at (acceptance n) out.new result }
+fn append_acceptance(text: &mut Text, n: usize)
+    requires { 0 < n }
+    ensures { text.new.items ≡ take text_room (text.old.items ++ acceptance n) }
 {
-    let mut to = put_word(out, at, b"Inf(0)");
+    append(text, b"Inf(0)");
     for k in 1..n {
-        let end = put_numbered(out, to, b"&Inf(", k);
-        to = put_word(out, end, b")");
+        append_numbered(text, b"&Inf(", k);
+        append_byte(text, b')');
     }
-    to
 }
 
-// Puts all lines before those of the states, by the counts of states and sets and the start mask.
-fn put_head(out: &mut [u8], states: usize, sets: usize, start: u64) -> usize
-    requires sets_nonzero { 0 < sets }
-    requires room { Room 0 (head_text states sets start) }
-    ensures { Placed out.old 0 (head_text states sets start) out.new result }
+// Puts all lines before those of the states.
+fn append_head(text: &mut Text, m: &Machine)
+    requires { 0 < m.now.sets }
+    ensures { text.new.items ≡ take text_room (text.old.items ++ head_text m.now.states m.now.sets m.now.start) }
 {
-    let counted = put_numbered(out, 0, b"HOA: v1\nStates: ", states);
-    let starts = put_word(out, counted, b"\n");
-    let names = put_starts(out, starts, start);
-    let named = put_numbered(
-        out,
-        names,
+    append_numbered(text, b"HOA: v1\nStates: ", m.states);
+    append_byte(text, b'\n');
+    append_starts(text, m.start);
+    append_numbered(
+        text,
         b"AP: 8 \"o0\" \"o1\" \"o2\" \"o3\" \"o4\" \"o5\" \"o6\" \"o7\"\nacc-name: generalized-Buchi ",
-        sets,
+        m.sets,
     );
-    let accepted = put_numbered(out, named, b"\nAcceptance: ", sets);
-    let condition = put_word(out, accepted, b" ");
-    let end = put_acceptance(out, condition, sets);
-    put_word(
-        out,
-        end,
-        b"\nproperties: state-labels state-acc\n--BODY--\n",
-    )
+    append_numbered(text, b"\nAcceptance: ", m.sets);
+    append_byte(text, b' ');
+    append_acceptance(text, m.sets);
+    append(text, b"\nproperties: state-labels state-acc\n--BODY--\n");
 }
 
 // ---- The lines of the states
 
 // Puts the number i behind the first word where bit i is one, and behind the second where it is zero.
-fn put_literal(out: &mut [u8], at: usize, o: u8, i: usize, one: &[u8], zero: &[u8]) -> usize
-    requires { Room at (cond (has_bit o i) one.now zero.now ++ decimal i) }
-    ensures { Placed out.old at (cond (has_bit o i) one.now zero.now ++ decimal i) out.new result }
+fn append_literal(text: &mut Text, o: u8, i: usize, one: &[u8], zero: &[u8])
+    ensures { text.new.items ≡ take text_room (text.old.items ++ (cond (has_bit o i) one.now zero.now ++ decimal i)) }
 {
-    if mask::has(o as u64, i) {
-        put_numbered(out, at, one, i)
-    } else {
-        put_numbered(out, at, zero, i)
-    }
+    append(text, if mask::has(o as u64, i) { one } else { zero });
+    append_number(text, i);
 }
 
 // Puts the label of an observation.
-fn put_label(out: &mut [u8], at: usize, o: u8) -> usize
-    requires { Room at (label o) }
-    ensures { Placed out.old at (label o) out.new result }
+fn append_label(text: &mut Text, o: u8)
+    ensures { text.new.items ≡ take text_room (text.old.items ++ label o) }
 {
-    let mut to = put_literal(out, at, o, 0, b"", b"!");
+    append_literal(text, o, 0, b"", b"!");
     for i in 1..8 {
-        to = put_literal(out, to, o, i, b"&", b"&!");
+        append_literal(text, o, i, b"&", b"&!");
     }
-    to
 }
 
 // Puts a blank and the sets of a state in braces; nothing where it is in no set.
-fn put_braces(out: &mut [u8], at: usize, members: u64) -> usize
-    requires { Room at (braces members) }
-    ensures { Placed out.old at (braces members) out.new result }
+fn append_braces(text: &mut Text, members: u64)
+    ensures { text.new.items ≡ take text_room (text.old.items ++ braces members) }
 {
+    prove!(text.len() <= TEXT_ROOM);
     if members == 0 {
-        return at;
+        return;
     }
-    let first = put_word(out, at, b" {");
-    let end = put_items(out, first, members);
-    put_word(out, end, b"}")
+    append(text, b" {");
+    append_items(text, members);
+    append_byte(text, b'}');
 }
 
 // Puts the two lines of state s, by its observation and the masks of its sets and successors.
-fn put_state(out: &mut [u8], at: usize, s: usize, o: u8, members: u64, successors: u64) -> usize
-    requires { Room at (state_text s o members successors) }
-    ensures { Placed out.old at (state_text s o members successors) out.new result }
+fn append_state(text: &mut Text, s: usize, o: u8, members: u64, successors: u64)
+    ensures { text.new.items ≡ take text_room (text.old.items ++ state_text s o members successors) }
 {
-    let first = put_word(out, at, b"State: [");
-    let labelled = put_label(out, first, o);
-    let numbered = put_numbered(out, labelled, b"] ", s);
-    let end = put_braces(out, numbered, members);
-    let next = put_word(out, end, b"\n");
-    let last = put_items(out, next, successors);
-    put_word(out, last, b"\n")
+    append(text, b"State: [");
+    append_label(text, o);
+    append_numbered(text, b"] ", s);
+    append_braces(text, members);
+    append_byte(text, b'\n');
+    append_items(text, successors);
+    append_byte(text, b'\n');
 }
 
 // The mask of the sets below k that have state s.
@@ -178,33 +153,33 @@ fn sets_with(k: usize, fairness: &[u64; 8], s: usize) -> u64
 }
 
 // Puts the lines of all states of a machine.
-fn put_states(out: &mut [u8], at: usize, m: &Machine) -> usize
+fn append_states(text: &mut Text, m: &Machine)
     requires n_bound { m.now.states ≤ 64 }
     requires k_bound { m.now.sets ≤ 8 }
-    requires room { Room at (lines_below m.now.states m.now.sets m.now.observations m.now.successors m.now.fairness) }
-    ensures { Placed out.old at (lines_below m.now.states m.now.sets m.now.observations m.now.successors m.now.fairness) out.new result }
+    ensures { text.new.items ≡ take text_room (text.old.items ++ lines_below m.now.states m.now.sets m.now.observations m.now.successors m.now.fairness) }
 {
-    let mut to = at;
+    prove!(text.len() <= TEXT_ROOM);
     for s in 0..m.states {
         let members = sets_with(m.sets, &m.fairness, s);
-        to = put_state(out, to, s, m.observations[s], members, m.successors[s]);
+        append_state(text, s, m.observations[s], members, m.successors[s]);
     }
-    to
 }
 
 // ---- The call
 
-// Puts the text of a well-formed machine at the front.
-fn put_text(out: &mut [u8], m: Machine) -> usize
-    requires { machine_validity 8 m ≡ valid }
-    ensures { Placed out.old 0 (hoa_text m) out.new result }
+// Puts the text of a well-formed machine into an empty text.
+fn append_text(text: &mut Text, m: &Machine)
+    requires empty { text.old.items ≡ [] }
+    requires formed { machine_validity 8 m.now ≡ valid }
+    ensures { text.new.items ≡ hoa_text m.now }
 {
-    let states = put_head(out, m.states, m.sets, m.start);
-    let end = put_states(out, states, &m);
-    put_word(out, end, b"--END--\n")
+    append_head(text, m);
+    append_states(text, m);
+    append(text, b"--END--\n");
 }
 
 // Writes the text of one machine, of either kind, into a lent buffer of 20,000 bytes or more, and gives the text's length, or where the call was stopped.
+// The C interface lends the buffer, so that the text goes there and its length comes back.
 pub fn write_text(m: Machine, out: &mut [u8]) -> Result<usize, Refusal>
     ensures answer { result ≡ text_answer m (length out.old) }
     ensures content { out.new ≡ text_buffer m out.old }
@@ -213,5 +188,9 @@ pub fn write_text(m: Machine, out: &mut [u8]) -> Result<usize, Refusal>
         return Err(Refusal::ShortBuffer);
     }
     validity::machine_validity(8, m)?;
-    Ok(put_text(out, m))
+    let mut text = Text::new();
+    append_text(&mut text, &m);
+    let n = text.len();
+    out[..n].copy_from_slice(&text);
+    Ok(n)
 }

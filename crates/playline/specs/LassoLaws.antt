@@ -1,37 +1,35 @@
 -- Laws of reading a lasso.
-use Rattle.std.specs.Prelude.{Bool, true, false, cond, ◌≡◌, refl, ℕ, zero, suc, ◌+◌, ◌-◌, ◌/◌, ◌%◌, ◌^◌, ◌≤◌, ◌<◌, leb, ltb, eqb, length, get_or, set}
+use Rattle.std.specs.Prelude.{Bool, true, false, Option, Some, None, unwrap_or, ◌≡◌, refl, ℕ, zero, suc, ◌+◌, ◌-◌, ◌/◌, ◌%◌, ◌^◌, ◌≤◌, ◌<◌, ltb, eqb, length, get_or, MatchBool}
+use Rattle.std.specs.Char.{IsAsciiDigit, IsNotAsciiDigit}
 use Rattle.std.proofs.lemmas.Bool.{false≢true}
-use mathlib.Core.List.{List, [], ◌∷◌, ◌++◌, append_assoc, append-nil}
-use Rattle.std.proofs.Math.Path.{sym, ap, ap₂, subst₃}
-use Rattle.std.proofs.Common.{◌∙◌, add-one, arith, length-append, length-take, drop_of_length-le, drop-cons, take_all, take-suc-set, get_or-append-add}
+use mathlib.Core.List.{List, [], ◌∷◌, ◌++◌, append-nil}
+use Rattle.std.proofs.Math.Path.{sym, ap, ap₂, subst₂}
+use Rattle.arrayvec.specs.ArrayVec.{ArrayVec}
+use Rattle.std.proofs.Common.{◌∙◌, add-one, arith, length-append, length-take, drop_of_length-le, drop-cons, take_all, get_or-append-add, get_or-take, get_or-drop}
 use Rattle.std.proofs.Math.Logic.{by_cases}
 use Rattle.std.proofs.Math.Decide.{dec_lt, ℕ_discrete}
-use borrow.Author.Tests.{leb-true, ltb-true, le-leb, lt-leb, lt-ltb, le-ltb, eq-eqb, ne_eqb}
-use Rattle.std.proofs.Math.ListN.{take, drop, get_or-append}
-use Rattle.std.proofs.lemmas.List.{take-append-le}
+use borrow.Author.Tests.{leb-true, le-leb, lt-leb, lt-ltb, le-ltb, eq-eqb, ne_eqb}
+use Rattle.std.proofs.Math.ListN.{take, drop, get_or-append, length-drop}
 use Rattle.std.proofs.Math.Seq.{get_or-append_seam, take-append_seam, drop-append-add}
 use Rattle.text.specs.Decimal.{decimal, is_digit}
 use Rattle.text.specs.DecimalLaws.{decimal_one, decimal_more}
+use Rattle.text.specs.AppendLaws.{cut_two}
 use Rattle.machine.specs.Lassos.{given}
 use Rattle.mask.specs.Logic.{and, or}
-use Rattle.mask.specs.Bounded.{every}
-use Rattle.mask.specs.LogicLaws.{and_l, and_i, and_false_l, and_false_r, and_true_l, or_l, or_r, or_false_l}
-use Rattle.mask.specs.BoundedLaws.{every_of, every_not, first_is, first_none}
-use Rattle.playline.specs.declared.Numbers.{Numbers}
+use Rattle.mask.specs.Bounded.{every, below}
+use Rattle.mask.specs.LogicLaws.{and_l, and_r, and_i, and_false_l, and_false_r, or_l, or_r, or_false_l}
+use Rattle.mask.specs.BoundedLaws.{every_of, every_at, first_is}
 use Rattle.playline.specs.Lasso.{grown, numbers_from, numbers_in, is_plain, stroke_at, readable, lasso_in}
 
 -- ---- bytes
-pub digit_low : (b : ℕ) → b < 48 → false ≡ is_digit b
-unfolding is_digit
-digit_low b h = sym (and_false_l _ (lt-leb 48 b h))
-
-pub digit_high : (b : ℕ) → 48 ≤ b → leb b 57 ≡ is_digit b
-unfolding is_digit
-digit_high b h = sym (and_true_l _ (le-leb 48 b h))
-
 pub digit_least : (b : ℕ) → is_digit b ≡ true → 48 ≤ b
 unfolding is_digit
 digit_least b t = leb-true 48 b (and_l _ _ t)
+
+pub digit_told : (b : ℕ) (r : Bool) → MatchBool r (IsAsciiDigit b) (IsNotAsciiDigit b) → r ≡ is_digit b
+unfolding is_digit
+digit_told b true h = sym (and_i (le-leb 48 b (omega (arith, h))) (le-leb b 57 (omega (arith, h))))
+digit_told b false h = by_cases (dec_lt b 48) (λ l. sym (and_false_l _ (lt-leb 48 b l))) (λ l. sym (and_false_r _ (lt-leb b 57 (omega (arith, h)))))
 
 pub plain_digit : (b : ℕ) → is_digit b ≡ true → true ≡ is_plain b
 unfolding is_plain
@@ -55,116 +53,145 @@ module _ (inside : Bool) (n b : ℕ) (t : List ℕ) where
   unfolding numbers_from
   numbers_blank o e = rw (e, o)
 
--- ---- at most 65 of them
--- the numbers that a list of them holds
-abbrev pub read : Numbers → List ℕ
-read list = take list.count list.states
-
--- one more where there is room, and none where there is none
-module _ (k n : ℕ) (states : List ℕ) (long : length states ≡ 65) where
-  pub pushed_room : k < 65 → take (k + 1) (set states k n) ≡ take 65 (take k states ++ (n ∷ []))
-  pushed_room h =
-      ap (λ (m : ℕ). take m (set states k n)) (add-one k)
-      ∙ take-suc-set states k n (omega arith)
-      ∙ sym (take_all 65 (take k states ++ (n ∷ [])) (omega (arith, length-append (take k states) (n ∷ []), length-take k states)))
-
-  pub pushed_full : 65 ≤ k → k ≤ 65 → take k states ≡ take 65 (take k states ++ (n ∷ []))
-  pushed_full g h =
-      let full : length (take k states) ≡ 65 = omega (arith, length-take k states) in
-      sym (take-append-le 65 (take k states) (n ∷ []) (omega arith) ∙ take_all 65 (take k states) (omega arith))
-
-take_front : (m : ℕ) (a b : List ℕ) → take m (take m a ++ b) ≡ take m (a ++ b)
-take_front zero a b = refl
-take_front (suc m) [] b = refl
-take_front (suc m) (x ∷ a) b = ap (λ (l : List ℕ). x ∷ l) (take_front m a b)
-
 -- ---- a text that is read up to a place
 pub drop_next : (l : List ℕ) (i : ℕ) → i < length l → drop i l ≡ get_or l i 0 ∷ drop (i + 1) l
 drop_next l i h = drop-cons l i 0 h ∙ ap (λ (k : ℕ). get_or l i 0 ∷ drop k l) (sym (add-one i))
 
+-- the numbers of a text that begins with n, or inside no number
+abbrev pub numbers_begun : Option ℕ → List ℕ → List ℕ
+numbers_begun None t = numbers_from false 0 t
+numbers_begun (Some n) t = numbers_from true n t
+
+begun_digit : (o : Option ℕ) (b : ℕ) (t : List ℕ) → is_digit b ≡ true → numbers_begun o (b ∷ t) ≡ numbers_from true (grown (unwrap_or o 0) b) t
+begun_digit None b t e = numbers_digit false 0 b t e
+begun_digit (Some n) b t e = numbers_digit true n b t e
+
 -- the numbers that were read and those of what is left are the text's
-pub record Read (text : List ℕ) (list : Numbers) (inside : Bool) (n i : ℕ) : Type 0 where
-  pub count : list.count ≤ 65
-  pub all : take 65 (read list ++ numbers_from inside n (drop i text)) ≡ numbers_in text
+pub record Read (text list : List ℕ) (begun : Option ℕ) (i : ℕ) : Type 0 where
+  pub count : length list ≤ 65
+  pub all : take 65 (list ++ numbers_begun begun (drop i text)) ≡ numbers_in text
 
-pub read_as : {text : List ℕ} {list l : Numbers} {inside o : Bool} {n m i : ℕ} → l ≡ list → o ≡ inside → m ≡ n → Read text list inside n i → Read text l o m i
-read_as {text} {i = i} p q e r = subst₃ (λ (l : Numbers) (o : Bool) (m : ℕ). Read text l o m i) (sym p) (sym q) (sym e) r
+pub read_as : {text : List ℕ} {list l : ArrayVec ℕ} {begun o : Option ℕ} {i : ℕ} → l ≡ list → o ≡ begun → Read text list.items begun i → Read text l.items o i
+read_as {text} {i = i} p q r = subst₂ (λ (l : ArrayVec ℕ) (o : Option ℕ). Read text l.items o i) (sym p) (sym q) r
 
-pub read_none : (text : List ℕ) (list : Numbers) → list.count ≡ 0 → Read text list false 0 0
+pub read_none : (text : List ℕ) {list : List ℕ} → list ≡ [] → Read text list None 0
 unfolding numbers_in
-read_none text list e = record { count = omega arith; all = ap (λ (k : ℕ). take 65 (take k list.states ++ numbers_from false 0 text)) e }
+read_none text e = record { count = omega (arith, ap length e); all = ap (λ (l : List ℕ). take 65 (l ++ numbers_from false 0 text)) e }
 
-module _ {text : List ℕ} {list : Numbers} {inside : Bool} {n i : ℕ} (r : Read text list inside n i) where
+module _ {text list : List ℕ} {begun : Option ℕ} {i : ℕ} (r : Read text list begun i) where
   -- what is left, by the byte at the place
-  left : (l : List ℕ) → i < length text → numbers_from inside n (get_or text i 0 ∷ drop (i + 1) text) ≡ l → take 65 (read list ++ l) ≡ numbers_in text
-  left l h e = ap (λ (m : List ℕ). take 65 (read list ++ m)) (sym (ap (numbers_from inside n) (drop_next text i h) ∙ e)) ∙ r.all
+  left : (l : List ℕ) → i < length text → numbers_begun begun (get_or text i 0 ∷ drop (i + 1) text) ≡ l → take 65 (list ++ l) ≡ numbers_in text
+  left l h e = ap (λ (m : List ℕ). take 65 (list ++ m)) (sym (ap (numbers_begun begun) (drop_next text i h) ∙ e)) ∙ r.all
 
-  pub read_digit : i < length text → is_digit (get_or text i 0) ≡ true → Read text list true (grown n (get_or text i 0)) (i + 1)
-  read_digit h t = record { count = r.count; all = left _ h (numbers_digit inside n _ _ t) }
+  pub read_digit : (n : ℕ) → i < length text → is_digit (get_or text i 0) ≡ true → n ≡ grown (unwrap_or begun 0) (get_or text i 0) → Read text list (Some n) (i + 1)
+  read_digit n h t e = record {
+    count = r.count;
+    all = left _ h (begun_digit begun _ _ t ∙ ap (λ (m : ℕ). numbers_from true m (drop (i + 1) text)) (sym e));
+  }
 
-  pub read_blank : inside ≡ false → i < length text → is_digit (get_or text i 0) ≡ false → Read text list false 0 (i + 1)
-  read_blank e h t = record { count = r.count; all = left _ h (numbers_blank inside n _ _ e t) }
+  pub read_blank : begun ≡ None → i < length text → is_digit (get_or text i 0) ≡ false → Read text list None (i + 1)
+  read_blank e h t = record {
+    count = r.count;
+    all = left _ h (ap (λ (o : Option ℕ). numbers_begun o (get_or text i 0 ∷ drop (i + 1) text)) e ∙ numbers_blank false 0 _ _ refl t);
+  }
 
-  -- a number ends
-  pub read_end : (more : Numbers) → more.count ≤ 65 → read more ≡ take 65 (read list ++ (n ∷ []))
-      → inside ≡ true → i < length text → is_digit (get_or text i 0) ≡ false → Read text more false 0 (i + 1)
-  read_end more c m e h t =
-      let rest : List ℕ = numbers_from false 0 (drop (i + 1) text) in
-      record {
-        count = c;
-        all =
-            ap (λ (l : List ℕ). take 65 (l ++ rest)) m
-            ∙ take_front 65 (read list ++ (n ∷ [])) rest
-            ∙ ap (take 65) (append_assoc (read list) (n ∷ []) rest)
-            ∙ left (n ∷ rest) h (numbers_end inside n _ _ e t);
-      }
+  module _ {n : ℕ} {more : List ℕ} (e : begun ≡ Some n) (m : more ≡ take 65 (list ++ (n ∷ []))) where
+    -- a number ends
+    pub read_end : i < length text → is_digit (get_or text i 0) ≡ false → Read text more None (i + 1)
+    read_end h t =
+        let rest : List ℕ = numbers_from false 0 (drop (i + 1) text) in
+        record {
+          count = omega (arith, ap length m, length-take 65 (list ++ (n ∷ [])));
+          all =
+              ap (λ (l : List ℕ). take 65 (l ++ rest)) m
+              ∙ cut_two 65 list (n ∷ []) rest
+              ∙ left (n ∷ rest) h (ap (λ (o : Option ℕ). numbers_begun o (get_or text i 0 ∷ drop (i + 1) text)) e ∙ numbers_end true n _ _ refl t);
+        }
 
-  -- at the text's end
-  done : length text ≤ i → take 65 (read list ++ cond inside (n ∷ []) []) ≡ numbers_in text
+    pub read_last : length text ≤ i → more ≡ numbers_in text
+    unfolding numbers_from
+    read_last h = m ∙ ap₂ (λ (o : Option ℕ) (l : List ℕ). take 65 (list ++ numbers_begun o l)) (sym e) (sym (drop_of_length-le text h)) ∙ r.all
+
+  pub read_all : begun ≡ None → length text ≤ i → list ≡ numbers_in text
   unfolding numbers_from
-  done h = ap (λ (l : List ℕ). take 65 (read list ++ numbers_from inside n l)) (sym (drop_of_length-le text h)) ∙ r.all
-
-  pub read_last : (more : List ℕ) → more ≡ take 65 (read list ++ (n ∷ [])) → inside ≡ true → length text ≤ i → more ≡ numbers_in text
-  read_last more m e h = m ∙ rw e at (done h)
-
-  pub read_all : inside ≡ false → length text ≤ i → read list ≡ numbers_in text
   read_all e h =
-      sym (take_all 65 (read list) (omega (arith, r.count, length-take list.count list.states)))
-      ∙ ap (take 65) (sym (append-nil (read list)))
-      ∙ rw e at (done h)
+      sym (take_all 65 list r.count) ∙ ap (take 65) (sym (append-nil list))
+      ∙ ap₂ (λ (o : Option ℕ) (l : List ℕ). take 65 (list ++ numbers_begun o l)) (sym e) (sym (drop_of_length-le text h)) ∙ r.all
 
 -- ---- the stroke
 module _ (t : List ℕ) where
-  pub stroke_is : (i : ℕ) → i < length t → get_or t i 0 ≡ 47 → ((k : ℕ) → k < i → get_or t k 0 ≡ 47 → ⊥) → i ≡ stroke_at t
+  stroke_is : (i : ℕ) → i < length t → get_or t i 0 ≡ 47 → ((k : ℕ) → k < i → get_or t k 0 ≡ 47 → ⊥) → i ≡ stroke_at t
   unfolding stroke_at
   stroke_is i h e b = sym (first_is (length t) _ i h (eq-eqb _ _ e) (λ k l. ne_eqb _ _ (b k l)))
 
-  pub stroke_none : ((k : ℕ) → k < length t → get_or t k 0 ≡ 47 → ⊥) → length t ≡ stroke_at t
-  unfolding stroke_at
-  stroke_none b = sym (first_none (length t) _ (λ k l. ne_eqb _ _ (b k l)))
+  pub stroke_found : {k : ℕ} → Some k ≡ below (length t) (stroke_at t) → (k ≡ stroke_at t) × (k < length t)
+  unfolding below
+  stroke_found {k} h =
+      by_cases (dec_lt (stroke_at t) (length t))
+      (λ l. let e : k ≡ stroke_at t = ap (λ (o : Option ℕ). unwrap_or o 0) (rw (lt-ltb _ _ l) at h) in (e, omega arith))
+      (λ l. let past : length t ≤ stroke_at t = omega arith in let e : Some k ≡ None = rw (le-ltb _ _ past) at h in cc)
 
 -- ---- a readable text
 -- at place i stands the stroke or a plain byte
 abbrev pub fits : List ℕ → ℕ → ℕ → Bool
 fits t stroke i = or (eqb i stroke) (is_plain (get_or t i 0))
 
-pub readable_stroke : (t : List ℕ) → readable t ≡ true → stroke_at t < length t
-unfolding readable
-readable_stroke t e = ltb-true _ _ (and_l _ _ e)
-
 module _ (t : List ℕ) (stroke : ℕ) (at : stroke ≡ stroke_at t) where
   readable_is : readable t ≡ and (ltb stroke (length t)) (every (length t) (fits t stroke))
   unfolding readable
   readable_is = ap (λ (k : ℕ). and (ltb k (length t)) (every (length t) (fits t k))) (sym at)
 
-  pub readable_without : length t ≤ stroke → false ≡ readable t
-  readable_without h = sym (readable_is ∙ and_false_l _ (le-ltb _ _ h))
-
-  pub readable_not : (i : ℕ) → i < length t → fits t stroke i ≡ false → false ≡ readable t
-  readable_not i h e = sym (readable_is ∙ and_false_r _ (every_not (length t) (fits t stroke) i h e))
-
   pub readable_whole : stroke < length t → ((k : ℕ) → k < length t → fits t stroke k ≡ true) → true ≡ readable t
   readable_whole h f = sym (readable_is ∙ and_i (lt-ltb _ _ h) (every_of (length t) (fits t stroke) f))
+
+-- each byte is a digit or a blank
+abbrev pub plain : List ℕ → Bool
+plain l = every (length l) (λ i. is_plain (get_or l i 0))
+
+pub behind_stroke : (t : List ℕ) (k : ℕ) → take (length t - (k + 1)) (drop (k + 1) t) ≡ drop (k + 1) t
+behind_stroke t k = take_all (length t - (k + 1)) (drop (k + 1) t) (omega (arith, length-drop (k + 1) t))
+
+pub not_found : (t : List ℕ) → None ≡ below (length t) (stroke_at t) → readable t ≡ false
+unfolding readable below
+not_found t h =
+    by_cases (dec_lt (stroke_at t) (length t))
+    (λ l. let e : None ≡ Some (stroke_at t) = rw (lt-ltb _ _ l) at h in cc)
+    (λ l. and_false_l _ (le-ltb _ _ (omega arith)))
+
+-- a text with a stroke is readable exactly if the parts before and behind it are plain
+module _ (t : List ℕ) (k : ℕ) (at : k ≡ stroke_at t) (low : k < length t) {a b : List ℕ} (a_is : a ≡ take k t) (b_is : b ≡ drop (k + 1) t) where
+  a_length : length a ≡ k
+  a_length = omega (arith, ap length a_is, length-take k t)
+
+  b_length : length b ≡ length t - (k + 1)
+  b_length = ap length b_is ∙ length-drop (k + 1) t
+
+  a_at : (i : ℕ) → i < k → get_or a i 0 ≡ get_or t i 0
+  a_at i h = ap (λ (l : List ℕ). get_or l i 0) a_is ∙ get_or-take k t i 0 h
+
+  b_at : (i : ℕ) → get_or b i 0 ≡ get_or t (k + 1 + i) 0
+  b_at i = ap (λ (l : List ℕ). get_or l i 0) b_is ∙ get_or-drop (k + 1) t i 0
+
+  pub both_plain : plain a ≡ true → plain b ≡ true → readable t ≡ true
+  both_plain p q =
+      sym (readable_whole t k at low (λ i h.
+      by_cases (dec_lt i k)
+      (λ l. or_r _ (ap is_plain (sym (a_at i l)) ∙ every_at (length a) _ p i (omega (arith, a_length))))
+      (λ l. by_cases (ℕ_discrete i k)
+      (λ e. or_l _ (eq-eqb _ _ e))
+      (λ n.
+      let j = i - (k + 1) in
+      let e : k + 1 + j ≡ i = omega arith in
+      or_r _ (ap is_plain (sym (b_at j ∙ ap (λ (m : ℕ). get_or t m 0) e)) ∙ every_at (length b) _ q j (omega (arith, b_length)))))))
+
+  fits_at : readable t ≡ true → (i : ℕ) → i < length t → (i ≡ k → ⊥) → is_plain (get_or t i 0) ≡ true
+  fits_at r i h n = sym (or_false_l _ (ne_eqb i k n)) ∙ every_at (length t) (fits t k) (and_r _ _ (sym (readable_is t k at) ∙ r)) i h
+
+  pub stem_plain : readable t ≡ true → plain a ≡ true
+  stem_plain r = every_of (length a) _ (λ i h. ap is_plain (a_at i (omega (arith, a_length))) ∙ fits_at r i (omega (arith, a_length)) (λ e. omega (arith, a_length)))
+
+  pub loop_plain : readable t ≡ true → plain b ≡ true
+  loop_plain r = every_of (length b) _ (λ i h. ap is_plain (b_at i) ∙ fits_at r (k + 1 + i) (omega (arith, b_length)) (λ e. omega arith))
 
 -- ---- the digits of a state
 -- how the digits of n, at most k of them, come about

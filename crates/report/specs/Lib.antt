@@ -2,4 +2,3 @@
 pub mod Text
 -- laws
 pub mod TextLaws
-pub mod LineLaws

@@ -1,6 +1,7 @@
 -- Laws of the lines' texts, as words, numbers and the bytes after them.
-use Rattle.std.specs.Prelude.{List, ◌++◌, ◌≡◌, refl, ℕ, ◌≤◌, get_or, min, length, take}
-use Rattle.std.proofs.Common.{append_assoc, length-append, sym, ap, ◌∙◌, arith, take_all}
+use mathlib.Core.List.{List, [], ◌∷◌, ◌++◌, flatten}
+use Rattle.std.specs.Prelude.{◌≡◌, refl, ℕ, ◌≤◌, get_or, min, length, take}
+use Rattle.std.proofs.Common.{append_assoc, append-nil, length-append, sym, ap, ◌∙◌, arith, take_all}
 use Rattle.std.proofs.Math.Logic.{by_cases}
 use Rattle.std.proofs.Math.Decide.{dec_lt}
 use Rattle.text.specs.Decimal.{decimal}
@@ -9,29 +10,36 @@ use Rattle.machine.specs.declared.Refusal.{Refusal}
 use Rattle.machine.specs.declared.Verdict.TheVariants.{Carried, NotCarried}
 use Rattle.machine.specs.Refusals.{number_of, spot_of}
 use Rattle.codec.specs.Reader.{input_room}
-use Rattle.verdict.specs.Outcomes.{file_outcome}
-use Rattle.report.specs.Text.{blank_space, line_feed, carried_text, not_carried_text, refused_text, refusal_line, verdict_line, shelf_line}
+use Rattle.report.specs.Text.{blank_space, line_feed, carried_text, not_carried_text, refused_text, refusal_line, verdict_line}
 
 -- a line has room for each: of n, and of each other number, at most 20 digits
+-- what is put for a refusal, by its numbers
+abbrev pub refusal_parts : ℕ → ℕ → ℕ → ℕ → List (List ℕ)
+refusal_parts n a b c = refused_text ∷ (decimal n ++ blank_space) ∷ (decimal a ++ blank_space) ∷ (decimal b ++ blank_space) ∷ (decimal c ++ line_feed) ∷ []
+
 pub refusal_text : (r : Refusal) (n a b c : ℕ) → n ≡ number_of r → a ≡ get_or (spot_of r) 0 0 → b ≡ get_or (spot_of r) 1 0 → c ≡ get_or (spot_of r) 2 0
-    → take 128 (refused_text ++ (decimal n ++ blank_space) ++ (decimal a ++ blank_space) ++ (decimal b ++ blank_space) ++ (decimal c ++ line_feed)) ≡ refusal_line r
-unfolding refusal_line
+    → take 128 (flatten (refusal_parts n a b c)) ≡ refusal_line r
+unfolding refusal_line flatten
 refusal_text r n a b c en ea eb ec =
-    let line = refused_text ++ (decimal n ++ blank_space) ++ (decimal a ++ blank_space) ++ (decimal b ++ blank_space) ++ (decimal c ++ line_feed) in
+    let line = flatten (refusal_parts n a b c) in
     let short : length line ≤ 128 = simp length-append (omega (arith, decimal_most n, decimal_most a, decimal_most b, decimal_most c)) in
-    let same : line ≡ refused_text ++ (decimal n ++ (blank_space ++ (decimal a ++ (blank_space ++ (decimal b ++ (blank_space ++ (decimal c ++ line_feed))))))) = simp append_assoc in
+    let same : line ≡ refused_text ++ (decimal n ++ (blank_space ++ (decimal a ++ (blank_space ++ (decimal b ++ (blank_space ++ (decimal c ++ line_feed))))))) = simp (append_assoc, append-nil) in
     take_all 128 line short ∙ same ∙ rw (en, ea, eb, ec) refl
 
-pub carried_line : (n : ℕ) → take 128 (carried_text ++ (decimal n ++ line_feed)) ≡ verdict_line (Carried n)
-unfolding verdict_line
-carried_line n = take_all 128 _ (simp length-append (omega (arith, decimal_most n)))
+pub carried_line : (n : ℕ) → take 128 (flatten (carried_text ∷ (decimal n ++ line_feed) ∷ [])) ≡ verdict_line (Carried n)
+unfolding verdict_line flatten
+carried_line n =
+    let line = flatten (carried_text ∷ (decimal n ++ line_feed) ∷ []) in
+    let short : length line ≤ 128 = simp length-append (omega (arith, decimal_most n)) in
+    let same : line ≡ carried_text ++ (decimal n ++ line_feed) = simp append-nil in
+    take_all 128 line short ∙ same
 
-pub not_carried_line : (c n : ℕ) → take 128 (not_carried_text ++ (decimal c ++ blank_space) ++ (decimal n ++ line_feed)) ≡ verdict_line (NotCarried c n)
-unfolding verdict_line
+pub not_carried_line : (c n : ℕ) → take 128 (flatten (not_carried_text ∷ (decimal c ++ blank_space) ∷ (decimal n ++ line_feed) ∷ [])) ≡ verdict_line (NotCarried c n)
+unfolding verdict_line flatten
 not_carried_line c n =
-    let line = not_carried_text ++ (decimal c ++ blank_space) ++ (decimal n ++ line_feed) in
+    let line = flatten (not_carried_text ∷ (decimal c ++ blank_space) ∷ (decimal n ++ line_feed) ∷ []) in
     let short : length line ≤ 128 = simp length-append (omega (arith, decimal_most c, decimal_most n)) in
-    let same : line ≡ not_carried_text ++ (decimal c ++ (blank_space ++ (decimal n ++ line_feed))) = simp append_assoc in
+    let same : line ≡ not_carried_text ++ (decimal c ++ (blank_space ++ (decimal n ++ line_feed))) = simp (append_assoc, append-nil) in
     take_all 128 line short ∙ same
 
 -- longer input is cut, and shorter input is taken whole

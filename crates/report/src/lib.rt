@@ -7,24 +7,18 @@ ghost use Rattle.report.specs.Text.{no_table_text, refusal_line, verdict_line, o
 
 use arrayvec::ArrayVec;
 use machine::{Refusal, Verdict};
+use text::{append, append_byte, append_number};
 
-// A line of text with its line feed.
+// A line of text with its line feed. Words are put one behind the other: `write!` promises what it writes only where it gives Ok, and never that it
+// does, so that the proof of its `unwrap` does not close (tried on digits).
 pub type Line = ArrayVec<u8, 128>;
 
-// Puts a word behind the line so far, as much of it as there is room for.
-pub fn append(line: &mut Line, word: &[u8])
-    ensures { line.new.items ≡ take 128 (line.old.items ++ word.now) }
-{
-    let end = word.len().min(line.remaining_capacity());
-    line.try_extend_from_slice(&word[..end]).unwrap();
-}
-
-// Puts a number's digits and one byte more behind the line so far, in the same way.
-pub fn append_number(line: &mut Line, n: usize, after: u8)
+// Puts a number and one byte more behind the line so far, as much of them as there is room for.
+fn append_field(line: &mut Line, n: usize, after: u8)
     ensures { line.new.items ≡ take 128 (line.old.items ++ (decimal n ++ (after ∷ []))) }
 {
-    append(line, &text::digits_of(n));
-    append(line, &[after]);
+    append_number(line, n);
+    append_byte(line, after);
 }
 
 // The line of a refusal.
@@ -34,10 +28,10 @@ pub fn refusal_line(r: Refusal) -> Line
     let spot = r.spot();
     let mut line = Line::new();
     append(&mut line, b"refused ");
-    append_number(&mut line, r.number() as usize, b' ');
-    append_number(&mut line, spot[0], b' ');
-    append_number(&mut line, spot[1], b' ');
-    append_number(&mut line, spot[2], b'\n');
+    append_field(&mut line, r.number() as usize, b' ');
+    append_field(&mut line, spot[0], b' ');
+    append_field(&mut line, spot[1], b' ');
+    append_field(&mut line, spot[2], b'\n');
     line
 }
 
@@ -49,12 +43,12 @@ fn checked_line(verdict: Verdict) -> Line
     match verdict {
         Verdict::Carried { covered } => {
             append(&mut line, b"carried ");
-            append_number(&mut line, covered, b'\n');
+            append_field(&mut line, covered, b'\n');
         }
         Verdict::NotCarried { lacking, covered } => {
             append(&mut line, b"not carried ");
-            append_number(&mut line, lacking, b' ');
-            append_number(&mut line, covered, b'\n');
+            append_field(&mut line, lacking, b' ');
+            append_field(&mut line, covered, b'\n');
         }
     }
     line

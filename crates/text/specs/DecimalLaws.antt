@@ -3,6 +3,8 @@ use Rattle.std.specs.Prelude.{List, [], ◌∷◌, ◌++◌, ◌≡◌, refl, �
 use Rattle.std.proofs.Math.Logic.{by_cases}
 use Rattle.std.proofs.Common.{sym, ap, ◌∙◌, mod-eq_of_lt, arith, lt-ltb, le-ltb, length-append}
 use Rattle.std.proofs.Math.Decide.{dec_lt}
+use Rattle.std.specs.Fmt.{decimal as digits_printed}
+use Rattle.std.proofs.lemmas.Fmt.{AppendsLastDigit, decimal_from_appends, length-decimal-le}
 use Rattle.text.specs.Decimal.{digits_up_to, decimal, value_from}
 
 -- ---- one digit, and one digit more
@@ -85,3 +87,12 @@ decimal_value n h = up_to_value 19 n h
 -- two numbers with the same digits are the same
 pub decimal_apart : (m n : ℕ) → m < 10 ^ 20 → n < 10 ^ 20 → decimal m ≡ decimal n → m ≡ n
 decimal_apart m n hm hn e = sym (decimal_value m hm) ∙ ap (value_from 0) e ∙ decimal_value n hn
+
+-- they are what the library prints
+printed_last : AppendsLastDigit digits_up_to
+unfolding digits_up_to
+printed_last = record { one = λ k n l. up_to_one k n l; more = λ k n l. up_to_more k n l }
+
+pub printed : (n : ℕ) → n < 2 ^ 64 → digits_printed n ≡ decimal n
+unfolding decimal
+printed n h = sym (decimal_from_appends digits_up_to printed_last 20 n h (length-decimal-le 20 n (omega arith) (omega arith) h))

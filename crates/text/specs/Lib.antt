@@ -2,6 +2,5 @@
 pub mod Decimal
 -- laws
 pub mod DecimalLaws
-pub mod DigitsLaws
-pub mod PutLaws
+pub mod AppendLaws
 pub mod EndsLaws

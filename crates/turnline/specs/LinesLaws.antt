@@ -1,5 +1,5 @@
 -- Laws of a line that is put together from its front, and of the two lines.
-use mathlib.Core.List.{List, [], ◌∷◌, ◌++◌, append_assoc, append-nil}
+use mathlib.Core.List.{List, [], ◌∷◌, ◌++◌, flatten, append_assoc}
 use Rattle.std.specs.Prelude.{◌≡◌, length, get_or, take}
 use Rattle.std.proofs.Math.Path.{refl, ap}
 use Rattle.std.proofs.Common.{sym, ap₂, ◌∙◌, add-one, arith, length-append, take_all}
@@ -13,8 +13,8 @@ use Rattle.turnline.specs.Lines.{still_count, numbers_text, turn_text, turn_line
 use Rattle.turnline.specs.CountLaws.{rows_most, still_count_lem}
 
 -- ---- the finish
-pub finished_line_lem : (t : ℕ) → take 128 (finished_text ++ (decimal t ++ (10 ∷ []))) ≡ finished_line t
-unfolding finished_line
+pub finished_line_lem : (t : ℕ) → take 128 (flatten (finished_text ∷ decimal t ∷ (10 ∷ []) ∷ [])) ≡ finished_line t
+unfolding finished_line flatten
 finished_line_lem t =
     let line : List ℕ = finished_text ++ (decimal t ++ (10 ∷ [])) in
     let short : length line ≤ 128 = simp length-append (omega (arith, decimal_most t)) in
@@ -25,9 +25,9 @@ finished_line_lem t =
 abbrev pub told : List ℕ → List ℕ → ℕ → ℕ → List ℕ
 told M F t j = turn_text ++ decimal t ++ numbers_text j (rows_count M F)
 
-pub told_none : (M F : List ℕ) (t : ℕ) → turn_text ++ decimal t ≡ told M F t 0
-unfolding numbers_text
-told_none M F t = sym (append-nil (turn_text ++ decimal t))
+pub told_none : (M F : List ℕ) (t : ℕ) → flatten (turn_text ∷ decimal t ∷ []) ≡ told M F t 0
+unfolding numbers_text flatten
+told_none M F t = sym (append_assoc turn_text (decimal t) [])
 
 pub told_more : (M F : List ℕ) (t j n : ℕ) → n ≡ rows_count M F j → told M F t j ++ (32 ∷ decimal n) ≡ told M F t (j + 1)
 unfolding numbers_text

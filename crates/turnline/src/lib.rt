@@ -7,6 +7,7 @@ ghost use Rattle.turnline.specs.Lines.{rows_count, turn_line, finished_line};
 
 use machine::Pair;
 use report::Line;
+use text::{append, append_byte, append_number};
 
 // How many bits of a section's rows are matched pairs: of section j, counted from 0.
 fn section_count(matched: &[u64; 64], family: &[u64; 448], j: usize) -> usize
@@ -14,6 +15,7 @@ fn section_count(matched: &[u64; 64], family: &[u64; 448], j: usize) -> usize
     ensures { result ≡ rows_count matched.now family.now j }
 {
     let mut n = 0;
+    // c is the row's place in two arrays: `zip` over a part of one of them is no plainer
     for c in 0..64 {
         n += mask::size(family[j * 64 + c] & matched[c]);
     }
@@ -24,8 +26,8 @@ fn section_count(matched: &[u64; 64], family: &[u64; 448], j: usize) -> usize
 fn append_count(line: &mut Line, n: usize)
     ensures { line.new.items ≡ take 128 (line.old.items ++ (32 ∷ decimal n)) }
 {
-    report::append(line, b" ");
-    report::append(line, &text::digits_of(n));
+    append_byte(line, b' ');
+    append_number(line, n);
 }
 
 // The line of turn t, which left this family: how many pairs are still in, section by section.
@@ -37,12 +39,12 @@ pub fn turn_line(p: Pair, t: usize, family: [u64; 448]) -> Line
     let n = abstraction.sets.min(7);
     let matched = machine::matched_masks(p);
     let mut line = Line::new();
-    report::append(&mut line, b"turn ");
-    report::append(&mut line, &text::digits_of(t));
+    append(&mut line, b"turn ");
+    append_number(&mut line, t);
     for j in 0..n {
         append_count(&mut line, section_count(&matched, &family, j));
     }
-    report::append(&mut line, b"\n");
+    append_byte(&mut line, b'\n');
     line
 }
 
@@ -51,7 +53,8 @@ pub fn finished_line(t: usize) -> Line
     ensures { result.items ≡ finished_line t }
 {
     let mut line = Line::new();
-    report::append(&mut line, b"finished ");
-    report::append_number(&mut line, t, b'\n');
+    append(&mut line, b"finished ");
+    append_number(&mut line, t);
+    append_byte(&mut line, b'\n');
     line
 }

@@ -1,9 +1,9 @@
--- The buffer, then the machine; then the text, which is at the front.
-use mathlib.Core.Path.{sym, ◌∙◌}
+-- The buffer, then the machine; then the text, which is copied to the front.
+use mathlib.Core.Path.{sym, ap, ◌∙◌}
+use lib.ListN.{length}
 use native.Mathlib.Omega.{arith}
-use Rattle.machine.specs.WellFormedLaws.{valid_machine}
 use Rattle.machine.proofs.Passing.{passed_on}
-use Rattle.hanoi.proofs.CallLaws.{text_short, text_stopped, text_placed}
+use Rattle.hanoi.proofs.CallLaws.{text_short, text_stopped, text_copied}
 use Rattle.hanoi.proofs.write_text.Goals as goal
 
 pub returns-then-out-lt-TEXT_ROOM : goal.returns-then-out-lt-TEXT_ROOM
@@ -21,6 +21,8 @@ returns-in_err-machine_validity c =
 pub returns : goal.returns
 returns c =
     let x = c.args in
-    let valid = sym c.machine_validity.ensures ∙ c.in_ok-machine_validity.was in
-    let both = text_placed x.m x.out.now (omega (arith, c.if-out-lt-TEXT_ROOM.false)) valid (valid_machine 8 x.m (omega arith) valid) c.put_text.ensures in
+    let text = c.append_text.ensures in
+    let both =
+    text_copied x.m x.out.now (omega (arith, c.if-out-lt-TEXT_ROOM.false)) (sym c.machine_validity.ensures ∙ c.in_ok-machine_validity.was)
+    (c.len-n.ensures.value ∙ ap length text) (c.copy_from_slice.ensures.after ∙ c.deref.ensures.0 ∙ text) in
     record { answer = both.0; content = both.1 }

@@ -1,16 +1,12 @@
--- A digit is at least 48, so nothing wraps; the smaller of 255 and the wide number is the definition's.
+-- The smaller of 255 and the number with one digit more, one operation after the other.
 use native.Mathlib.Omega.{arith}
 use Rattle.playline.specs.Lasso.{grown}
 use Rattle.playline.specs.LassoLaws.{digit_least}
 use Rattle.playline.proofs.grown.Goals as goal
 
-pub overflow_sub-wide : goal.overflow_sub-wide
-overflow_sub-wide c = digit_least _ c.requires
+pub overflow_sub-b : goal.overflow_sub-b
+overflow_sub-b c = digit_least _ c.requires
 
-pub returns-then-wide-gt255 : goal.returns-then-wide-gt255
+pub returns : goal.returns
 unfolding grown
-returns-then-wide-gt255 c = omega arith
-
-pub returns-else-wide-gt255 : goal.returns-else-wide-gt255
-unfolding grown
-returns-else-wide-gt255 c = omega arith
+returns c = omega (arith, c.saturating_mul.ensures, c.saturating_add.ensures)

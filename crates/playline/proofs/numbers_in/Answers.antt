@@ -1,41 +1,37 @@
 -- The invariant: the numbers that were read and those of what is left are the text's.
-use mathlib.Core.Path.{refl, sym, ◌∙◌}
+use mathlib.Core.Path.{sym, ap, ◌∙◌}
+use Prim.Native.Nat.{ℕ, ◌+◌}
 use native.Mathlib.Omega.{arith}
-use borrow.Author.Rules.{rules}
-use Rattle.playline.specs.LassoLaws.{read_as, read_none, read_digit, read_blank, read_end, read_last, read_all}
+use lib.ListN.{get_or}
+use Rattle.playline.specs.Lasso.{grown}
+use Rattle.playline.specs.LassoLaws.{Read, digit_told, read_as, read_none, read_digit, read_blank, read_end, read_last, read_all}
 use Rattle.playline.proofs.numbers_in.Goals as goal
-use Rattle.playline.proofs.numbers_in.Goals.{else-is_digit+else-inside, else-is_digit+then-inside, then-is_digit}
+use Rattle.playline.proofs.numbers_in.Goals.{then-is_ascii_digit, else-is_ascii_digit+in-Some, else-is_ascii_digit+in_default}
 
-pub loop-i-init : goal.loop-i-init
-loop-i-init c = (search rules, read_none _ _ refl)
+pub loop-b-init : goal.loop-b-init
+loop-b-init c = read_none _ c.new-list.ensures
 
-pub grown-n-requires : goal.grown-n-requires
-grown-n-requires c = sym c.is_digit.ensures ∙ c.if-is_digit.true
+pub grown-requires : goal.grown-requires
+grown-requires c = sym (digit_told _ _ c.is_ascii_digit.ensures.cases) ∙ c.if-is_ascii_digit.true
 
-pub pushed-list-requires : goal.pushed-list-requires
-pushed-list-requires c = c.loop-i.invariant.1.count
+pub loop-b-preserved : goal.loop-b-preserved
+loop-b-preserved c =
+    let l = c.loop-b in
+    let digit = sym (digit_told _ _ c.is_ascii_digit.ensures.cases) in
+    let read : Read c.args.text.now c.if-is_ascii_digit.list.items c.if-is_ascii_digit.begun (l.b-index + 1) = elim c.if-is_ascii_digit.branch [
+      | then-is_ascii_digit w ↦
+          read_as w.list-is w.begun-is
+          (read_digit l.invariant w.grown.result c.loop-b-test.true (digit ∙ w.if-is_ascii_digit.true)
+          (w.grown.ensures ∙ ap (λ (n : ℕ). grown n (get_or c.args.text.now l.b-index 0)) w.unwrap_or.ensures))
+      | else-is_ascii_digit+in-Some w ↦
+          read_as w.list-is w.begun-is (read_end l.invariant w.in-Some.is w.append_byte.ensures c.loop-b-test.true (digit ∙ w.if-is_ascii_digit.false))
+      | else-is_ascii_digit+in_default w ↦
+          read_as w.list-is (w.begun-is ∙ w.in_default.is) (read_blank l.invariant w.in_default.is c.loop-b-test.true (digit ∙ w.if-is_ascii_digit.false))
+    ] in
+    read
 
-pub loop-i-preserved : goal.loop-i-preserved
-loop-i-preserved c =
-    let l = c.loop-i in
-    let digit = c.is_digit in (
-      search rules,
-      elim c.if-is_digit.branch [
-        | then-is_digit w ↦ read_as w.list-is w.inside-is (w.n-is ∙ w.grown-n.ensures) (read_digit l.invariant.1 (omega arith) (sym digit.ensures ∙ w.if-is_digit.true))
-        | else-is_digit+then-inside w ↦ read_as w.list-is w.inside-is w.n-is (read_end l.invariant.1 _ w.pushed-list.ensures.0 w.pushed-list.ensures.1 w.if-inside.true (omega arith) (sym digit.ensures ∙ w.if-is_digit.false))
-        | else-is_digit+else-inside w ↦ read_as w.list-is w.inside-is w.n-is (read_blank l.invariant.1 w.if-inside.false (omega arith) (sym digit.ensures ∙ w.if-is_digit.false))
-      ],
-    )
+pub returns-in-Some-begun : goal.returns-in-Some-begun
+returns-in-Some-begun c = read_last c.loop-b.invariant c.in-Some-begun.is c.append_byte-in-Some-begun.ensures (omega (arith, c.loop-b-test.false))
 
-pub pushed-requires : goal.pushed-requires
-pushed-requires c = c.loop-i.invariant.1.count
-
-pub returns-then-inside-2 : goal.returns-then-inside-2
-returns-then-inside-2 c =
-    let l = c.loop-i in
-    (c.pushed.ensures.0, read_last l.invariant.1 _ c.pushed.ensures.1 c.if-inside-2.true (omega arith))
-
-pub returns-else-inside-2 : goal.returns-else-inside-2
-returns-else-inside-2 c =
-    let l = c.loop-i in
-    (l.invariant.1.count, read_all l.invariant.1 c.if-inside-2.false (omega arith))
+pub returns-in_default-begun : goal.returns-in_default-begun
+returns-in_default-begun c = read_all c.loop-b.invariant c.in_default-begun.is (omega (arith, c.loop-b-test.false))

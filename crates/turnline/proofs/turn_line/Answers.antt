@@ -3,9 +3,9 @@ use Prim.Native.Nat.{ℕ, ◌^◌, ◌<◌}
 use lib.ListN.{get_or}
 use mir.Val.{Fits}
 use mir.Syntax.{w64}
-use Rattle.std.proofs.Common.{List, [], ◌∷◌, ◌++◌, take, ap, arith, rules, ◌∙◌}
+use Rattle.std.proofs.Common.{[], ◌∷◌, take, ap, arith, rules, ◌∙◌}
 use Rattle.text.specs.Decimal.{decimal}
-use Rattle.report.specs.LineLaws.{behind}
+use Rattle.text.specs.AppendLaws.{behind, appended_new, last, next}
 use Rattle.turnline.specs.Lines.{turn_text}
 use Rattle.turnline.specs.LinesLaws.{told, told_none, told_more, turn_line_lem}
 use Rattle.turnline.proofs.turn_line.Goals as goal
@@ -14,14 +14,8 @@ use Rattle.turnline.proofs.turn_line.Goals.{Start}
 pub loop-j-init : goal.loop-j-init
 loop-j-init c =
     let x = c.args in
-    let word = behind [] turn_text c.new-line.ensures c.append.ensures in
-    let number = behind turn_text c.deref.result.now word c.append-2.ensures in (
-      search rules,
-      (
-        omega (arith, c.min-n.ensures),
-        number ∙ ap (λ (d : List ℕ). take 128 (turn_text ++ d)) (c.deref.ensures.0 ∙ c.digits_of.ensures) ∙ ap (take 128) (told_none c.matched_masks-matched.result x.family x.t),
-      ),
-    )
+    let line = appended_new 128 (turn_text ∷ decimal x.t ∷ []) c.new-line.ensures (next c.append.ensures (last c.append_number.ensures)) in
+    (search rules, (omega (arith, c.min-n.ensures), line ∙ ap (take 128) (told_none c.matched_masks-matched.result x.family x.t)))
 
 pub section_count-requires : goal.section_count-requires
 section_count-requires c = omega (arith, c.loop-j.invariant.1.0)
@@ -34,7 +28,7 @@ loop-j-preserved c =
       search rules,
       (
         l.invariant.1.0,
-        behind (told M x.family x.t l.j) (32 ∷ decimal c.section_count.result) l.invariant.1.1 c.append_count.ensures
+        behind 128 (told M x.family x.t l.j) (32 ∷ decimal c.section_count.result) l.invariant.1.1 c.append_count.ensures
             ∙ ap (take 128) (told_more M x.family x.t l.j c.section_count.result c.section_count.ensures),
       ),
     )
@@ -48,5 +42,5 @@ returns c =
     let x = c.args in
     let l = c.loop-j in
     let M = c.matched_masks-matched.result in
-    behind (told M x.family x.t l.j) (10 ∷ []) l.invariant.1.1 c.append-3.ensures
+    behind 128 (told M x.family x.t l.j) (10 ∷ []) l.invariant.1.1 c.append_byte.ensures
     ∙ turn_line_lem x.p x.family x.t c.matched_masks-matched.ensures (omega (arith, c.min-n.ensures)) (small (goal.at.returns c).Start)
