@@ -1,5 +1,5 @@
 -- Laws of a scan of all states that keeps the best one so far, and of the player's places.
-use Rattle.std.specs.Prelude.{Bool, false, true, List, ◌≡◌, refl, eqb, get_or, length, Err, None, Ok, Option, Some, is_some, unwrap_or, ℕ}
+use Rattle.std.specs.Prelude.{Bool, false, true, List, ◌≡◌, refl, eqb, length, Err, None, Ok, Option, Some, is_some, unwrap_or, ℕ}
 use Rattle.std.proofs.Math.Logic.{by_cases}
 use Rattle.std.proofs.Common.{⊎_elim, ◌∙◌, sym, eq-eqb, eqb-true, le-ltb, lt-ltb, ne_eqb}
 use Prim.Native.Nat.{◌*◌, ◌+◌, ◌-◌, ◌<◌, ◌≤◌, suc, zero, ℕ}
@@ -15,13 +15,13 @@ use Rattle.std.specs.Option.{ok_or, option_eq}
 use Rattle.machine.specs.Lassos.{Lasso, moment}
 use Rattle.machine.specs.Lines.{non_blank}
 use Rattle.machine.specs.LinesLaws.{covers_at}
-use Rattle.machine.specs.Machines.{moves, n_a, n_c, sets_a, successors}
+use Rattle.machine.specs.Machines.{moves, sets_a, successors}
 use Rattle.machine.specs.PartnerLaws.{better_in, better_out, least_miss, least_step, limit_of, partner_view}
 use Rattle.machine.specs.Player.{Place, earlier_round, follow, last_round, loop_length, loop_start, place_at, play_validity, same_place, section_after, start_partner, stem_length, step_to, play_answer}
 use Rattle.machine.specs.Refusals.{valid}
 use Rattle.machine.specs.RefusalsLaws.{then_of, then_refused}
 use Rattle.machine.specs.Step.{least, partner, present_of, staying, single_step, state_of}
-use Rattle.machine.specs.Table.{blank, covers, entry, entry_index}
+use Rattle.machine.specs.Table.{blank, covers, entry}
 use Rattle.machine.specs.PlayerLaws.{section_lt}
 use Rattle.machine.specs.declared.Pair.{Pair}
 use Rattle.machine.specs.declared.Refusal.{Refusal}
@@ -70,13 +70,9 @@ unfolding staying
 keyed present entries a e key h k = k ∙ rw h
 
 -- what is not blank is below it
-module _ (p : Pair) (T : List ℕ) (small : (i : ℕ) → get_or T i 0 ≤ blank) where
-  pub entry_below : (j c a : ℕ) → covers p T j c a ≡ true → entry p T j c a < blank
-  unfolding entry
-  entry_below j c a t = let h = covers_at p T j c a t in let s = small (entry_index (n_c p) (n_a p) j c a) in lower _ s h
-    where
-      lower : (e : ℕ) → e ≤ blank → (e ≡ blank → ⊥) → e < blank
-      lower e s h = by_cases (dec_lt e blank) (λ l. l) (λ l. absurd (h (omega arith)))
+pub entry_below : (p : Pair) (T : List ℕ) (j c a : ℕ) → entry p T j c a ≤ blank → covers p T j c a ≡ true → entry p T j c a < blank
+entry_below p T j c a s t =
+    by_cases (dec_lt (entry p T j c a) blank) (λ l. l) (λ l. absurd (covers_at p T j c a t (omega arith)))
 
 -- ---- places stay within the abstract machine's 64 states and its sections
 pub state_small : (moves : ℕ) (S : ℕ → Bool) (key : ℕ → ℕ) → state_of (partner moves S key) < 64

@@ -1,31 +1,30 @@
 // Families of sets of pairs, as the solver by turns takes them: 448 masks, row j x 64 + c for section j and concrete state c. Any content is one.
-ghost use Rattle.std.specs.Prelude.{true, ◌≡◌, ◌<◌};
+ghost use Rattle.std.specs.Prelude.{◌≡◌, ◌<◌};
 ghost use Rattle.mask.specs.Bits.{has_bit};
 ghost use Rattle.mask.specs.Bounded.{every};
 ghost use Rattle.mask.specs.Logic.{not, or};
-ghost use Rattle.machine.specs.WellFormed.{well_formed};
 ghost use Rattle.machine.specs.Table.{entries};
 ghost use Rattle.brute.specs.Families.{is_pair, holds_pairs, family_entry, family_table, row_number, numbered_family};
 
 use crate::machines::{is_matched, validity};
 use crate::numbers::digit;
-use machine::Pair;
+use machine::{Formed, Pair};
 use std::array;
 
 // ---- The table that covers what a family holds
 
 // Entry number e: 0 for a matched pair whose bit is set, and else blank.
-fn family_entry(p: &Pair, family: &[u64; 448], e: usize) -> u16
-    requires { (well_formed p.now ≡ true) × (e < entries p.now) }
-    ensures { result ≡ family_entry p.now family.now e }
+fn family_entry(p: Formed, family: &[u64; 448], e: usize) -> u16
+    requires { e < entries p.pair.now }
+    ensures { result ≡ family_entry p.entry.pair.now family.now e }
 {
-    let concrete = &p.concrete;
-    let abstraction = &p.abstraction;
+    let concrete = &p.pair.concrete;
+    let abstraction = &p.pair.abstraction;
     let pairs = concrete.states * abstraction.states;
     let j = e / pairs;
     let c = e % pairs / abstraction.states;
     let a = e % abstraction.states;
-    if is_matched(p, c, a) && mask::has(family[j * 64 + c], a) {
+    if is_matched(p.pair, c, a) && mask::has(family[j * 64 + c], a) {
         0
     } else {
         machine::BLANK
@@ -42,8 +41,9 @@ pub fn put_family(p: Pair, family: &[u64; 448], table: &mut [u16])
         return;
     }
     let entries = abstraction.sets * (concrete.states * abstraction.states);
+    let formed = Formed { pair: &p };
     for (e, entry) in table[..entries].iter_mut().enumerate() {
-        *entry = family_entry(&p, family, e);
+        *entry = family_entry(formed, family, e);
     }
 }
 

@@ -8,11 +8,11 @@ use Rattle.brute.specs.LiftingLaws.{Located, located}
 use Rattle.brute.proofs.families.family_entry.Goals as goal
 use Rattle.brute.proofs.families.family_entry.Goals.{Start}
 
-well : (c : Start) → WellPair c.args.p.now
-well c = well_pair c.args.p.now c.requires.0
+well : (c : Start) → WellPair c.args.p.pair.now
+well c = well_pair c.args.p.pair.now c.args.p.well
 
-place : (c : Start) → Located c.args.p.now c.args.e
-place c = located c.args.p.now (well c) c.args.e c.requires.1
+place : (c : Start) → Located c.args.p.pair.now c.args.e
+place c = located c.args.p.pair.now (well c) c.args.e c.requires
 
 pub overflow_mul-pairs : goal.overflow_mul-pairs
 overflow_mul-pairs c = omega (arith, pairs_small _ (well (goal.at.overflow_mul-pairs c).Start))

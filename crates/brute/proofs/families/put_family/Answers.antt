@@ -41,7 +41,7 @@ pub overflow_mul-entries-2 : goal.overflow_mul-entries-2
 overflow_mul-entries-2 c = omega (arith, entries_small _ (well c))
 
 pub slice_bounds-entry-items-end : goal.slice_bounds-entry-items-end
-slice_bounds-entry-items-end c = room c
+slice_bounds-entry-items-end c = room (goal.at.slice_bounds-entry-items-end c).Else-is_err
 
 pub slice_bounds-entry-items-end-2 : goal.slice_bounds-entry-items-end-2
 slice_bounds-entry-items-end-2 c = sym (length-take-le _ _ (room (goal.at.slice_bounds-entry-items-end-2 c).Else-is_err))
@@ -49,11 +49,14 @@ slice_bounds-entry-items-end-2 c = sym (length-take-le _ _ (room (goal.at.slice_
 pub loop-e-init : goal.loop-e-init
 loop-e-init c = front_none _ _
 
+pub invariant_of-formed : goal.invariant_of-formed
+invariant_of-formed c = record { well = valid_is_well _ (formed (goal.at.invariant_of-formed c).Else-is_err) }
+
 pub family_entry-requires : goal.family_entry-requires
 family_entry-requires c =
     let at = (goal.at.family_entry-requires c).Else-is_err in
     let n : length (take (entries c.args.p) c.args.table.now) ≡ entries c.args.p = length-take-le _ _ (room at) in
-    (valid_is_well _ (formed at), rw (← n) c.loop-e-test.true)
+    rw (← n) c.loop-e-test.true
 
 pub loop-e-preserved : goal.loop-e-preserved
 loop-e-preserved c = front_turn _ _ c.loop-e.invariant c.loop-e-test.true c.family_entry.ensures

@@ -65,8 +65,11 @@ overflow_mul-end-2 c = omega (arith, turns_small _ (well (goal.at.overflow_mul-e
 pub loop-init : goal.loop-init
 loop-init c = (search rules, refl, rw sub-zero)
 
-pub lines-requires : goal.lines-requires
-lines-requires c = valid_is_well _ (formed (goal.at.lines-requires c).Else-is_err)
+pub invariant_of-formed : goal.invariant_of-formed
+invariant_of-formed c = record { well = valid_is_well _ (formed (goal.at.invariant_of-formed c).Else-is_err) }
+
+pub invariant_of-tabled : goal.invariant_of-tabled
+invariant_of-tabled c = record { well = valid_is_well _ (formed (goal.at.invariant_of-tabled c).Else-is_err) }
 
 pub returns-then-is_ok : goal.returns-then-is_ok
 returns-then-is_ok c =
@@ -75,7 +78,7 @@ returns-then-is_ok c =
 pub sweep-requires : goal.sweep-requires
 sweep-requires c =
     let w = (goal.at.sweep-requires c).Else-is_err in
-    (valid_is_well _ (formed w), omega (arith, entries_small _ (well w), room w, same (goal.at.sweep-requires c).At-loop))
+    omega (arith, entries_small _ (well w), room w, same (goal.at.sweep-requires c).At-loop)
 
 pub loop-preserved : goal.loop-preserved
 loop-preserved c =

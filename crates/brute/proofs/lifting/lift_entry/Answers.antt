@@ -6,11 +6,11 @@ use Rattle.brute.specs.LiftingLaws.{Located, lifted_failing, lifted_passing, loc
 use Rattle.brute.proofs.lifting.lift_entry.Goals as goal
 use Rattle.brute.proofs.lifting.lift_entry.Goals.{Start}
 
-well : (c : Start) → WellPair c.args.p.now
-well c = well_pair c.args.p.now c.requires.0
+well : (c : Start) → WellPair c.args.p.pair.now
+well c = well_pair c.args.p.pair.now c.args.p.well
 
-place : (c : Start) → Located c.args.p.now c.args.e
-place c = located c.args.p.now (well c) c.args.e c.requires.1.0
+place : (c : Start) → Located c.args.p.pair.now c.args.e
+place c = located c.args.p.pair.now (well c) c.args.e c.requires.0
 
 pub overflow_mul-pairs : goal.overflow_mul-pairs
 overflow_mul-pairs c = omega (arith, pairs_small _ (well (goal.at.overflow_mul-pairs c).Start))
@@ -19,7 +19,7 @@ pub entry_passes-requires : goal.entry_passes-requires
 entry_passes-requires c =
     let w = well (goal.at.entry_passes-requires c).Start in
     let q = place (goal.at.entry_passes-requires c).Start in
-    (c.requires.0, (q.in_section, (omega (arith, q.in_row_lem, w.concrete.states_high), omega (arith, q.in_column, w.abstraction.states_high))))
+    (q.in_section, (omega (arith, q.in_row_lem, w.concrete.states_high), omega (arith, q.in_column, w.abstraction.states_high)))
 
 pub overflow_mul-concrete : goal.overflow_mul-concrete
 overflow_mul-concrete c = omega (arith, ranks_small _ (well (goal.at.overflow_mul-concrete c).Start))
@@ -30,9 +30,9 @@ raise-requires c = ranks_small _ (well (goal.at.raise-requires c).Start)
 pub returns-then-not-entry_passes : goal.returns-then-not-entry_passes
 returns-then-not-entry_passes c =
     let x = c.args in
-    lifted_failing x.p.now x.e x.table.now (sym c.entry_passes.ensures ∙ c.if-not-entry_passes.true) c.raise.ensures
+    lifted_failing x.p.pair.now x.e x.table.now (sym c.entry_passes.ensures ∙ c.if-not-entry_passes.true) c.raise.ensures
 
 pub returns-else-not-entry_passes : goal.returns-else-not-entry_passes
 returns-else-not-entry_passes c =
     let x = c.args in
-    lifted_passing x.p.now x.e x.table.now (sym c.entry_passes.ensures ∙ c.if-not-entry_passes.false)
+    lifted_passing x.p.pair.now x.e x.table.now (sym c.entry_passes.ensures ∙ c.if-not-entry_passes.false)

@@ -62,8 +62,8 @@ returns-in_err-validity c =
     let l = lent x.lasso in
     passed_on c.from_residual.ensures ∙ sym (played_refused x.p x.table.now l _ (play_ill x.p x.table.now l _ (sym c.validity.ensures ∙ c.in_err-validity.was)))
 
-pub lines-requires : goal.lines-requires
-lines-requires c = valid_is_well _ (formed (goal.at.lines-requires c).In_ok-validity)
+pub invariant_of-tabled : goal.invariant_of-tabled
+invariant_of-tabled c = record { well = valid_is_well _ (formed (goal.at.invariant_of-tabled c).In_ok-validity) }
 
 pub returns-in_err-lines : goal.returns-in_err-lines
 returns-in_err-lines c =
@@ -81,7 +81,7 @@ returns-in_err-fits c =
     ∙ sym (played_refused x.p x.table.now l _ (play_unfit x.p x.table.now l (formed at.In_ok-validity) (passed at.In_ok-lines) _ (sym c.fits.ensures ∙ c.in_err-fits.was)))
 
 pub least_partner-requires : goal.least_partner-requires
-least_partner-requires c = (valid_is_well _ (formed (goal.at.least_partner-requires c).In_ok-validity), omega (arith, c.moment_at-first.type_inv))
+least_partner-requires c = omega (arith, c.moment_at-first.type_inv)
 
 pub returns-in_err-ok_or : goal.returns-in_err-ok_or
 returns-in_err-ok_or c =
@@ -92,13 +92,12 @@ returns-in_err-ok_or c =
     passed_on c.from_residual-in_err-ok_or.ensures ∙ ap Err (sym none.1)
     ∙ sym (played_refused x.p x.table.now l _ (play_alone x.p x.table.now l (formed at.In_ok-validity) (passed at.In_ok-lines) (fits at.In_ok-fits) (sym (start at.After-least_partner) ∙ none.0)))
 
-pub last_round-requires : goal.last_round-requires
-last_round-requires c = (valid_is_well _ (formed (goal.at.last_round-requires c).In_ok-validity), (lasso_length_lem _ _ (fits (goal.at.last_round-requires c).In_ok-fits)).1)
+pub invariant_of-rounds : goal.invariant_of-rounds
+invariant_of-rounds c = record { is_short = (lasso_length_lem _ _ (fits (goal.at.invariant_of-rounds c).In_ok-fits)).1 }
 
 pub earlier_round-requires : goal.earlier_round-requires
 earlier_round-requires c =
-    let at = goal.at.earlier_round-requires c in
-    (valid_is_well _ (formed at.In_ok-validity), ((lasso_length_lem _ _ (fits at.In_ok-fits)).1, late at.After-unwrap_or-y))
+    late (goal.at.earlier_round-requires c).After-unwrap_or-y
 
 pub overflow_mul-result : goal.overflow_mul-result
 overflow_mul-result c = omega (arith, room (goal.at.overflow_mul-result c).After-unwrap_or-x)

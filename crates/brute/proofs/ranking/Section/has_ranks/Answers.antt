@@ -1,0 +1,28 @@
+use Rattle.std.proofs.Common.{arith, rules, tests}
+use Rattle.std.proofs.lemmas.Iterator.{serves_from_Range}
+use Rattle.mask.proofs.RangeLaws.{all_range}
+use Rattle.machine.specs.WellFormedLaws.{pairs_small, well_pair}
+use Rattle.machine.specs.Table.{blank}
+use Rattle.brute.specs.Ranking.{section_ranked}
+use Rattle.std.proofs.Math.ListN.{length-replicate}
+use Rattle.machine.specs.WellFormedLaws.{section_fits}
+use Rattle.brute.specs.Ranking.{pair_room}
+use Rattle.brute.proofs.ranking.Section.has_ranks.Goals as goal
+
+pub overflow_mul-pairs : goal.overflow_mul-pairs
+overflow_mul-pairs c = omega (arith, pairs_small _ (well_pair c.args.self.now.lifted.pair.now c.args.self.now.lifted.well))
+
+pub rank_pairs-requires : goal.rank_pairs-requires
+rank_pairs-requires c =
+    rw (length-replicate pair_room blank) (pairs_small _ (well_pair c.args.self.now.lifted.pair.now c.args.self.now.lifted.well))
+
+pub all-requires-clause-callable : goal.all-requires-clause-callable
+all-requires-clause-callable c =
+    let x = c.args in
+    let w = well_pair x.self.now.lifted.pair.now x.self.now.lifted.well in
+    serves_from_Range (λ x q h. search rules) (λ x a b. search (rules, section_fits c.args.self.now.lifted.pair.now w c.args.self.now.j c.args.self.now.in_range))
+
+pub returns : goal.returns
+unfolding section_ranked
+returns c =
+    rw (← c.rank_pairs.ensures) (all_range c.all.ensures.ran (search (rules, tests)))

@@ -1,0 +1,49 @@
+-- The invariant: the pairs of the first i sets have their ranks.
+use mathlib.Core.Path.{◌∙◌, ◌≡◌, refl}
+use Prim.Native.Nat.{◌*◌, ℕ}
+use native.Mathlib.Omega.{arith}
+use lib.ListN.{length-replicate}
+use borrow.Author.Rules.{rules}
+use Rattle.machine.specs.Machines.{pairs, sets_c}
+use Rattle.machine.specs.WellFormedLaws.{WellPair, pairs_small, ranks_small, well_pair}
+use Rattle.brute.specs.Ranking.{pair_room}
+use Rattle.brute.specs.RankingLaws.{ranked_start, ranked_step}
+use Rattle.brute.proofs.ranking.Section.rank_pairs.Goals as goal
+use Rattle.brute.proofs.ranking.Section.rank_pairs.Goals.{Start}
+
+well : (c : Start) → WellPair c.args.self.now.lifted.pair.now
+well c = well_pair c.args.self.now.lifted.pair.now c.args.self.now.lifted.well
+
+pub overflow_mul-pairs : goal.overflow_mul-pairs
+overflow_mul-pairs c = omega (arith, pairs_small _ (well (goal.at.overflow_mul-pairs c).Start))
+
+pub overflow_mul-i-end : goal.overflow_mul-i-end
+overflow_mul-i-end c = omega (arith, ranks_small _ (well (goal.at.overflow_mul-i-end c).Start))
+
+pub loop-i-init : goal.loop-i-init
+loop-i-init c = let x = c.args in (search rules, refl, ranked_start x.self.now.lifted.pair.now x.self.now.lifted.table.now x.self.now.j x.ranks.now)
+
+pub put_largest-requires : goal.put_largest-requires
+put_largest-requires c =
+    let s = (goal.at.put_largest-requires c).Start in
+    (c.loop-i-test.true, rw (length-replicate {A = ℕ} pair_room 0) (pairs_small _ (well s)))
+
+pub overflow_add-i : goal.overflow_add-i
+overflow_add-i c = omega (arith, ranks_small _ (well (goal.at.overflow_add-i c).Start))
+
+pub overflow_cast-i : goal.overflow_cast-i
+overflow_cast-i c = omega (arith, ranks_small _ (well (goal.at.overflow_cast-i c).Start))
+
+pub loop-i-preserved : goal.loop-i-preserved
+loop-i-preserved c =
+    let x = c.args in
+    let l = c.loop-i in (
+      search rules,
+      c.mark.auto.ranks ∙ l.invariant.1,
+      ranked_step x.self.now.lifted.pair.now x.self.now.lifted.table.now x.self.now.j x.ranks.now l.i l.invariant.2 c.put_largest.ensures c.mark.ensures,
+    )
+
+pub returns : goal.returns
+returns c =
+    let p = c.args.self.now.lifted.pair.now in
+    let e : c.loop-i.i ≡ sets_c p * pairs p = omega arith in rw (← e) c.loop-i.invariant.2
