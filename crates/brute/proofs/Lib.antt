@@ -1,1 +1,2 @@
 pub mod MadeLaws
+pub mod WellLaws

@@ -1,5 +1,5 @@
 -- Laws of a scan of all states that keeps the best one so far, and of the player's places.
-use Rattle.std.specs.Prelude.{Bool, false, true, List, ◌≡◌, refl, eqb, length, Err, None, Ok, Option, Some, is_some, unwrap_or, ℕ}
+use Rattle.std.specs.Prelude.{Bool, false, true, cond, not, List, ◌≡◌, refl, eqb, length, Err, None, Ok, Option, Some, is_some, unwrap_or, ℕ}
 use Rattle.std.proofs.Math.Logic.{by_cases}
 use Rattle.std.proofs.Common.{⊎_elim, ◌∙◌, sym, eq-eqb, eqb-true, le-ltb, lt-ltb, ne_eqb}
 use Prim.Native.Nat.{◌*◌, ◌+◌, ◌-◌, ◌<◌, ◌≤◌, suc, zero, ℕ}
@@ -7,6 +7,7 @@ use Rattle.std.proofs.Math.Decide.{dec_lt}
 use Rattle.std.proofs.Math.Nat.{le_of_lt}
 use Rattle.std.proofs.Math.Numerals.{add-one}
 use native.Mathlib.Omega.{arith}
+use mir.Val.{bool_byte}
 use Rattle.mask.specs.Bounded.{below, first, some}
 use Rattle.mask.specs.BoundedLaws.{first_before, first_has, is_below, some_none, some_of}
 use Rattle.mask.specs.Logic.{and}
@@ -63,6 +64,15 @@ pub present_told : (o : Option ℕ) (a : ℕ) → a < 64 → option_eq eqb o (So
 unfolding present_of
 present_told (Some b) a h = both _ _ (λ t. eq-eqb a b (sym (eqb-true b a t))) (λ t. eq-eqb b a (sym (eqb-true a b t)))
 present_told None a h = sym (ne_eqb a 64 (λ e. omega arith))
+
+-- the key from whether a state is another than the present one
+pub key_told : (o : Option ℕ) (a e : ℕ) (b : Bool) → a < 64 → b ≡ not (option_eq eqb o (Some a)) → 2 * e + bool_byte b ≡ staying (present_of o) (λ _. e) a
+unfolding staying
+key_told o a e b h t = rw (t, present_told o a h) (go (eqb a (present_of o)))
+  where
+    go : (c : Bool) → 2 * e + bool_byte (not c) ≡ 2 * e + cond c 0 1
+    go true = refl
+    go false = refl
 
 -- the key of a state from its entry
 pub keyed : (present : ℕ) (entries : ℕ → ℕ) (a e key : ℕ) → e ≡ entries a → key ≡ staying present (λ _. e) a → key ≡ staying present entries a

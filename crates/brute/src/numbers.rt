@@ -27,7 +27,7 @@ pub fn digit(x: u64, top: u32, i: usize) -> u64
     rest % base
 }
 
-// Digit i of x where a test holds, and else 0.
+// Digit i of x where a test holds, and else 0. `b.then(|| digit(x, top, i)).unwrap_or(0)` says the same in more words.
 fn digit_if(b: bool, x: u64, top: u32, i: usize) -> u64
     ensures { result ≡ cond b (digit_of top x i) 0 }
 {
@@ -38,7 +38,7 @@ fn digit_if(b: bool, x: u64, top: u32, i: usize) -> u64
 fn observation_of(ones: u64, twos: u64, s: usize) -> u8
     ensures { result ≡ cond (has_bit ones s) 1 0 + cond (has_bit twos s) 2 0 }
 {
-    mask::has(ones, s) as u8 + 2 * mask::has(twos, s) as u8
+    u8::from(mask::has(ones, s)) + 2 * u8::from(mask::has(twos, s))
 }
 
 // Machine number x of a shape: digit 0 is its start mask, digit 1 has the states of an odd observation, then come the successor masks, then

@@ -1,5 +1,5 @@
 // The plain reading of document 01's "Player", with the single step of document 02, No. 10.
-ghost use Rattle.std.specs.Prelude.{true, ◌≡◌, ◌<◌, ◌≤◌, eqb, get_or};
+ghost use Rattle.std.specs.Prelude.{true, ◌≡◌, ◌+◌, ◌*◌, ◌<◌, ◌≤◌, eqb, get_or, length};
 ghost use Rattle.machine.specs.Lassos.{lasso_length};
 ghost use Rattle.mask.specs.Bounded.{every, some, first, below};
 ghost use Rattle.mask.specs.Logic.{and};
@@ -29,8 +29,7 @@ fn staying_key(present: Option<usize>, a: usize, e: u16) -> u32
     requires { a < 64 }
     ensures { result ≡ staying (present_of present) (λ _. e) a }
 {
-    let twice = 2 * e as u32;
-    if present == Some(a) { twice } else { twice + 1 }
+    2 * u32::from(e) + u32::from(present != Some(a))
 }
 
 impl<'a> Tabled<'a> {
@@ -111,20 +110,22 @@ struct Rounds<'a> {
 }
 
 impl<'a> Rounds<'a> {
+    // The place at the loop's start after x rounds.
+    fn place_after(&self, x: usize) -> Spot
+        requires { x ≤ 449 }
+        ensures { as_place result ≡ place_at self.now.tabled.pair.now self.now.tabled.table.now (lent self.now.lasso) (length self.now.lasso.stem.now + x * length self.now.lasso.cycle.now) }
+    {
+        let lasso = &self.lasso;
+        self.tabled
+            .place_at(lasso, lasso.stem.len() + x * lasso.cycle.len())
+    }
+
     // Whether a and j are the same at the loop starts after x and after y rounds.
     fn same_place(&self, x: usize, y: usize) -> bool
         requires { (x ≤ 449) × (y ≤ 449) }
         ensures { result ≡ same_place self.now.tabled.pair.now self.now.tabled.table.now (lent self.now.lasso) x y }
     {
-        let u = self.tabled.place_at(
-            &self.lasso,
-            self.lasso.stem.len() + x * self.lasso.cycle.len(),
-        );
-        let v = self.tabled.place_at(
-            &self.lasso,
-            self.lasso.stem.len() + y * self.lasso.cycle.len(),
-        );
-        u == v
+        self.place_after(x) == self.place_after(y)
     }
 
     // The first round before round y with the same place.

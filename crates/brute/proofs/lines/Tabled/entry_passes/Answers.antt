@@ -2,16 +2,13 @@
 use mathlib.Core.Path.{◌∙◌, sym}
 use native.Mathlib.Omega.{arith}
 use Rattle.machine.specs.LinesLaws.{blank_passes}
-use Rattle.machine.specs.WellFormedLaws.{WellPair, pairs_small, ranks_small, well_pair}
+use Rattle.machine.specs.WellFormedLaws.{pairs_small, ranks_small}
 use Rattle.brute.specs.TargetLaws.{pass_above, pass_goal, pass_rank, pass_unmatched}
+use Rattle.brute.proofs.WellLaws.{well_of}
 use Rattle.brute.proofs.lines.Tabled.entry_passes.Goals as goal
-use Rattle.brute.proofs.lines.Tabled.entry_passes.Goals.{Start}
-
-well : (c : Start) → WellPair c.args.self.now.pair.now
-well c = well_pair c.args.self.now.pair.now c.args.self.now.well
 
 pub entry_at-e-requires : goal.entry_at-e-requires
-entry_at-e-requires c = let w = well (goal.at.entry_at-e-requires c).Start in omega (arith, w.abstraction.sets_high)
+entry_at-e-requires c = let w = well_of c.args.self.now in omega (arith, w.abstraction.sets_high)
 
 pub returns-then-e : goal.returns-then-e
 returns-then-e c =
@@ -24,10 +21,10 @@ returns-then-not-is_matched c =
     sym (pass_unmatched x.self.now.pair.now x.self.now.table.now x.j x.c x.a (λ e. c.if-e.false (c.entry_at-e.ensures ∙ e)) (sym c.is_matched.ensures ∙ c.if-not-is_matched.true))
 
 pub overflow_mul-concrete : goal.overflow_mul-concrete
-overflow_mul-concrete c = omega (arith, pairs_small _ (well (goal.at.overflow_mul-concrete c).Start))
+overflow_mul-concrete c = omega (arith, pairs_small _ (well_of c.args.self.now))
 
 pub overflow_mul-concrete-2 : goal.overflow_mul-concrete-2
-overflow_mul-concrete-2 c = omega (arith, ranks_small _ (well (goal.at.overflow_mul-concrete-2 c).Start))
+overflow_mul-concrete-2 c = omega (arith, ranks_small _ (well_of c.args.self.now))
 
 pub returns-then-e-concrete : goal.returns-then-e-concrete
 returns-then-e-concrete c =
@@ -41,7 +38,7 @@ returns-then-e-eq0 c =
     ∙ sym (pass_goal x.self.now.pair.now x.self.now.table.now x.j x.c x.a (λ e. c.if-e.false (c.entry_at-e.ensures ∙ e)) (sym c.is_matched.ensures ∙ c.if-not-is_matched.false) (sym c.entry_at-e.ensures ∙ c.if-e-eq0.true))
 
 pub rank_holds-requires : goal.rank_holds-requires
-rank_holds-requires c = let w = well (goal.at.rank_holds-requires c).Start in omega (arith, w.abstraction.sets_high, c.requires.0)
+rank_holds-requires c = let w = well_of c.args.self.now in omega (arith, w.abstraction.sets_high, c.requires.0)
 
 pub returns : goal.returns
 returns c =

@@ -5,15 +5,15 @@ use Rattle.mask.specs.Logic.{not}
 use Rattle.mask.specs.Bounded.{below, first}
 use Rattle.mask.proofs.RangeLaws.{find_range}
 use Rattle.machine.specs.Machines.{n_a, n_c}
-use Rattle.machine.specs.WellFormedLaws.{well_pair}
 use Rattle.machine.specs.Lines.{passes}
 use Rattle.brute.specs.TargetLaws.{some_failing}
 use Rattle.mask.specs.BoundedLaws.{first_cong}
+use Rattle.brute.proofs.WellLaws.{well_of}
 use Rattle.brute.proofs.lines.Tabled.failing_row.Goals as goal
 
 pub find-requires-clause-callable : goal.find-requires-clause-callable
 find-requires-clause-callable c =
-    let w = well_pair c.args.self.now.pair.now c.args.self.now.well in
+    let w = well_of c.args.self.now in
     serves_from_Range (λ x q h. search rules) (λ x a b. search (rules, c.requires, w.concrete.states_high))
 
 pub returns : goal.returns

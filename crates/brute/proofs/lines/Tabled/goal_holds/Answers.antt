@@ -1,14 +1,14 @@
 -- Set j is asked at a, and then the step goes into the next section.
 use Rattle.std.proofs.Common.{arith, sym, ◌∙◌}
 use Rattle.machine.specs.Machines.{sets_a}
-use Rattle.machine.specs.WellFormedLaws.{well_pair}
 use Rattle.machine.specs.StepLaws.{next_lt}
 use Rattle.brute.specs.TargetLaws.{goal_is, goal_not}
+use Rattle.brute.proofs.WellLaws.{well_of}
 use Rattle.brute.proofs.lines.Tabled.goal_holds.Goals as goal
 
 pub steps_into-requires : goal.steps_into-requires
 steps_into-requires c =
-    let w = well_pair c.args.self.now.pair.now c.args.self.now.well in
+    let w = well_of c.args.self.now in
     let x = c.args in
     omega (arith, w.abstraction.sets_high, c.next_section-next.ensures, next_lt (sets_a x.self.now.pair.now) x.j c.requires)
 

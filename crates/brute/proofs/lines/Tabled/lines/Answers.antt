@@ -4,9 +4,9 @@ use Rattle.std.specs.Prelude.{unwrap_or, ℕ, ◌<◌}
 use Rattle.mask.specs.Bounded.{first}
 use Rattle.mask.specs.BoundedLaws.{below_at}
 use Rattle.machine.specs.Machines.{n_c, sets_a}
-use Rattle.machine.specs.WellFormedLaws.{well_pair}
 use Rattle.std.specs.Prelude.{Option}
 use Rattle.brute.specs.TargetLaws.{below_le, lines_at_lem, lines_none, row_fails}
+use Rattle.brute.proofs.WellLaws.{well_of}
 use Rattle.brute.proofs.lines.Tabled.lines.Goals as goal
 use Rattle.brute.proofs.lines.Tabled.lines.Goals.{In-Some}
 
@@ -21,11 +21,11 @@ failing_row-requires c = found c
 
 pub failing_state-requires : goal.failing_state-requires
 failing_state-requires c =
-    let w = well_pair c.args.self.now.pair.now c.args.self.now.well in
+    let w = well_of c.args.self.now in
     (found (goal.at.failing_state-requires c).In-Some, omega (arith, w.concrete.states_high, c.unwrap_or-c.ensures ∙ ap (λ (o : Option ℕ). unwrap_or o 0) c.failing_row.ensures, below_le (n_c c.args.self.now.pair.now) (first (n_c c.args.self.now.pair.now) (row_fails c.args.self.now.pair.now c.args.self.now.table.now c.in-Some.j))))
 
 pub overflow_add-result : goal.overflow_add-result
-overflow_add-result c = let w = well_pair c.args.self.now.pair.now c.args.self.now.well in omega (arith, w.abstraction.sets_high, found (goal.at.overflow_add-result c).In-Some)
+overflow_add-result c = let w = well_of c.args.self.now in omega (arith, w.abstraction.sets_high, found (goal.at.overflow_add-result c).In-Some)
 
 pub returns : goal.returns
 returns c =

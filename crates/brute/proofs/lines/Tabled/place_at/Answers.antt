@@ -6,20 +6,17 @@ use borrow.Author.Rules.{rules}
 use Rattle.brute.specs.Given.{lent}
 use Rattle.machine.specs.Player.{start_partner}
 use Rattle.machine.specs.PlayerLaws.{start_single}
-use Rattle.machine.specs.WellFormedLaws.{WellPair, well_pair}
 use Rattle.machine.specs.Step.{present_of}
 use Rattle.brute.specs.Runs.{as_place}
 use Rattle.brute.specs.ScanLaws.{Placed, place_next, place_start, placed}
+use Rattle.brute.proofs.WellLaws.{well_of}
 use Rattle.brute.proofs.lines.Tabled.place_at.Goals as goal
-use Rattle.brute.proofs.lines.Tabled.place_at.Goals.{At-loop-i, Start}
-
-well : (c : Start) → WellPair c.args.self.now.pair.now
-well c = well_pair c.args.self.now.pair.now c.args.self.now.well
+use Rattle.brute.proofs.lines.Tabled.place_at.Goals.{At-loop-i}
 
 here : (c : At-loop-i) → Placed c.args.self.now.pair.now c.args.self.now.table.now (as_place c.loop-i.at)
 here c =
     let x = c.args in
-    let w = well_pair x.self.now.pair.now x.self.now.well in
+    let w = well_of x.self.now in
     rw c.loop-i.invariant.1 (placed x.self.now.pair.now x.self.now.table.now (lent x.lasso.now) w.abstraction.sets_low c.loop-i.i)
 
 pub loop-i-init : goal.loop-i-init

@@ -3,15 +3,11 @@ use mathlib.Core.Path.{◌∙◌, sym}
 use native.Mathlib.Omega.{arith}
 use borrow.Author.Tests.{eq-eqb, ne_eqb}
 use Rattle.machine.specs.Player.{section_after}
-use Rattle.machine.specs.WellFormedLaws.{WellPair, well_pair}
+use Rattle.brute.proofs.WellLaws.{well_of}
 use Rattle.brute.proofs.lines.Tabled.section_after.Goals as goal
-use Rattle.brute.proofs.lines.Tabled.section_after.Goals.{Start}
-
-well : (c : Start) → WellPair c.args.self.now.pair.now
-well c = well_pair c.args.self.now.pair.now c.args.self.now.well
 
 pub entry_at-requires : goal.entry_at-requires
-entry_at-requires c = let w = well (goal.at.entry_at-requires c).Start in omega (arith, w.abstraction.sets_high)
+entry_at-requires c = let w = well_of c.args.self.now in omega (arith, w.abstraction.sets_high)
 
 pub returns-then-entry_at-eq0 : goal.returns-then-entry_at-eq0
 unfolding section_after

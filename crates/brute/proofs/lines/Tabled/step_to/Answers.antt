@@ -1,20 +1,16 @@
 -- The section changes first, and the partner is looked for in the new one.
 use native.Mathlib.Omega.{arith}
-use Rattle.machine.specs.WellFormedLaws.{WellPair, well_pair}
 use Rattle.machine.specs.Step.{present_of}
 use Rattle.brute.specs.Runs.{as_place}
 use Rattle.machine.specs.PlayerLaws.{section_lt}
 use Rattle.brute.specs.ScanLaws.{step_is}
+use Rattle.brute.proofs.WellLaws.{well_of}
 use Rattle.brute.proofs.lines.Tabled.step_to.Goals as goal
-use Rattle.brute.proofs.lines.Tabled.step_to.Goals.{Start}
-
-well : (c : Start) → WellPair c.args.self.now.pair.now
-well c = well_pair c.args.self.now.pair.now c.args.self.now.well
 
 pub least_partner-found-requires : goal.least_partner-found-requires
 least_partner-found-requires c =
     let x = c.args in
-    let w = well (goal.at.least_partner-found-requires c).Start in
+    let w = well_of c.args.self.now in
     omega (arith, c.section_after-j.ensures, section_lt x.self.now.pair.now x.self.now.table.now x.c (as_place x.at) c.requires.1.1.1, w.abstraction.sets_high)
 
 pub returns : goal.returns

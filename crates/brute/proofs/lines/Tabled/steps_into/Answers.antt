@@ -4,13 +4,13 @@ use Rattle.mask.specs.Logic.{not, or}
 use Rattle.mask.specs.Bounded.{every_in}
 use Rattle.mask.proofs.RangeLaws.{all_range}
 use Rattle.machine.specs.Machines.{moves}
-use Rattle.machine.specs.WellFormedLaws.{well_pair}
 use Rattle.machine.specs.Step.{steps}
+use Rattle.brute.proofs.WellLaws.{well_of}
 use Rattle.brute.proofs.lines.Tabled.steps_into.Goals as goal
 
 pub all-requires-clause-callable : goal.all-requires-clause-callable
 all-requires-clause-callable c =
-    let w = well_pair c.args.self.now.pair.now c.args.self.now.well in
+    let w = well_of c.args.self.now in
     serves_from_Range (λ x q h. search rules) (λ x a b. search (rules, c.requires, w.concrete.states_high))
 
 pub returns : goal.returns

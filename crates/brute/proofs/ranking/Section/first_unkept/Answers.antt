@@ -3,17 +3,18 @@ use Rattle.std.specs.Prelude.{◌*◌, ◌≤◌}
 use Rattle.mask.specs.Logic.{and, not}
 use Rattle.mask.proofs.RangeLaws.{find_range}
 use Rattle.machine.specs.Machines.{sets_c}
-use Rattle.machine.specs.WellFormedLaws.{pairs_small, ranks_small, well_pair}
+use Rattle.machine.specs.WellFormedLaws.{pairs_small, ranks_small}
 use Rattle.brute.specs.Ranking.{unkept}
 use Rattle.std.proofs.Common.{div-mul-le_self, ◌/◌}
+use Rattle.brute.proofs.WellLaws.{well_of}
 use Rattle.brute.proofs.ranking.Section.first_unkept.Goals as goal
 use Rattle.brute.proofs.ranking.Section.first_unkept.Goals.{Start}
 
 low_small : (c : Start) → let x = c.args in x.i / sets_c x.self.now.lifted.pair.now * sets_c x.self.now.lifted.pair.now ≤ 32768
-low_small c = let x = c.args in omega (arith, div-mul-le_self x.i (sets_c x.self.now.lifted.pair.now), ranks_small x.self.now.lifted.pair.now (well_pair x.self.now.lifted.pair.now x.self.now.lifted.well), c.requires)
+low_small c = let x = c.args in omega (arith, div-mul-le_self x.i (sets_c x.self.now.lifted.pair.now), ranks_small x.self.now.lifted.pair.now (well_of x.self.now.lifted), c.requires)
 
 pub overflow_mul-pairs : goal.overflow_mul-pairs
-overflow_mul-pairs c = omega (arith, pairs_small _ (well_pair c.args.self.now.lifted.pair.now c.args.self.now.lifted.well))
+overflow_mul-pairs c = omega (arith, pairs_small _ (well_of c.args.self.now.lifted))
 
 pub overflow_cast-low : goal.overflow_cast-low
 overflow_cast-low c = omega (arith, low_small (goal.at.overflow_cast-low c).Start)

@@ -1,12 +1,13 @@
 -- The set is laid out as a table, and none of its pairs fails the rule.
 use Rattle.std.proofs.Common.{ap, arith, sym, ◌∙◌}
 use Rattle.std.specs.Prelude.{is_some}
-use Rattle.machine.specs.WellFormedLaws.{pairs_small, well_pair}
+use Rattle.machine.specs.WellFormedLaws.{pairs_small}
 use Rattle.brute.specs.RankingLaws.{closed_is}
+use Rattle.brute.proofs.WellLaws.{well_of}
 use Rattle.brute.proofs.ranking.Section.is_closed.Goals as goal
 
 pub overflow_mul-pairs : goal.overflow_mul-pairs
-overflow_mul-pairs c = omega (arith, pairs_small _ (well_pair c.args.self.now.lifted.pair.now c.args.self.now.lifted.well))
+overflow_mul-pairs c = omega (arith, pairs_small _ (well_of c.args.self.now.lifted))
 
 pub returns : goal.returns
 returns c =

@@ -1,17 +1,14 @@
 -- The invariant: the greatest such number up to x is the answer.
 use Rattle.std.proofs.Common.{ap, arith, sym, ◌∙◌}
 use Rattle.std.specs.Prelude.{ℕ}
-use Rattle.machine.specs.WellFormedLaws.{WellPair, pairs_small, well_pair}
+use Rattle.machine.specs.WellFormedLaws.{pairs_small}
 use Rattle.brute.specs.Ranking.{largest}
 use Rattle.brute.specs.RankingLaws.{largest_found, largest_less, largest_none}
+use Rattle.brute.proofs.WellLaws.{well_of}
 use Rattle.brute.proofs.ranking.Section.largest_set.Goals as goal
-use Rattle.brute.proofs.ranking.Section.largest_set.Goals.{Start}
-
-well : (c : Start) → WellPair c.args.self.now.lifted.pair.now
-well c = well_pair c.args.self.now.lifted.pair.now c.args.self.now.lifted.well
 
 pub overflow_mul-concrete : goal.overflow_mul-concrete
-overflow_mul-concrete c = omega (arith, pairs_small _ (well (goal.at.overflow_mul-concrete c).Start))
+overflow_mul-concrete c = omega (arith, pairs_small _ (well_of c.args.self.now.lifted))
 
 pub loop-x-init : goal.loop-x-init
 loop-x-init c = let a = c.args in ap (λ (x : ℕ). largest a.self.now.lifted.pair.now a.self.now.lifted.table.now a.self.now.j a.ranks.now a.i x) c.full-x.ensures

@@ -1,15 +1,15 @@
 use Rattle.std.proofs.Common.{arith}
 use Rattle.std.proofs.lemmas.Grind.{common_steps}
 use Rattle.mask.specs.Logic.{and}
-use Rattle.machine.specs.WellFormedLaws.{well_pair}
 use Rattle.brute.specs.Ranking.{rank_of}
+use Rattle.brute.proofs.WellLaws.{well_of}
 use Rattle.brute.proofs.ranking.Section.rank_of.Goals as goal
 
 pub nonzero_div-c : goal.nonzero_div-c
-nonzero_div-c c = let w = well_pair c.args.self.now.lifted.pair.now c.args.self.now.lifted.well in omega (arith, w.abstraction.states_low)
+nonzero_div-c c = let w = well_of c.args.self.now.lifted in omega (arith, w.abstraction.states_low)
 
 pub nonzero_rem-a : goal.nonzero_rem-a
-nonzero_rem-a c = let w = well_pair c.args.self.now.lifted.pair.now c.args.self.now.lifted.well in omega (arith, w.abstraction.states_low)
+nonzero_rem-a c = let w = well_of c.args.self.now.lifted in omega (arith, w.abstraction.states_low)
 
 pub returns-then-goal_holds : goal.returns-then-goal_holds
 unfolding rank_of and

@@ -5,20 +5,18 @@ use native.Mathlib.Omega.{arith}
 use lib.ListN.{length-replicate}
 use borrow.Author.Rules.{rules}
 use Rattle.machine.specs.Machines.{pairs, sets_c}
-use Rattle.machine.specs.WellFormedLaws.{WellPair, pairs_small, ranks_small, well_pair}
+use Rattle.machine.specs.WellFormedLaws.{pairs_small, ranks_small}
 use Rattle.brute.specs.Ranking.{pair_room}
 use Rattle.brute.specs.RankingLaws.{ranked_start, ranked_step}
+use Rattle.brute.proofs.WellLaws.{well_of}
 use Rattle.brute.proofs.ranking.Section.rank_pairs.Goals as goal
 use Rattle.brute.proofs.ranking.Section.rank_pairs.Goals.{Start}
 
-well : (c : Start) → WellPair c.args.self.now.lifted.pair.now
-well c = well_pair c.args.self.now.lifted.pair.now c.args.self.now.lifted.well
-
 pub overflow_mul-pairs : goal.overflow_mul-pairs
-overflow_mul-pairs c = omega (arith, pairs_small _ (well (goal.at.overflow_mul-pairs c).Start))
+overflow_mul-pairs c = omega (arith, pairs_small _ (well_of c.args.self.now.lifted))
 
 pub overflow_mul-i-end : goal.overflow_mul-i-end
-overflow_mul-i-end c = omega (arith, ranks_small _ (well (goal.at.overflow_mul-i-end c).Start))
+overflow_mul-i-end c = omega (arith, ranks_small _ (well_of c.args.self.now.lifted))
 
 pub loop-i-init : goal.loop-i-init
 loop-i-init c = let x = c.args in (search rules, refl, ranked_start x.self.now.lifted.pair.now x.self.now.lifted.table.now x.self.now.j x.ranks.now)
@@ -26,13 +24,13 @@ loop-i-init c = let x = c.args in (search rules, refl, ranked_start x.self.now.l
 pub put_largest-requires : goal.put_largest-requires
 put_largest-requires c =
     let s = (goal.at.put_largest-requires c).Start in
-    (c.loop-i-test.true, rw (length-replicate {A = ℕ} pair_room 0) (pairs_small _ (well s)))
+    (c.loop-i-test.true, rw (length-replicate {A = ℕ} pair_room 0) (pairs_small _ (well_of s.args.self.now.lifted)))
 
 pub overflow_add-i : goal.overflow_add-i
-overflow_add-i c = omega (arith, ranks_small _ (well (goal.at.overflow_add-i c).Start))
+overflow_add-i c = omega (arith, ranks_small _ (well_of c.args.self.now.lifted))
 
 pub overflow_cast-i : goal.overflow_cast-i
-overflow_cast-i c = omega (arith, ranks_small _ (well (goal.at.overflow_cast-i c).Start))
+overflow_cast-i c = omega (arith, ranks_small _ (well_of c.args.self.now.lifted))
 
 pub loop-i-preserved : goal.loop-i-preserved
 loop-i-preserved c =

@@ -4,10 +4,11 @@ use Rattle.std.proofs.Math.Path.{refl}
 use Rattle.std.specs.Prelude.{length, ◌<◌}
 use Rattle.mask.specs.BoundedLaws.{below_at}
 use Rattle.machine.specs.Machines.{pairs}
-use Rattle.machine.specs.WellFormedLaws.{pairs_small, well_pair}
+use Rattle.machine.specs.WellFormedLaws.{pairs_small}
 use native.Mathlib.Nat.{sub-zero}
 use lib.ListN.{length-set}
 use Rattle.brute.specs.RankingLaws.{struck_done, struck_next, struck_none}
+use Rattle.brute.proofs.WellLaws.{well_of}
 use Rattle.brute.proofs.ranking.Section.strike_out.Goals as goal
 use Rattle.brute.proofs.ranking.Section.strike_out.Goals.{In-Some}
 
@@ -18,7 +19,7 @@ inside c =
     omega (arith, at.0, at.1, c.loop.invariant.1, c.requires.1)
 
 pub overflow_mul-pairs : goal.overflow_mul-pairs
-overflow_mul-pairs c = omega (arith, pairs_small _ (well_pair c.args.self.now.lifted.pair.now c.args.self.now.lifted.well))
+overflow_mul-pairs c = omega (arith, pairs_small _ (well_of c.args.self.now.lifted))
 
 pub loop-init : goal.loop-init
 loop-init c = (search rules, refl, rw sub-zero)
@@ -29,7 +30,7 @@ returns-in-None c =
     struck_done x.self.now.lifted.pair.now x.self.now.lifted.table.now x.self.now.j x.ranks.now x.i c.loop.set _ c.loop.invariant.2 (sym c.in-None.is ∙ c.first_unkept.ensures)
 
 pub offset_bounds-set-e : goal.offset_bounds-set-e
-offset_bounds-set-e c = omega (arith, inside c, pairs_small _ (well_pair c.args.self.now.lifted.pair.now c.args.self.now.lifted.well), below_at (pairs c.args.self.now.lifted.pair.now) _ (sym c.first_unkept.ensures ∙ c.in-Some.is))
+offset_bounds-set-e c = omega (arith, inside c, pairs_small _ (well_of c.args.self.now.lifted), below_at (pairs c.args.self.now.lifted.pair.now) _ (sym c.first_unkept.ensures ∙ c.in-Some.is))
 
 pub loop-preserved : goal.loop-preserved
 loop-preserved c =
