@@ -21,6 +21,7 @@ fn family_entry(p: Formed, family: &[u64; 448], e: usize) -> u16
     let concrete = &p.pair.concrete;
     let abstraction = &p.pair.abstraction;
     let pairs = concrete.states * abstraction.states;
+    // cut by hand, as in `Tabled::entry_at`
     let j = e / pairs;
     let c = e % pairs / abstraction.states;
     let a = e % abstraction.states;
@@ -70,6 +71,7 @@ fn row_holds(p: &Pair, j: usize, c: usize, row: u64) -> bool
 pub fn holds_pairs(p: Pair, family: &[u64; 448]) -> bool
     ensures { result ≡ holds_pairs p family.now }
 {
+    // cut by hand, as in `row_number`
     (0..448).all(|e| row_holds(&p, e / 64, e % 64, family[e]))
 }
 
@@ -80,6 +82,7 @@ fn row_number(n: u8, nc: u8, e: usize) -> usize
     requires { e < 448 }
     ensures { result ≡ row_number n nc e }
 {
+    // cut by hand: a family is handed over as one array of 448 rows
     let sections = n as usize;
     let width = nc as usize;
     let j = e / 64;

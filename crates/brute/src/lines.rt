@@ -1,7 +1,6 @@
 // The plain reading of document 01's "Line check".
 ghost use Rattle.std.specs.Prelude.{true, ◌≡◌, ◌<◌, ◌≤◌, get_or, Ok};
-ghost use Rattle.mask.specs.Bounded.{every, first, below, some_in};
-ghost use Rattle.mask.specs.Logic.{not};
+ghost use Rattle.mask.specs.Bounded.{first, below, some_in};
 ghost use Rattle.machine.specs.Machines.{successors, n_c, n_a, sets_a};
 ghost use Rattle.machine.specs.WellFormed.{has_empty_set, well_formed};
 ghost use Rattle.machine.specs.Step.{steps};
@@ -9,12 +8,13 @@ ghost use Rattle.machine.specs.Ranks.{level_of, set_of};
 ghost use Rattle.machine.specs.Table.{entry, covered_count};
 ghost use Rattle.machine.specs.Lines.{passes, goal_line, rank_line, lines_validity};
 ghost use Rattle.machine.specs.Verdict.{start_covered, lacking_start, start_verdict, verdict_of, empty_set_of, check_verdict, check_empty_set};
-ghost use Rattle.brute.specs.Lines.{hit, in_target};
+ghost use Rattle.brute.specs.Lines.{hit, in_target, fails, row_fails, section_fails};
 
 use crate::machines::{has_empty_set, has_move, has_start, in_set, is_matched, validity};
 use machine::{Checked, Pair, Refusal, Verdict};
 
 // The entries that a line steps into: those that are not blank, those that are 0 or have a smaller l, those that are at most a number.
+// An enum and no closure: the definition `in_target` takes the three as data, and a closure's contract would have to state that predicate once more.
 #[derive(Clone, Copy)]
 pub enum Target {
     NonBlank,
@@ -69,7 +69,8 @@ fn hits(t: Target, m: usize, e: u16) -> bool
 }
 
 impl<'a> Tabled<'a> {
-    // The entry of (c, a) in section j.
+    // The entry of (c, a) in section j. Its place is reckoned by hand, here and where a number is cut into section and states: a table is one buffer
+    // without rows, as its file has it, and the counts are no constants.
     pub fn entry_at(&self, j: usize, c: usize, a: usize) -> u16
         requires { (j < 7) × ((c < 256) × (a ≤ 64)) }
         ensures { result ≡ entry self.now.pair.now self.now.table.now j c a }
@@ -155,7 +156,7 @@ impl<'a> Tabled<'a> {
     // The lowest a whose entry beside c in section j fails.
     fn failing_state(&self, j: usize, c: usize) -> Option<usize>
         requires { (j < sets_a self.now.pair.now) × (c ≤ 64) }
-        ensures { result ≡ below (n_a self.now.pair.now) (first (n_a self.now.pair.now) (λ a. not (passes self.now.pair.now self.now.table.now j c a))) }
+        ensures { result ≡ below (n_a self.now.pair.now) (first (n_a self.now.pair.now) (fails self.now.pair.now self.now.table.now j c)) }
     {
         let abstraction = &self.pair.abstraction;
         (0..abstraction.states).find(|a| !self.entry_passes(j, c, *a))
@@ -164,7 +165,7 @@ impl<'a> Tabled<'a> {
     // The lowest c in whose row of section j an entry fails.
     fn failing_row(&self, j: usize) -> Option<usize>
         requires { j < sets_a self.now.pair.now }
-        ensures { result ≡ below (n_c self.now.pair.now) (first (n_c self.now.pair.now) (λ c. not (every (n_a self.now.pair.now) (passes self.now.pair.now self.now.table.now j c)))) }
+        ensures { result ≡ below (n_c self.now.pair.now) (first (n_c self.now.pair.now) (row_fails self.now.pair.now self.now.table.now j)) }
     {
         let concrete = &self.pair.concrete;
         (0..concrete.states).find(|c| self.failing_state(j, *c).is_some())
@@ -172,7 +173,7 @@ impl<'a> Tabled<'a> {
 
     // The lowest section in which an entry fails.
     fn failing_section(&self) -> Option<usize>
-        ensures { result ≡ below (sets_a self.now.pair.now) (first (sets_a self.now.pair.now) (λ j. not (every (n_c self.now.pair.now) (λ c. every (n_a self.now.pair.now) (passes self.now.pair.now self.now.table.now j c))))) }
+        ensures { result ≡ below (sets_a self.now.pair.now) (first (sets_a self.now.pair.now) (section_fails self.now.pair.now self.now.table.now)) }
     {
         let abstraction = &self.pair.abstraction;
         (0..abstraction.sets).find(|j| self.failing_row(*j).is_some())

@@ -120,8 +120,8 @@ fn first_empty(room: usize, count: usize, masks: &[u64]) -> Option<usize>
     (0..room).find(|i| *i < count && !has_state(mask_at(masks, *i)))
 }
 
-// 9, 10 and 11 of machine number i of a pair. The number goes into the spot as it is: a machine alone is number 0, so that it is no name of one of two
-// kinds.
+// 9, 10 and 11 of machine number i of a pair. The number goes into the spot as it is, and a machine alone has number 0 whichever kind it is: an enum of
+// the two kinds would say too much.
 fn content(i: usize, m: &Machine) -> Result<(), Refusal>
     ensures { result ≡ content_validity i m.now }
 {
@@ -164,8 +164,8 @@ fn sets_nonempty(i: usize, m: &Machine) -> Result<(), Refusal>
     }
 }
 
-// What is asked of the fairness sets: nothing, or that each has a state. It is data and no step that is handed in, as 21 of the first machine comes
-// before 9 of the second.
+// What is asked of the fairness sets: nothing, or that each has a state. One function makes both rows of tests, as the definition `pair_tests` takes
+// this as data; a closure that tests or does not would have to promise that once more.
 #[derive(Clone, Copy, Debug, PartialEq, Eq)]
 enum Sets {
     Any,
@@ -183,7 +183,8 @@ fn content_and_sets(asked: Sets, i: usize, m: &Machine) -> Result<(), Refusal>
     }
 }
 
-// 5, then these of the concrete machine and of the abstract one. For callers it has two names, which say what numbers each refuses.
+// 5, then these of the concrete machine and of the abstract one. Callers have two names for it, `validity` and `nonempty_validity`, that say which
+// numbers each refuses.
 fn tests(asked: Sets, p: &Pair) -> Result<(), Refusal>
     ensures { result ≡ pair_tests (asks_states asked) p.now }
 {

@@ -76,7 +76,8 @@ pub fn entry_of(d: u16) -> u16
     if d == 0 { machine::BLANK } else { d - 1 }
 }
 
-// Puts table number x, of n entries, into `table`; what is past them is kept.
+// Puts table number x, of n entries, into `table`; what is past them is kept. This and `put_states` share `digit` and no loop: an entry is one less, ends
+// at n, and is cast to another width, with a bound of its own.
 pub fn put_entries(x: u64, top: u16, n: usize, table: &mut [u16])
     ensures { table.new ≡ numbered_table top x n table.old }
 {

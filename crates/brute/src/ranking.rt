@@ -17,6 +17,7 @@ use machine::Pair;
 const PAIR_ROOM: usize = 4096;
 
 // What of a table is compared: its entries, or only which pairs they cover, as of the family that a turn makes.
+// An enum and no closure: the definitions take it as data, and a closure that shows an entry would have to promise `shown_entry` all the same.
 #[derive(Clone, Copy, Debug, PartialEq, Eq)]
 pub enum Compared {
     Ranks,
@@ -55,6 +56,13 @@ fn shown(compared: Compared, e: u16) -> u16
 }
 
 impl<'a> Section<'a> {
+    // How many pairs of states the machines have.
+    fn pairs(&self) -> usize
+        ensures { result ≡ pairs self.now.lifted.pair.now }
+    {
+        self.lifted.pair.concrete.states * self.lifted.pair.abstraction.states
+    }
+
     // Whether (c, a) meets the rule of X(l, k) over a set that is given as a table: it is a goal, or steps into level l - 1, whose entries in
     // `ranks` are at most `low`, or has c outside set k and steps into the set.
     fn is_kept(&self, ranks: &[u16], low: u16, k: usize, set: &[u16], c: usize, a: usize) -> bool
@@ -76,10 +84,10 @@ impl<'a> Section<'a> {
     {
         let concrete = &self.lifted.pair.concrete;
         let abstraction = &self.lifted.pair.abstraction;
-        let pairs = concrete.states * abstraction.states;
         let low = (i / concrete.sets * concrete.sets) as u16;
         let k = i % concrete.sets;
-        (0..pairs).find(|e| {
+        (0..self.pairs()).find(|e| {
+            // cut by hand, as in `Tabled::entry_at`
             let c = *e / abstraction.states;
             let a = *e % abstraction.states;
             value_at(set, *e) != machine::BLANK && !self.is_kept(ranks, low, k, set, c, a)
@@ -91,9 +99,7 @@ impl<'a> Section<'a> {
         requires { i < sets_c self.now.lifted.pair.now * pairs self.now.lifted.pair.now }
         ensures { result ≡ closed self.now.lifted.pair.now self.now.lifted.table.now self.now.j ranks.now i x }
     {
-        let concrete = &self.lifted.pair.concrete;
-        let abstraction = &self.lifted.pair.abstraction;
-        let pairs = concrete.states * abstraction.states;
+        let pairs = self.pairs();
         let mut set = [machine::BLANK; 64];
         put_entries(x, 1, pairs, &mut set);
         self.first_unkept(ranks, i, &set).is_none()
@@ -104,9 +110,7 @@ impl<'a> Section<'a> {
         requires { i < sets_c self.now.lifted.pair.now * pairs self.now.lifted.pair.now }
         ensures { result ≡ largest self.now.lifted.pair.now self.now.lifted.table.now self.now.j ranks.now i (full_mask (min (pairs self.now.lifted.pair.now) 64)) }
     {
-        let concrete = &self.lifted.pair.concrete;
-        let abstraction = &self.lifted.pair.abstraction;
-        for x in (1..=mask::full(concrete.states * abstraction.states)).rev() {
+        for x in (1..=mask::full(self.pairs())).rev() {
             if self.is_closed(ranks, i, x) {
                 return x;
             }
@@ -120,9 +124,7 @@ impl<'a> Section<'a> {
         requires { (i < sets_c self.now.lifted.pair.now * pairs self.now.lifted.pair.now) × (pairs self.now.lifted.pair.now ≤ length set.old) }
         ensures { set.new ≡ struck self.now.lifted.pair.now self.now.lifted.table.now self.now.j ranks.now i (pairs self.now.lifted.pair.now) set.old }
     {
-        let concrete = &self.lifted.pair.concrete;
-        let abstraction = &self.lifted.pair.abstraction;
-        let pairs = concrete.states * abstraction.states;
+        let pairs = self.pairs();
         for _ in 0..pairs {
             match self.first_unkept(ranks, i, set) {
                 Some(e) => set[e] = machine::BLANK,
@@ -136,9 +138,7 @@ impl<'a> Section<'a> {
         requires { (i < sets_c self.now.lifted.pair.now * pairs self.now.lifted.pair.now) × (pairs self.now.lifted.pair.now ≤ length set.old) }
         ensures { set.new ≡ largest_set self.now.lifted.pair.now self.now.lifted.table.now self.now.j ranks.now i set.old }
     {
-        let concrete = &self.lifted.pair.concrete;
-        let abstraction = &self.lifted.pair.abstraction;
-        let pairs = concrete.states * abstraction.states;
+        let pairs = self.pairs();
         if pairs <= 12 {
             put_entries(self.largest_set(ranks, i), 1, pairs, set);
         } else {
@@ -151,10 +151,8 @@ impl<'a> Section<'a> {
         requires { pairs self.now.lifted.pair.now ≤ length ranks.old }
         ensures { ranks.new ≡ ranked self.now.lifted.pair.now self.now.lifted.table.now self.now.j (sets_c self.now.lifted.pair.now * pairs self.now.lifted.pair.now) ranks.old }
     {
-        let concrete = &self.lifted.pair.concrete;
-        let abstraction = &self.lifted.pair.abstraction;
-        let pairs = concrete.states * abstraction.states;
-        for i in 0..concrete.sets * pairs {
+        let pairs = self.pairs();
+        for i in 0..self.lifted.pair.concrete.sets * pairs {
             let mut set = [0u16; PAIR_ROOM];
             self.put_largest(ranks, i, &mut set);
             mark(pairs, &set, (i + 1) as u16, ranks);
@@ -166,6 +164,7 @@ impl<'a> Section<'a> {
         ensures { result ≡ rank_of self.now.lifted.pair.now self.now.lifted.table.now self.now.j ranks.now e }
     {
         let abstraction = &self.lifted.pair.abstraction;
+        // cut by hand, as in `Tabled::entry_at`
         let c = e / abstraction.states;
         let a = e % abstraction.states;
         if is_matched(self.lifted.pair, c, a) && self.lifted.goal_holds(self.j, c, a) {
@@ -179,9 +178,7 @@ impl<'a> Section<'a> {
     fn has_ranks(&self, compared: Compared, table: &[u16]) -> bool
         ensures { result ≡ section_ranked self.now.lifted.pair.now (is_exact compared) self.now.lifted.table.now table.now self.now.j }
     {
-        let concrete = &self.lifted.pair.concrete;
-        let abstraction = &self.lifted.pair.abstraction;
-        let pairs = concrete.states * abstraction.states;
+        let pairs = self.pairs();
         let mut ranks = [machine::BLANK; PAIR_ROOM];
         self.rank_pairs(&mut ranks);
         (0..pairs).all(|e| {

@@ -5,7 +5,8 @@ use Rattle.mask.specs.Bounded.{first}
 use Rattle.mask.specs.BoundedLaws.{below_at}
 use Rattle.machine.specs.Machines.{n_c, sets_a}
 use Rattle.std.specs.Prelude.{Option}
-use Rattle.brute.specs.TargetLaws.{below_le, lines_at_lem, lines_none, row_fails}
+use Rattle.brute.specs.Lines.{row_fails}
+use Rattle.brute.specs.TargetLaws.{below_le, lines_at_lem, lines_none}
 use Rattle.brute.proofs.WellLaws.{well_of}
 use Rattle.brute.proofs.lines.Tabled.lines.Goals as goal
 use Rattle.brute.proofs.lines.Tabled.lines.Goals.{In-Some}

@@ -1,4 +1,4 @@
-use Rattle.std.proofs.Common.{arith, rules, tests}
+use Rattle.std.proofs.Common.{rules, tests}
 use Rattle.std.proofs.lemmas.Iterator.{serves_from_Range}
 use Rattle.mask.proofs.RangeLaws.{all_range}
 use Rattle.machine.specs.WellFormedLaws.{pairs_small}
@@ -9,9 +9,6 @@ use Rattle.machine.specs.WellFormedLaws.{section_fits}
 use Rattle.brute.specs.Ranking.{pair_room}
 use Rattle.brute.proofs.WellLaws.{well_of}
 use Rattle.brute.proofs.ranking.Section.has_ranks.Goals as goal
-
-pub overflow_mul-pairs : goal.overflow_mul-pairs
-overflow_mul-pairs c = omega (arith, pairs_small _ (well_of c.args.self.now.lifted))
 
 pub rank_pairs-requires : goal.rank_pairs-requires
 rank_pairs-requires c =
@@ -26,4 +23,4 @@ all-requires-clause-callable c =
 pub returns : goal.returns
 unfolding section_ranked
 returns c =
-    rw (← c.rank_pairs.ensures) (all_range c.all.ensures.ran (search (rules, tests)))
+    rw (← c.rank_pairs.ensures, ← c.pairs-pairs.ensures) (all_range c.all.ensures.ran (search (rules, tests)))

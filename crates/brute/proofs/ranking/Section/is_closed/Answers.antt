@@ -1,15 +1,10 @@
 -- The set is laid out as a table, and none of its pairs fails the rule.
-use Rattle.std.proofs.Common.{ap, arith, sym, ◌∙◌}
+use Rattle.std.proofs.Common.{ap, sym, ◌∙◌}
 use Rattle.std.specs.Prelude.{is_some}
-use Rattle.machine.specs.WellFormedLaws.{pairs_small}
 use Rattle.brute.specs.RankingLaws.{closed_is}
-use Rattle.brute.proofs.WellLaws.{well_of}
 use Rattle.brute.proofs.ranking.Section.is_closed.Goals as goal
-
-pub overflow_mul-pairs : goal.overflow_mul-pairs
-overflow_mul-pairs c = omega (arith, pairs_small _ (well_of c.args.self.now.lifted))
 
 pub returns : goal.returns
 returns c =
     let x = c.args in
-    closed_is x.self.now.lifted.pair.now x.self.now.lifted.table.now x.self.now.j x.ranks.now x.i x.x c.put_entries.ensures (sym c.is_none.ensures ∙ ap is_some c.first_unkept.ensures)
+    closed_is x.self.now.lifted.pair.now x.self.now.lifted.table.now x.self.now.j x.ranks.now x.i x.x (rw c.pairs-pairs.ensures at c.put_entries.ensures) (sym c.is_none.ensures ∙ ap is_some c.first_unkept.ensures)

@@ -1,17 +1,12 @@
 -- The invariant: the greatest such number up to x is the answer.
 use Rattle.std.proofs.Common.{ap, arith, sym, ◌∙◌}
 use Rattle.std.specs.Prelude.{ℕ}
-use Rattle.machine.specs.WellFormedLaws.{pairs_small}
 use Rattle.brute.specs.Ranking.{largest}
 use Rattle.brute.specs.RankingLaws.{largest_found, largest_less, largest_none}
-use Rattle.brute.proofs.WellLaws.{well_of}
 use Rattle.brute.proofs.ranking.Section.largest_set.Goals as goal
 
-pub overflow_mul-concrete : goal.overflow_mul-concrete
-overflow_mul-concrete c = omega (arith, pairs_small _ (well_of c.args.self.now.lifted))
-
 pub loop-x-init : goal.loop-x-init
-loop-x-init c = let a = c.args in ap (λ (x : ℕ). largest a.self.now.lifted.pair.now a.self.now.lifted.table.now a.self.now.j a.ranks.now a.i x) c.full-x.ensures
+loop-x-init c = let a = c.args in ap (λ (x : ℕ). largest a.self.now.lifted.pair.now a.self.now.lifted.table.now a.self.now.j a.ranks.now a.i x) (rw c.pairs.ensures at c.full-x.ensures)
 
 pub returns-then-is_closed : goal.returns-then-is_closed
 returns-then-is_closed c =

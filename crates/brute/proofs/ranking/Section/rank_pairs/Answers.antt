@@ -1,5 +1,5 @@
 -- The invariant: the pairs of the first i sets have their ranks.
-use mathlib.Core.Path.{◌∙◌, ◌≡◌, refl}
+use mathlib.Core.Path.{◌∙◌, ◌≡◌, ap, refl}
 use Prim.Native.Nat.{◌*◌, ℕ}
 use native.Mathlib.Omega.{arith}
 use lib.ListN.{length-replicate}
@@ -10,27 +10,24 @@ use Rattle.brute.specs.Ranking.{pair_room}
 use Rattle.brute.specs.RankingLaws.{ranked_start, ranked_step}
 use Rattle.brute.proofs.WellLaws.{well_of}
 use Rattle.brute.proofs.ranking.Section.rank_pairs.Goals as goal
-use Rattle.brute.proofs.ranking.Section.rank_pairs.Goals.{Start}
+use Rattle.brute.proofs.ranking.Section.rank_pairs.Goals.{After-pairs-pairs}
 
-pub overflow_mul-pairs : goal.overflow_mul-pairs
-overflow_mul-pairs c = omega (arith, pairs_small _ (well_of c.args.self.now.lifted))
+-- how many ranks there are
+most : (c : After-pairs-pairs) → let p = c.args.self.now.lifted.pair.now in sets_c p * c.pairs-pairs.result ≡ sets_c p * pairs p
+most c = ap (λ (n : ℕ). sets_c c.args.self.now.lifted.pair.now * n) c.pairs-pairs.ensures
 
 pub overflow_mul-i-end : goal.overflow_mul-i-end
-overflow_mul-i-end c = omega (arith, ranks_small _ (well_of c.args.self.now.lifted))
+overflow_mul-i-end c = omega (arith, most c, ranks_small _ (well_of c.args.self.now.lifted))
 
 pub loop-i-init : goal.loop-i-init
 loop-i-init c = let x = c.args in (search rules, refl, ranked_start x.self.now.lifted.pair.now x.self.now.lifted.table.now x.self.now.j x.ranks.now)
 
 pub put_largest-requires : goal.put_largest-requires
 put_largest-requires c =
-    let s = (goal.at.put_largest-requires c).Start in
-    (c.loop-i-test.true, rw (length-replicate {A = ℕ} pair_room 0) (pairs_small _ (well_of s.args.self.now.lifted)))
-
-pub overflow_add-i : goal.overflow_add-i
-overflow_add-i c = omega (arith, ranks_small _ (well_of c.args.self.now.lifted))
+    (rw c.pairs-pairs.ensures at c.loop-i-test.true, rw (length-replicate {A = ℕ} pair_room 0) (pairs_small _ (well_of c.args.self.now.lifted)))
 
 pub overflow_cast-i : goal.overflow_cast-i
-overflow_cast-i c = omega (arith, ranks_small _ (well_of c.args.self.now.lifted))
+overflow_cast-i c = omega (arith, most (goal.at.overflow_cast-i c).After-pairs-pairs, ranks_small _ (well_of c.args.self.now.lifted))
 
 pub loop-i-preserved : goal.loop-i-preserved
 loop-i-preserved c =
@@ -38,10 +35,10 @@ loop-i-preserved c =
     let l = c.loop-i in (
       search rules,
       c.mark.auto.ranks ∙ l.invariant.1,
-      ranked_step x.self.now.lifted.pair.now x.self.now.lifted.table.now x.self.now.j x.ranks.now l.i l.invariant.2 c.put_largest.ensures c.mark.ensures,
+      ranked_step x.self.now.lifted.pair.now x.self.now.lifted.table.now x.self.now.j x.ranks.now l.i l.invariant.2 c.put_largest.ensures (rw c.pairs-pairs.ensures at c.mark.ensures),
     )
 
 pub returns : goal.returns
 returns c =
     let p = c.args.self.now.lifted.pair.now in
-    let e : c.loop-i.i ≡ sets_c p * pairs p = omega arith in rw (← e) c.loop-i.invariant.2
+    let e : c.loop-i.i ≡ sets_c p * pairs p = omega (arith, most (goal.at.returns c).After-pairs-pairs) in rw (← e) c.loop-i.invariant.2

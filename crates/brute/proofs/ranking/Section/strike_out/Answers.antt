@@ -18,16 +18,13 @@ inside c =
     let at = below_at (pairs c.args.self.now.lifted.pair.now) _ (sym c.first_unkept.ensures ∙ c.in-Some.is) in
     omega (arith, at.0, at.1, c.loop.invariant.1, c.requires.1)
 
-pub overflow_mul-pairs : goal.overflow_mul-pairs
-overflow_mul-pairs c = omega (arith, pairs_small _ (well_of c.args.self.now.lifted))
-
 pub loop-init : goal.loop-init
 loop-init c = (search rules, refl, rw sub-zero)
 
 pub returns-in-None : goal.returns-in-None
 returns-in-None c =
     let x = c.args in
-    struck_done x.self.now.lifted.pair.now x.self.now.lifted.table.now x.self.now.j x.ranks.now x.i c.loop.set _ c.loop.invariant.2 (sym c.in-None.is ∙ c.first_unkept.ensures)
+    struck_done x.self.now.lifted.pair.now x.self.now.lifted.table.now x.self.now.j x.ranks.now x.i c.loop.set _ (rw c.pairs-pairs.ensures at c.loop.invariant.2) (sym c.in-None.is ∙ c.first_unkept.ensures)
 
 pub offset_bounds-set-e : goal.offset_bounds-set-e
 offset_bounds-set-e c = omega (arith, inside c, pairs_small _ (well_of c.args.self.now.lifted), below_at (pairs c.args.self.now.lifted.pair.now) _ (sym c.first_unkept.ensures ∙ c.in-Some.is))
@@ -43,7 +40,7 @@ loop-preserved c =
 pub returns : goal.returns
 returns c =
     let x = c.args in
-    struck_none x.self.now.lifted.pair.now x.self.now.lifted.table.now x.self.now.j x.ranks.now x.i c.loop.set _ c.loop.invariant.2 (omega arith)
+    struck_none x.self.now.lifted.pair.now x.self.now.lifted.table.now x.self.now.j x.ranks.now x.i c.loop.set _ (rw c.pairs-pairs.ensures at c.loop.invariant.2) (omega arith)
 
 pub bounds-set-e : goal.bounds-set-e
 bounds-set-e c = inside c
