@@ -1,2 +1,3 @@
+pub mod EachLaws
 pub mod MadeLaws
 pub mod WellLaws

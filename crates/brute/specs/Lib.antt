@@ -2,6 +2,7 @@
 pub mod Asked
 pub mod Given
 pub mod Comparing
+pub mod Each
 pub mod Numbers
 pub mod Lines
 pub mod Runs

@@ -7,7 +7,7 @@ ghost use Rattle.machine.specs.Table.{entries};
 ghost use Rattle.brute.specs.Families.{is_pair, holds_pairs, family_entry, family_table, row_number, numbered_family};
 
 use crate::machines::{is_matched, validity};
-use crate::numbers::digit;
+use crate::numbers::{digit, put_each};
 use machine::{Formed, Pair};
 use std::array;
 
@@ -43,9 +43,7 @@ pub fn put_family(p: Pair, family: &[u64; 448], table: &mut [u16])
     }
     let entries = abstraction.sets * (concrete.states * abstraction.states);
     let formed = Formed { pair: &p };
-    for (e, entry) in table[..entries].iter_mut().enumerate() {
-        *entry = family_entry(formed, family, e);
-    }
+    put_each(&mut table[..entries], |e| family_entry(formed, family, e));
 }
 
 // ---- Stray bits

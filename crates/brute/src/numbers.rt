@@ -1,6 +1,7 @@
 // Machines, pairs, tables and lassos from numbers, so that all small ones can be gone through by counting.
-ghost use Rattle.std.specs.Prelude.{cond, ◌≡◌, ◌+◌, length};
+ghost use Rattle.std.specs.Prelude.{cond, ◌≡◌, ◌+◌, ◌<◌, length, ℕ};
 ghost use Rattle.mask.specs.Bits.{has_bit};
+ghost use Rattle.brute.specs.Each.{IsEach};
 ghost use Rattle.brute.specs.Numbers.{digit_of, entry_of, numbered_table, states_of, numbered_machine, numbered_pair};
 
 use machine::{Machine, Pair};
@@ -76,22 +77,30 @@ pub fn entry_of(d: u16) -> u16
     if d == 0 { machine::BLANK } else { d - 1 }
 }
 
-// Puts table number x, of n entries, into `table`; what is past them is kept. This and `put_states` share `digit` and no loop: an entry is one less, ends
-// at n, and is cast to another width, with a bound of its own.
+// Puts into each place of a list what f gives for it.
+pub fn put_each<T: Copy, F: Fn(usize) -> T>(out: &mut [T], f: F)
+    requires { (i : ℕ) → i < length out.old → F.pre f i }
+    ensures { IsEach (F.post f) out.new (length out.old) }
+{
+    for (i, x) in out.iter_mut().enumerate() {
+        *x = f(i);
+    }
+}
+
+// Puts table number x, of n entries, into `table`; what is past them is kept.
 pub fn put_entries(x: u64, top: u16, n: usize, table: &mut [u16])
     ensures { table.new ≡ numbered_table top x n table.old }
 {
     let end = n.min(table.len());
-    for (e, entry) in table[..end].iter_mut().enumerate() {
-        *entry = entry_of(digit(x, top as u32, e) as u16);
-    }
+    put_each(
+        &mut table[..end],
+        |e| entry_of(digit(x, u32::from(top), e) as u16),
+    );
 }
 
 // Fills `out` with the digits of x.
 pub fn put_states(x: u64, top: u8, out: &mut [u8])
     ensures { out.new ≡ states_of top x (length out.old) }
 {
-    for (i, state) in out.iter_mut().enumerate() {
-        *state = digit(x, top as u32, i) as u8;
-    }
+    put_each(out, |i| digit(x, u32::from(top), i) as u8);
 }
