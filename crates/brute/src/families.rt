@@ -6,8 +6,9 @@ ghost use Rattle.mask.specs.Logic.{not, or};
 ghost use Rattle.machine.specs.Table.{entries};
 ghost use Rattle.brute.specs.Families.{is_pair, holds_pairs, family_entry, family_table, row_number, numbered_family};
 
+use crate::lists::put_each;
 use crate::machines::{is_matched, validity};
-use crate::numbers::{digit, put_each};
+use crate::numbers::digit;
 use machine::{Formed, Pair};
 use std::array;
 
@@ -21,7 +22,7 @@ fn family_entry(p: Formed, family: &[u64; 448], e: usize) -> u16
     let concrete = &p.pair.concrete;
     let abstraction = &p.pair.abstraction;
     let pairs = concrete.states * abstraction.states;
-    // cut by hand, as in `Tabled::entry_at`
+    // computed from the counts, as in `Tabled::entry_at`
     let j = e / pairs;
     let c = e % pairs / abstraction.states;
     let a = e % abstraction.states;
@@ -69,7 +70,7 @@ fn row_holds(p: &Pair, j: usize, c: usize, row: u64) -> bool
 pub fn holds_pairs(p: Pair, family: &[u64; 448]) -> bool
     ensures { result ≡ holds_pairs p family.now }
 {
-    // cut by hand, as in `row_number`
+    // computed, as in `row_number`
     (0..448).all(|e| row_holds(&p, e / 64, e % 64, family[e]))
 }
 
@@ -80,7 +81,7 @@ fn row_number(n: u8, nc: u8, e: usize) -> usize
     requires { e < 448 }
     ensures { result ≡ row_number n nc e }
 {
-    // cut by hand: a family is handed over as one array of 448 rows
+    // computed, since a family is handed over as one array of 448 rows
     let sections = n as usize;
     let width = nc as usize;
     let j = e / 64;

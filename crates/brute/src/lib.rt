@@ -7,6 +7,7 @@ mod families;
 mod lassos;
 mod lifting;
 mod lines;
+mod lists;
 mod machines;
 mod numbers;
 mod ranking;

@@ -29,7 +29,7 @@ fn lift_entry(p: Formed, table: &mut [u16], e: usize)
     let concrete = &p.pair.concrete;
     let abstraction = &p.pair.abstraction;
     let pairs = concrete.states * abstraction.states;
-    // cut by hand, as in `Tabled::entry_at`
+    // computed from the counts, as in `Tabled::entry_at`
     let c = e % pairs / abstraction.states;
     let a = e % abstraction.states;
     let tabled = Tabled {

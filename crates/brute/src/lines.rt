@@ -10,6 +10,7 @@ ghost use Rattle.machine.specs.Lines.{passes, goal_line, rank_line, lines_validi
 ghost use Rattle.machine.specs.Verdict.{start_covered, lacking_start, start_verdict, verdict_of, empty_set_of, check_verdict, check_empty_set};
 ghost use Rattle.brute.specs.Lines.{hit, in_target, fails, row_fails, section_fails};
 
+use crate::lists::element_or;
 use crate::machines::{has_empty_set, has_move, has_start, in_set, is_matched, validity};
 use machine::{Checked, Pair, Refusal, Verdict};
 
@@ -41,7 +42,7 @@ struct Level {
 pub fn value_at(table: &[u16], i: usize) -> u16
     ensures { result ≡ get_or table.now i 0 }
 {
-    table.get(i).copied().unwrap_or(0)
+    element_or(table, i, 0)
 }
 
 // The l and k of an entry that is not 0.
@@ -69,7 +70,7 @@ fn hits(t: Target, m: usize, e: u16) -> bool
 }
 
 impl<'a> Tabled<'a> {
-    // The entry of (c, a) in section j. Its place is reckoned by hand, here and where a number is cut into section and states: a table is one buffer
+    // The entry of (c, a) in section j. Its place is computed from the counts, as section and states are from a number elsewhere: a table is one buffer
     // without rows, as its file has it, and the counts are no constants.
     pub fn entry_at(&self, j: usize, c: usize, a: usize) -> u16
         requires { (j < 7) × ((c < 256) × (a ≤ 64)) }

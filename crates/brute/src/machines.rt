@@ -1,25 +1,19 @@
 // The plain reading of machines: every question is asked of a state by its number.
-ghost use Rattle.std.specs.Prelude.{◌≡◌, eqb, get_or};
+ghost use Rattle.std.specs.Prelude.{◌≡◌, eqb};
 ghost use Rattle.mask.specs.Logic.{not};
 ghost use Rattle.mask.specs.Bounded.{below};
 ghost use Rattle.machine.specs.Machines.{observation, successors, moves, starts, in_fair_set, matched};
 ghost use Rattle.brute.specs.Asked.{asks_states};
 ghost use Rattle.machine.specs.WellFormed.{counts_ok, beyond, state_beyond, set_beyond, is_beyond_counts, first_empty, lowest_empty_set, has_empty_set, content_validity, sets_validity, content_tests, pair_tests, pair_validity, nonempty_validity};
 
+use crate::lists::element_or;
 use machine::{Machine, Pair, Refusal};
 
-// Mask i of a list, and past its end an empty one.
-fn mask_at(masks: &[u64], i: usize) -> u64
-    ensures { result ≡ get_or masks.now i 0 }
-{
-    masks.get(i).copied().unwrap_or(0)
-}
-
-// The successor mask of state s.
+// The successor mask of state s; a machine has 64, and past these an empty one.
 pub fn successors_of(m: &Machine, s: usize) -> u64
     ensures { result ≡ successors m.now s }
 {
-    mask_at(&m.successors, s)
+    element_or(&m.successors, s, 0)
 }
 
 // Whether t is a successor of s. This and `in_set` are one bit of a mask each, under the names that document 01 has for them.
@@ -40,14 +34,14 @@ pub fn has_start(m: &Machine, s: usize) -> bool
 pub fn in_set(m: &Machine, k: usize, s: usize) -> bool
     ensures { result ≡ in_fair_set m.now k s }
 {
-    mask::has(mask_at(&m.fairness, k), s)
+    mask::has(element_or(&m.fairness, k, 0), s)
 }
 
 // The observation of state s; past the 64 of a machine it is 0.
 pub fn observed(m: &Machine, s: usize) -> u8
     ensures { result ≡ observation m.now s }
 {
-    m.observations.get(s).copied().unwrap_or(0)
+    element_or(&m.observations, s, 0)
 }
 
 // Whether (c, a) is matched.
@@ -82,7 +76,7 @@ fn has_past(n: usize, m: u64) -> bool
 fn mask_past(states: usize, count: usize, masks: &[u64], i: usize) -> bool
     ensures { result ≡ set_beyond states count masks.now i }
 {
-    let mask = mask_at(masks, i);
+    let mask = element_or(masks, i, 0);
     if i < count {
         has_past(states, mask)
     } else {
@@ -117,7 +111,7 @@ fn has_state(members: u64) -> bool
 fn first_empty(room: usize, count: usize, masks: &[u64]) -> Option<usize>
     ensures { result ≡ below room (first_empty room count masks.now) }
 {
-    (0..room).find(|i| *i < count && !has_state(mask_at(masks, *i)))
+    (0..room).find(|i| *i < count && !has_state(element_or(masks, *i, 0)))
 }
 
 // 9, 10 and 11 of machine number i of a pair. The number goes into the spot as it is, and a machine alone has number 0 whichever kind it is: an enum of

@@ -1,9 +1,9 @@
 // Machines, pairs, tables and lassos from numbers, so that all small ones can be gone through by counting.
-ghost use Rattle.std.specs.Prelude.{cond, ◌≡◌, ◌+◌, ◌<◌, length, ℕ};
+ghost use Rattle.std.specs.Prelude.{cond, ◌≡◌, ◌+◌, length};
 ghost use Rattle.mask.specs.Bits.{has_bit};
-ghost use Rattle.brute.specs.Each.{IsEach};
 ghost use Rattle.brute.specs.Numbers.{digit_of, entry_of, numbered_table, states_of, numbered_machine, numbered_pair};
 
+use crate::lists::put_each;
 use machine::{Machine, Pair};
 use std::array;
 
@@ -75,16 +75,6 @@ pub fn entry_of(d: u16) -> u16
     ensures { result ≡ entry_of d }
 {
     if d == 0 { machine::BLANK } else { d - 1 }
-}
-
-// Puts into each place of a list what f gives for it.
-pub fn put_each<T: Copy, F: Fn(usize) -> T>(out: &mut [T], f: F)
-    requires { (i : ℕ) → i < length out.old → F.pre f i }
-    ensures { IsEach (F.post f) out.new (length out.old) }
-{
-    for (i, x) in out.iter_mut().enumerate() {
-        *x = f(i);
-    }
 }
 
 // Puts table number x, of n entries, into `table`; what is past them is kept.

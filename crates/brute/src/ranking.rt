@@ -87,7 +87,7 @@ impl<'a> Section<'a> {
         let low = (i / concrete.sets * concrete.sets) as u16;
         let k = i % concrete.sets;
         (0..self.pairs()).find(|e| {
-            // cut by hand, as in `Tabled::entry_at`
+            // computed from the counts, as in `Tabled::entry_at`
             let c = *e / abstraction.states;
             let a = *e % abstraction.states;
             value_at(set, *e) != machine::BLANK && !self.is_kept(ranks, low, k, set, c, a)
@@ -164,7 +164,7 @@ impl<'a> Section<'a> {
         ensures { result ≡ rank_of self.now.lifted.pair.now self.now.lifted.table.now self.now.j ranks.now e }
     {
         let abstraction = &self.lifted.pair.abstraction;
-        // cut by hand, as in `Tabled::entry_at`
+        // computed from the counts, as in `Tabled::entry_at`
         let c = e / abstraction.states;
         let a = e % abstraction.states;
         if is_matched(self.lifted.pair, c, a) && self.lifted.goal_holds(self.j, c, a) {

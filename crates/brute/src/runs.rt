@@ -1,5 +1,5 @@
 // The plain reading of document 01's "Player", with the single step of document 02, No. 10.
-ghost use Rattle.std.specs.Prelude.{true, ◌≡◌, ◌+◌, ◌*◌, ◌<◌, ◌≤◌, eqb, get_or, length};
+ghost use Rattle.std.specs.Prelude.{◌≡◌, ◌+◌, ◌*◌, ◌<◌, ◌≤◌, eqb, get_or, length};
 ghost use Rattle.machine.specs.Lassos.{lasso_length};
 ghost use Rattle.mask.specs.Bounded.{every, some, first, below};
 ghost use Rattle.mask.specs.Logic.{and};
@@ -14,6 +14,7 @@ ghost use Rattle.brute.specs.Runs.{as_place};
 
 use crate::lassos::Lasso;
 use crate::lines::Tabled;
+use crate::lists::element_or;
 use crate::machines::{is_matched, successors_of, validity};
 use machine::{Pair, Refusal, Run};
 
@@ -174,13 +175,6 @@ pub fn plain_play(p: Pair, table: &[u16], lasso: Lasso) -> Result<Run, Refusal>
     })
 }
 
-// State number i of a run, 0 past its end.
-fn byte_at(run: &[u8], i: usize) -> u8
-    ensures { result ≡ get_or run.now i 0 }
-{
-    run.get(i).copied().unwrap_or(0)
-}
-
 // Whether a run of n states is that of the rule; of a pair that is not well formed there is none.
 pub fn is_run(p: Pair, table: &[u16], lasso: Lasso, run: &[u8], n: usize) -> bool
     ensures { result ≡ and (well_formed p) (every n (λ t. eqb (get_or run.now t 0)
@@ -190,5 +184,5 @@ pub fn is_run(p: Pair, table: &[u16], lasso: Lasso, run: &[u8], n: usize) -> boo
         return false;
     }
     let tabled = Tabled { pair: &p, table };
-    (0..n).all(|t| byte_at(run, t) as usize == tabled.place_at(&lasso, t).state)
+    (0..n).all(|t| usize::from(element_or(run, t, 0)) == tabled.place_at(&lasso, t).state)
 }

@@ -4,4 +4,4 @@ use Rattle.brute.proofs.machines.in_set.Goals as goal
 
 pub returns : goal.returns
 unfolding in_fair_set fair_set
-returns c = c.has.ensures ∙ rw c.mask_at.ensures
+returns c = c.has.ensures ∙ rw c.element_or.ensures

@@ -3,4 +3,4 @@ use Rattle.brute.proofs.machines.successors_of.Goals as goal
 
 pub returns : goal.returns
 unfolding successors
-returns c = c.mask_at.ensures
+returns c = c.element_or.ensures
