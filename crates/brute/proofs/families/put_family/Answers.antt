@@ -4,7 +4,7 @@ use Rattle.std.specs.Prelude.{◌≡◌}
 use Rattle.machine.specs.Refusals.{valid}
 use Rattle.machine.specs.WellFormed.{pair_validity}
 use Rattle.machine.specs.WellFormedLaws.{valid_is_well, WellPair, entries_small, pairs_small, well_valid}
-use Rattle.std.specs.Prelude.{◌<◌, ◌≤◌, length}
+use Rattle.std.specs.Prelude.{◌≤◌, length}
 use Rattle.std.proofs.lemmas.List.{length-take-le}
 use Rattle.machine.specs.Table.{entries}
 use Rattle.brute.specs.Families.{family_entry}
@@ -48,11 +48,6 @@ slice_bounds-put_each-end-2 c = sym (length-take-le _ _ (room (goal.at.slice_bou
 
 pub invariant_of-formed : goal.invariant_of-formed
 invariant_of-formed c = record { well = valid_is_well _ (formed (goal.at.invariant_of-formed c).Else-is_err) }
-
-pub put_each-requires : goal.put_each-requires
-put_each-requires c =
-    let n = length-take-le _ _ (room (goal.at.put_each-requires c).Else-is_err) in
-    λ i l. let h : i < entries c.args.p = rw (← n) l in search (rules, h)
 
 pub returns : goal.returns
 returns c =

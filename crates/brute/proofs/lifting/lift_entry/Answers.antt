@@ -1,7 +1,7 @@
 -- An entry's number tells its section, c and a, which are within the counts.
 use mathlib.Core.Path.{◌∙◌, sym}
 use native.Mathlib.Omega.{arith}
-use Rattle.machine.specs.WellFormedLaws.{pairs_small, ranks_small}
+use Rattle.machine.specs.WellFormedLaws.{ranks_small}
 use Rattle.brute.specs.LiftingLaws.{Located, lifted_failing, lifted_passing, located}
 use Rattle.brute.proofs.WellLaws.{well_in}
 use Rattle.brute.proofs.lifting.lift_entry.Goals as goal
@@ -9,9 +9,6 @@ use Rattle.brute.proofs.lifting.lift_entry.Goals.{Start}
 
 place : (c : Start) → Located c.args.p.pair.now c.args.e
 place c = located c.args.p.pair.now (well_in c.args.p) c.args.e c.requires.0
-
-pub overflow_mul-pairs : goal.overflow_mul-pairs
-overflow_mul-pairs c = omega (arith, pairs_small _ (well_in c.args.p))
 
 pub entry_passes-requires : goal.entry_passes-requires
 entry_passes-requires c =

@@ -3,16 +3,13 @@ use mathlib.Core.Path.{◌∙◌, ◌≡◌, refl}
 use native.Mathlib.Omega.{arith}
 use borrow.Author.Rules.{rules}
 use Rattle.machine.specs.Table.{entries}
-use Rattle.machine.specs.WellFormedLaws.{entries_small, pairs_small}
+use Rattle.machine.specs.WellFormedLaws.{pairs_small}
 use Rattle.brute.specs.LiftingLaws.{swept_next, swept_none}
 use Rattle.brute.proofs.WellLaws.{well_in}
 use Rattle.brute.proofs.lifting.sweep.Goals as goal
 
 pub overflow_mul-e-end : goal.overflow_mul-e-end
 overflow_mul-e-end c = omega (arith, pairs_small _ (well_in c.args.p))
-
-pub overflow_mul-e-end-2 : goal.overflow_mul-e-end-2
-overflow_mul-e-end-2 c = omega (arith, entries_small _ (well_in c.args.p))
 
 pub loop-e-init : goal.loop-e-init
 loop-e-init c = let x = c.args in (search rules, refl, swept_none x.p.pair.now x.table.now)

@@ -80,9 +80,6 @@ returns-in_err-fits c =
     passed_on c.from_residual-in_err-fits.ensures
     ∙ sym (played_refused x.p x.table.now l _ (play_unfit x.p x.table.now l (formed at.In_ok-validity) (passed at.In_ok-lines) _ (sym c.fits.ensures ∙ c.in_err-fits.was)))
 
-pub least_partner-requires : goal.least_partner-requires
-least_partner-requires c = omega (arith, c.moment_at-first.type_inv)
-
 pub returns-in_err-ok_or : goal.returns-in_err-ok_or
 returns-in_err-ok_or c =
     let x = c.args in

@@ -1,12 +1,7 @@
 -- The invariant: the greatest such number up to x is the answer.
-use Rattle.std.proofs.Common.{ap, arith, sym, ◌∙◌}
-use Rattle.std.specs.Prelude.{ℕ}
-use Rattle.brute.specs.Ranking.{largest}
+use Rattle.std.proofs.Common.{arith, sym, ◌∙◌}
 use Rattle.brute.specs.RankingLaws.{largest_found, largest_less, largest_none}
 use Rattle.brute.proofs.ranking.Section.largest_set.Goals as goal
-
-pub loop-x-init : goal.loop-x-init
-loop-x-init c = let a = c.args in ap (λ (x : ℕ). largest a.self.now.lifted.pair.now a.self.now.lifted.table.now a.self.now.j a.ranks.now a.i x) (rw c.pairs.ensures at c.full-x.ensures)
 
 pub returns-then-is_closed : goal.returns-then-is_closed
 returns-then-is_closed c =

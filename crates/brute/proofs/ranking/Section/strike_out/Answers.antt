@@ -1,11 +1,9 @@
 -- The invariant: what is struck out from here in the turns that are left leaves the answer.
 use Rattle.std.proofs.Common.{arith, rules, sym, ◌∙◌}
-use Rattle.std.proofs.Math.Path.{refl}
 use Rattle.std.specs.Prelude.{length, ◌<◌}
 use Rattle.mask.specs.BoundedLaws.{below_at}
 use Rattle.machine.specs.Machines.{pairs}
 use Rattle.machine.specs.WellFormedLaws.{pairs_small}
-use native.Mathlib.Nat.{sub-zero}
 use lib.ListN.{length-set}
 use Rattle.brute.specs.RankingLaws.{struck_done, struck_next, struck_none}
 use Rattle.brute.proofs.WellLaws.{well_of}
@@ -17,9 +15,6 @@ inside : (c : In-Some) → c.in-Some.e < length c.loop.set
 inside c =
     let at = below_at (pairs c.args.self.now.lifted.pair.now) _ (sym c.first_unkept.ensures ∙ c.in-Some.is) in
     omega (arith, at.0, at.1, c.loop.invariant.1, c.requires.1)
-
-pub loop-init : goal.loop-init
-loop-init c = (search rules, refl, rw sub-zero)
 
 pub returns-in-None : goal.returns-in-None
 returns-in-None c =
