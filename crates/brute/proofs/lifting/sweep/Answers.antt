@@ -1,8 +1,7 @@
 -- The invariant: the first e entries have been raised, one after the other.
-use mathlib.Core.Path.{◌∙◌, ◌≡◌, refl}
+use mathlib.Core.Path.{◌∙◌, refl}
 use native.Mathlib.Omega.{arith}
 use borrow.Author.Rules.{rules}
-use Rattle.machine.specs.Table.{entries}
 use Rattle.machine.specs.WellFormedLaws.{pairs_small}
 use Rattle.brute.specs.LiftingLaws.{swept_next, swept_none}
 use Rattle.brute.proofs.WellLaws.{well_in}
@@ -19,9 +18,3 @@ loop-e-preserved c =
     let call = c.lift_entry in
     let x = c.args in
     (search rules, call.auto.table ∙ c.loop-e.invariant.1, swept_next x.p.pair.now x.table.now c.loop-e.e c.loop-e.invariant.2 call.ensures)
-
-pub returns : goal.returns
-returns c =
-    let l = c.loop-e in
-    let p = c.args.p.pair.now in
-    let e : l.e ≡ entries p = omega arith in rw (← e) l.invariant.2

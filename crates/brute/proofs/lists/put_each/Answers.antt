@@ -5,6 +5,3 @@ use Rattle.brute.proofs.lists.put_each.Goals as goal
 
 pub loop-i-preserved : goal.loop-i-preserved
 loop-i-preserved g c = each_turn (goal.F-post g c.args.f) c.loop-i.out c.loop-i.i c.f.result (omega arith) c.f.ensures c.loop-i.invariant
-
-pub returns : goal.returns
-returns g c = record { long = c.loop-i.auto.out; each = λ i l. c.loop-i.invariant i (omega arith) }

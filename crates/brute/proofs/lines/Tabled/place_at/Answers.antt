@@ -1,5 +1,5 @@
 -- The invariant: the place at moment i.
-use mathlib.Core.Path.{◌∙◌, ◌≡◌, ap}
+use mathlib.Core.Path.{◌∙◌, ap}
 use native.Mathlib.Numerals.{add-one}
 use native.Mathlib.Omega.{arith}
 use borrow.Author.Rules.{rules}
@@ -37,6 +37,3 @@ loop-i-preserved c =
       search rules,
       rw add-one (c.step_to-at.ensures ∙ rw (c.moment_at-c.ensures, c.moment_at-d.ensures, add-one) (place_next x.self.now.pair.now T l c.loop-i.i (as_place c.loop-i.at) c.loop-i.invariant.1)),
     )
-
-pub returns : goal.returns
-returns c = let e : c.loop-i.i ≡ c.args.t = omega arith in rw (← e) c.loop-i.invariant.1
