@@ -110,6 +110,7 @@ impl<'a> Section<'a> {
         requires { i < sets_c self.now.lifted.pair.now * pairs self.now.lifted.pair.now }
         ensures { result ≡ largest self.now.lifted.pair.now self.now.lifted.table.now self.now.j ranks.now i (full_mask (min (pairs self.now.lifted.pair.now) 64)) }
     {
+        // a loop and no `find`: the library's laws of it are of ranges that are gone through from below
         for x in (1..=mask::full(self.pairs())).rev() {
             if self.is_closed(ranks, i, x) {
                 return x;

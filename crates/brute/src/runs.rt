@@ -41,8 +41,8 @@ impl<'a> Tabled<'a> {
         ensures { result ≡ single_step (present_of present) moves (non_blank self.now.pair.now self.now.table.now j d) (entry self.now.pair.now self.now.table.now j d) }
     {
         let mut best = None;
-        // one pass that keeps the least key: filter and min_by_key would read each entry twice, first to leave out the blank ones
-        // twice a blank entry: every other has a lower key
+        // one pass that keeps the least key: filter and min_by_key would read each entry twice, first to leave out the blank ones;
+        // the first limit is twice a blank entry, and every other has a lower key
         let mut limit: u32 = 131070;
         for a in 0..64 {
             if mask::has(moves, a) && is_matched(self.pair, d, a) {
@@ -93,6 +93,7 @@ impl<'a> Tabled<'a> {
             state: found.unwrap_or(0),
             section: 0,
         };
+        // a loop and no `fold`: a step asks that the place before it is within the counts, as the loop's invariant says
         for i in 0..t {
             let c = lasso.moment_at(i) as usize;
             let d = lasso.moment_at(i + 1) as usize;
