@@ -1,1 +1,3 @@
+pub mod EachLaws
 pub mod MadeLaws
+pub mod WellLaws

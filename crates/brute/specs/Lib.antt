@@ -1,6 +1,8 @@
 -- definitions
 pub mod Asked
+pub mod Given
 pub mod Comparing
+pub mod Each
 pub mod Numbers
 pub mod Lines
 pub mod Runs

@@ -1,30 +1,26 @@
 -- Laws of machines as the plain reading meets them.
-use Rattle.std.specs.Prelude.{true, false, ◌≡◌, ◌<◌, ◌≤◌, ◌^◌, ℕ, eqb, get_or, leb, min, is_err, is_ok, refl, Ok, Err}
+use Rattle.std.specs.Prelude.{List, true, false, ◌≡◌, ◌<◌, ◌≤◌, ◌^◌, ℕ, eqb, get_or, leb, min, is_err, is_ok, refl, Ok, Err}
 use Rattle.std.proofs.Common.{sym, ap, ◌∙◌, arith, eq-eqb, ne_eqb, ⊎_elim}
 use Rattle.std.proofs.Math.Decide.{dec_lt}
 use Rattle.std.proofs.Math.Nat.{min-eq_left}
-use Rattle.std.proofs.lemmas.Bool.{lt-leb}
+use Rattle.std.proofs.Math.Logic.{by_cases}
+use borrow.Author.Tests.{le-leb, le-ltb, lt-leb, lt-ltb}
 use Rattle.mask.specs.Bits.{full_mask, has_bit}
 use Rattle.mask.specs.BitsLaws.{full_lt, has_beyond, has_none, no_bits_zero}
 use Rattle.mask.specs.Bounded.{some, some_in}
 use Rattle.mask.specs.BoundedLaws.{some_none, some_at, none_at}
-use Rattle.mask.specs.Logic.{and, not}
+use Rattle.mask.specs.Logic.{and, not, or}
 use Rattle.mask.specs.LogicLaws.{and_false_l, and_false_r, both, clash, dec, not_f, not_i}
-use Rattle.machine.specs.WellFormed.{beyond}
-use Rattle.machine.specs.Machines.{fair_set, successors}
+use Rattle.machine.specs.WellFormed.{beyond, set_beyond, state_beyond}
 use Rattle.machine.specs.Refusals.{Tested, valid}
-use Rattle.machine.specs.declared.Machine.{Machine}
 use Rattle.machine.specs.declared.Refusal.{Refusal}
 
--- the fields of a machine, by the names that document 01 has for them
-module _ (m : Machine) where
-  pub successors_at : {x : ℕ} (s : ℕ) → x ≡ successors m s → x ≡ get_or m.successors s 0
-  unfolding successors
-  successors_at s e = e
-
-  pub fair_at : {x : ℕ} (k : ℕ) → x ≡ fair_set m k → x ≡ get_or m.fairness k 0
-  unfolding fair_set
-  fair_at k e = e
+-- what is beyond at state s: its observation where there is no such state, or its successors, as a mask
+pub state_parts : (n : ℕ) (observations successors : List ℕ) (s : ℕ)
+    → state_beyond n observations successors s ≡ or (and (leb n s) (not (eqb (get_or observations s 0) 0))) (set_beyond n n successors s)
+unfolding state_beyond set_beyond and or
+state_parts n observations successors s =
+    by_cases (dec_lt s n) (λ l. rw (lt-ltb s n l, lt-leb n s l)) (λ l. rw (le-ltb s n (omega arith), le-leb n s (omega arith)))
 
 -- a number up to the mask of the states below n has no state at or past n
 pub full_not_beyond : (n m : ℕ) → m ≤ full_mask (min n 64) → beyond n m ≡ false

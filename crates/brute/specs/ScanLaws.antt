@@ -1,5 +1,5 @@
 -- Laws of a scan of all states that keeps the best one so far, and of the player's places.
-use Rattle.std.specs.Prelude.{Bool, false, true, List, ◌≡◌, refl, eqb, get_or, length, Err, None, Ok, Option, Some, is_some, unwrap_or, ℕ}
+use Rattle.std.specs.Prelude.{Bool, false, true, cond, not, List, ◌≡◌, refl, eqb, length, Err, None, Ok, Option, Some, is_some, unwrap_or, ℕ}
 use Rattle.std.proofs.Math.Logic.{by_cases}
 use Rattle.std.proofs.Common.{⊎_elim, ◌∙◌, sym, eq-eqb, eqb-true, le-ltb, lt-ltb, ne_eqb}
 use Prim.Native.Nat.{◌*◌, ◌+◌, ◌-◌, ◌<◌, ◌≤◌, suc, zero, ℕ}
@@ -7,6 +7,7 @@ use Rattle.std.proofs.Math.Decide.{dec_lt}
 use Rattle.std.proofs.Math.Nat.{le_of_lt}
 use Rattle.std.proofs.Math.Numerals.{add-one}
 use native.Mathlib.Omega.{arith}
+use mir.Val.{bool_byte}
 use Rattle.mask.specs.Bounded.{below, first, some}
 use Rattle.mask.specs.BoundedLaws.{first_before, first_has, is_below, some_none, some_of}
 use Rattle.mask.specs.Logic.{and}
@@ -15,13 +16,13 @@ use Rattle.std.specs.Option.{ok_or, option_eq}
 use Rattle.machine.specs.Lassos.{Lasso, moment}
 use Rattle.machine.specs.Lines.{non_blank}
 use Rattle.machine.specs.LinesLaws.{covers_at}
-use Rattle.machine.specs.Machines.{moves, n_a, n_c, sets_a, successors}
+use Rattle.machine.specs.Machines.{moves, sets_a, successors}
 use Rattle.machine.specs.PartnerLaws.{better_in, better_out, least_miss, least_step, limit_of, partner_view}
 use Rattle.machine.specs.Player.{Place, earlier_round, follow, last_round, loop_length, loop_start, place_at, play_validity, same_place, section_after, start_partner, stem_length, step_to, play_answer}
 use Rattle.machine.specs.Refusals.{valid}
 use Rattle.machine.specs.RefusalsLaws.{then_of, then_refused}
 use Rattle.machine.specs.Step.{least, partner, present_of, staying, single_step, state_of}
-use Rattle.machine.specs.Table.{blank, covers, entry, entry_index}
+use Rattle.machine.specs.Table.{blank, covers, entry}
 use Rattle.machine.specs.PlayerLaws.{section_lt}
 use Rattle.machine.specs.declared.Pair.{Pair}
 use Rattle.machine.specs.declared.Refusal.{Refusal}
@@ -64,19 +65,24 @@ unfolding present_of
 present_told (Some b) a h = both _ _ (λ t. eq-eqb a b (sym (eqb-true b a t))) (λ t. eq-eqb b a (sym (eqb-true a b t)))
 present_told None a h = sym (ne_eqb a 64 (λ e. omega arith))
 
+-- the key from whether a state is another than the present one
+pub key_told : (o : Option ℕ) (a e : ℕ) (b : Bool) → a < 64 → b ≡ not (option_eq eqb o (Some a)) → 2 * e + bool_byte b ≡ staying (present_of o) (λ _. e) a
+unfolding staying
+key_told o a e b h t = rw (t, present_told o a h) (go (eqb a (present_of o)))
+  where
+    go : (c : Bool) → 2 * e + bool_byte (not c) ≡ 2 * e + cond c 0 1
+    go true = refl
+    go false = refl
+
 -- the key of a state from its entry
 pub keyed : (present : ℕ) (entries : ℕ → ℕ) (a e key : ℕ) → e ≡ entries a → key ≡ staying present (λ _. e) a → key ≡ staying present entries a
 unfolding staying
 keyed present entries a e key h k = k ∙ rw h
 
 -- what is not blank is below it
-module _ (p : Pair) (T : List ℕ) (small : (i : ℕ) → get_or T i 0 ≤ blank) where
-  pub entry_below : (j c a : ℕ) → covers p T j c a ≡ true → entry p T j c a < blank
-  unfolding entry
-  entry_below j c a t = let h = covers_at p T j c a t in let s = small (entry_index (n_c p) (n_a p) j c a) in lower _ s h
-    where
-      lower : (e : ℕ) → e ≤ blank → (e ≡ blank → ⊥) → e < blank
-      lower e s h = by_cases (dec_lt e blank) (λ l. l) (λ l. absurd (h (omega arith)))
+pub entry_below : (p : Pair) (T : List ℕ) (j c a : ℕ) → entry p T j c a ≤ blank → covers p T j c a ≡ true → entry p T j c a < blank
+entry_below p T j c a s t =
+    by_cases (dec_lt (entry p T j c a) blank) (λ l. l) (λ l. absurd (covers_at p T j c a t (omega arith)))
 
 -- ---- places stay within the abstract machine's 64 states and its sections
 pub state_small : (moves : ℕ) (S : ℕ → Bool) (key : ℕ → ℕ) → state_of (partner moves S key) < 64

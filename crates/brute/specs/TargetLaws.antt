@@ -20,7 +20,7 @@ use Rattle.machine.specs.Step.{steps}
 use Rattle.machine.specs.Table.{blank, covers, entry}
 use Rattle.machine.specs.WellFormedLaws.{WellPair, mul_bound}
 use Rattle.machine.specs.declared.Pair.{Pair}
-use Rattle.brute.specs.Lines.{hit, in_target}
+use Rattle.brute.specs.Lines.{fails, hit, in_target, row_fails, section_fails}
 use Rattle.brute.specs.declared.lines.Target.TheVariants.{AtMost, Lower, NonBlank}
 use Rattle.machine.specs.declared.Refusal.TheVariants.{FailingEntry}
 
@@ -120,28 +120,18 @@ unfolding below
 below_le n i = by_cases (dec_lt i n) (λ l. rw (lt-ltb i n l) (omega arith)) (λ l. rw (le-ltb i n (omega arith)) (omega arith))
 
 module _ (p : Pair) (T : List ℕ) where
-  -- what the three searches look for
-  abbrev pub fails : ℕ → ℕ → ℕ → Bool
-  fails j c a = not (passes p T j c a)
-
-  abbrev pub row_fails : ℕ → ℕ → Bool
-  row_fails j c = not (every (n_a p) (passes p T j c))
-
-  abbrev pub section_fails : ℕ → Bool
-  section_fails j = not (every (n_c p) (λ c. every (n_a p) (passes p T j c)))
-
-  pub lines_at_lem : (j c a : ℕ) → Some j ≡ below (sets_a p) (first (sets_a p) section_fails)
-      → c ≡ unwrap_or (below (n_c p) (first (n_c p) (row_fails j))) 0 → a ≡ unwrap_or (below (n_a p) (first (n_a p) (fails j c))) 0
+  pub lines_at_lem : (j c a : ℕ) → Some j ≡ below (sets_a p) (first (sets_a p) (section_fails p T))
+      → c ≡ unwrap_or (below (n_c p) (first (n_c p) (row_fails p T j))) 0 → a ≡ unwrap_or (below (n_a p) (first (n_a p) (fails p T j c))) 0
       → lines_validity p T ≡ Err (FailingEntry (j + 1) c a)
   unfolding lines_validity
   lines_at_lem j c a ej ec ea =
       let q = below_at (sets_a p) _ (sym ej) in
-      let l : first (n_c p) (row_fails j) < n_c p = failing_below (n_c p) _ (subst (λ k. section_fails k ≡ true) (sym q.0) (first_has (sets_a p) section_fails q.1)) in
-      let fc : c ≡ first (n_c p) (row_fails j) = ec ∙ below_is (n_c p) _ l in
-      let m : first (n_a p) (fails j c) < n_a p = failing_below (n_a p) _ (subst (λ k. row_fails j k ≡ true) (sym fc) (first_has (n_c p) (row_fails j) l)) in
-      let fa : a ≡ first (n_a p) (fails j c) = ea ∙ below_is (n_a p) _ m in
+      let l : first (n_c p) (row_fails p T j) < n_c p = failing_below (n_c p) _ (subst (λ k. section_fails p T k ≡ true) (sym q.0) (first_has (sets_a p) (section_fails p T) q.1)) in
+      let fc : c ≡ first (n_c p) (row_fails p T j) = ec ∙ below_is (n_c p) _ l in
+      let m : first (n_a p) (fails p T j c) < n_a p = failing_below (n_a p) _ (subst (λ k. row_fails p T j k ≡ true) (sym fc) (first_has (n_c p) (row_fails p T j) l)) in
+      let fa : a ≡ first (n_a p) (fails p T j c) = ea ∙ below_is (n_a p) _ m in
       rw (← q.0, ← fc, ← fa, lt-ltb j (sets_a p) (rw q.0 q.1), add-one)
 
-  pub lines_none : None ≡ below (sets_a p) (first (sets_a p) section_fails) → lines_validity p T ≡ valid
+  pub lines_none : None ≡ below (sets_a p) (first (sets_a p) (section_fails p T)) → lines_validity p T ≡ valid
   unfolding lines_validity
   lines_none e = rw (le-ltb _ (sets_a p) (below_past (sets_a p) _ (sym e)))

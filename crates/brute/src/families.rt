@@ -1,31 +1,32 @@
 // Families of sets of pairs, as the solver by turns takes them: 448 masks, row j x 64 + c for section j and concrete state c. Any content is one.
-ghost use Rattle.std.specs.Prelude.{true, ◌≡◌, ◌<◌};
+ghost use Rattle.std.specs.Prelude.{◌≡◌, ◌<◌};
 ghost use Rattle.mask.specs.Bits.{has_bit};
 ghost use Rattle.mask.specs.Bounded.{every};
 ghost use Rattle.mask.specs.Logic.{not, or};
-ghost use Rattle.machine.specs.WellFormed.{well_formed};
 ghost use Rattle.machine.specs.Table.{entries};
 ghost use Rattle.brute.specs.Families.{is_pair, holds_pairs, family_entry, family_table, row_number, numbered_family};
 
+use crate::lists::put_each;
 use crate::machines::{is_matched, validity};
 use crate::numbers::digit;
-use machine::Pair;
+use machine::{Formed, Pair};
 use std::array;
 
 // ---- The table that covers what a family holds
 
 // Entry number e: 0 for a matched pair whose bit is set, and else blank.
-fn family_entry(p: &Pair, family: &[u64; 448], e: usize) -> u16
-    requires { (well_formed p.now ≡ true) × (e < entries p.now) }
-    ensures { result ≡ family_entry p.now family.now e }
+fn family_entry(p: Formed, family: &[u64; 448], e: usize) -> u16
+    requires { e < entries p.pair.now }
+    ensures { result ≡ family_entry p.entry.pair.now family.now e }
 {
-    let concrete = &p.concrete;
-    let abstraction = &p.abstraction;
+    let concrete = &p.pair.concrete;
+    let abstraction = &p.pair.abstraction;
     let pairs = concrete.states * abstraction.states;
+    // computed from the counts, as in `Tabled::entry_at`
     let j = e / pairs;
     let c = e % pairs / abstraction.states;
     let a = e % abstraction.states;
-    if is_matched(p, c, a) && mask::has(family[j * 64 + c], a) {
+    if is_matched(p.pair, c, a) && mask::has(family[j * 64 + c], a) {
         0
     } else {
         machine::BLANK
@@ -42,9 +43,8 @@ pub fn put_family(p: Pair, family: &[u64; 448], table: &mut [u16])
         return;
     }
     let entries = abstraction.sets * (concrete.states * abstraction.states);
-    for (e, entry) in table[..entries].iter_mut().enumerate() {
-        *entry = family_entry(&p, family, e);
-    }
+    let formed = Formed { pair: &p };
+    put_each(&mut table[..entries], |e| family_entry(formed, family, e));
 }
 
 // ---- Stray bits
@@ -70,6 +70,7 @@ fn row_holds(p: &Pair, j: usize, c: usize, row: u64) -> bool
 pub fn holds_pairs(p: Pair, family: &[u64; 448]) -> bool
     ensures { result ≡ holds_pairs p family.now }
 {
+    // computed, as in `row_number`
     (0..448).all(|e| row_holds(&p, e / 64, e % 64, family[e]))
 }
 
@@ -80,6 +81,7 @@ fn row_number(n: u8, nc: u8, e: usize) -> usize
     requires { e < 448 }
     ensures { result ≡ row_number n nc e }
 {
+    // computed, since a family is handed over as one array of 448 rows
     let sections = n as usize;
     let width = nc as usize;
     let j = e / 64;

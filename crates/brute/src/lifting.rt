@@ -1,14 +1,13 @@
 // A solver by another algorithm, first half: lifting. Every entry starts at 0; an entry that fails its line is raised by one, and to blank
 // after the greatest rank, until each line passes. Raising keeps every passing table at or above the one that is raised, so what is left
 // non-blank in the end is all that a passing table can cover; its entries need not be the ranks.
-ghost use Rattle.std.specs.Prelude.{true, ◌++◌, ◌≡◌, ◌<◌, ◌≤◌, length, drop, replicate};
-ghost use Rattle.machine.specs.WellFormed.{well_formed};
+ghost use Rattle.std.specs.Prelude.{◌++◌, ◌≡◌, ◌<◌, ◌≤◌, length, drop, replicate};
 ghost use Rattle.machine.specs.Table.{entries};
 ghost use Rattle.brute.specs.Lifting.{raised, lifted_at, swept, lifted_table};
 
-use crate::lines::{entry_passes, lines};
+use crate::lines::Tabled;
 use crate::machines::validity;
-use machine::Pair;
+use machine::{Formed, Pair};
 
 // The entry after e: one more, and blank after the greatest rank.
 fn raise(most: usize, e: u16) -> u16
@@ -23,27 +22,32 @@ fn raise(most: usize, e: u16) -> u16
 }
 
 // Raises entry number e where it fails its line.
-fn lift_entry(p: &Pair, table: &mut [u16], e: usize)
-    requires { (well_formed p.now ≡ true) × ((e < entries p.now) × (entries p.now ≤ length table.old)) }
-    ensures { table.new ≡ lifted_at p.now e table.old }
+fn lift_entry(p: Formed, table: &mut [u16], e: usize)
+    requires { (e < entries p.pair.now) × (entries p.pair.now ≤ length table.old) }
+    ensures { table.new ≡ lifted_at p.entry.pair.now e table.old }
 {
-    let concrete = &p.concrete;
-    let abstraction = &p.abstraction;
+    let concrete = &p.pair.concrete;
+    let abstraction = &p.pair.abstraction;
     let pairs = concrete.states * abstraction.states;
+    // computed from the counts, as in `Tabled::entry_at`
     let c = e % pairs / abstraction.states;
     let a = e % abstraction.states;
-    if !entry_passes(p, table, e / pairs, c, a) {
+    let tabled = Tabled {
+        pair: p.pair,
+        table,
+    };
+    if !tabled.entry_passes(e / pairs, c, a) {
         table[e] = raise(concrete.sets * pairs, table[e]);
     }
 }
 
 // Raises each entry that fails, in the order of the entries.
-fn sweep(p: &Pair, table: &mut [u16])
-    requires { (well_formed p.now ≡ true) × (entries p.now ≤ length table.old) }
-    ensures { table.new ≡ swept p.now (entries p.now) table.old }
+fn sweep(p: Formed, table: &mut [u16])
+    requires { entries p.pair.now ≤ length table.old }
+    ensures { table.new ≡ swept p.entry.pair.now (entries p.entry.pair.now) table.old }
 {
-    let concrete = &p.concrete;
-    let abstraction = &p.abstraction;
+    let concrete = &p.pair.concrete;
+    let abstraction = &p.pair.abstraction;
     for e in 0..abstraction.sets * (concrete.states * abstraction.states) {
         lift_entry(p, table, e);
     }
@@ -69,10 +73,12 @@ pub fn lift(p: Pair, table: &mut [u16])
     let pairs = concrete.states * abstraction.states;
     let count = abstraction.sets * pairs;
     put_zeros(count, table);
+    let formed = Formed { pair: &p };
     for _ in 0..count * (concrete.sets * pairs + 2) {
-        if lines(&p, table).is_ok() {
+        let tabled = Tabled { pair: &p, table };
+        if tabled.lines().is_ok() {
             return;
         }
-        sweep(&p, table);
+        sweep(formed, table);
     }
 }

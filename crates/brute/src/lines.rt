@@ -1,7 +1,6 @@
 // The plain reading of document 01's "Line check".
 ghost use Rattle.std.specs.Prelude.{true, ◌≡◌, ◌<◌, ◌≤◌, get_or, Ok};
-ghost use Rattle.mask.specs.Bounded.{every, first, below, some_in};
-ghost use Rattle.mask.specs.Logic.{not};
+ghost use Rattle.mask.specs.Bounded.{first, below, some_in};
 ghost use Rattle.machine.specs.Machines.{successors, n_c, n_a, sets_a};
 ghost use Rattle.machine.specs.WellFormed.{has_empty_set, well_formed};
 ghost use Rattle.machine.specs.Step.{steps};
@@ -9,17 +8,27 @@ ghost use Rattle.machine.specs.Ranks.{level_of, set_of};
 ghost use Rattle.machine.specs.Table.{entry, covered_count};
 ghost use Rattle.machine.specs.Lines.{passes, goal_line, rank_line, lines_validity};
 ghost use Rattle.machine.specs.Verdict.{start_covered, lacking_start, start_verdict, verdict_of, empty_set_of, check_verdict, check_empty_set};
-ghost use Rattle.brute.specs.Lines.{hit, in_target};
+ghost use Rattle.brute.specs.Lines.{hit, in_target, fails, row_fails, section_fails};
 
+use crate::lists::element_or;
 use crate::machines::{has_empty_set, has_move, has_start, in_set, is_matched, validity};
 use machine::{Checked, Pair, Refusal, Verdict};
 
 // The entries that a line steps into: those that are not blank, those that are 0 or have a smaller l, those that are at most a number.
+// An enum and no closure: the definition `in_target` takes the three as data, and a closure's contract would have to state that predicate once more.
 #[derive(Clone, Copy)]
 pub enum Target {
     NonBlank,
     Lower(usize),
     AtMost(u16),
+}
+
+// A well-formed pair with a table, whose entries are looked at.
+#[derive(Clone, Copy)]
+pub struct Tabled<'a> {
+    pub pair: &'a Pair,
+    pub table: &'a [u16],
+    pub ghost well: { well_formed pair.now ≡ true },
 }
 
 // An entry's l and k, k counted from 0.
@@ -33,17 +42,7 @@ struct Level {
 pub fn value_at(table: &[u16], i: usize) -> u16
     ensures { result ≡ get_or table.now i 0 }
 {
-    table.get(i).copied().unwrap_or(0)
-}
-
-// The entry of (c, a) in section j.
-pub fn entry_at(p: &Pair, table: &[u16], j: usize, c: usize, a: usize) -> u16
-    requires { (well_formed p.now ≡ true) × ((j < 7) × ((c < 256) × (a ≤ 64))) }
-    ensures { result ≡ entry p.now table.now j c a }
-{
-    let concrete = &p.concrete;
-    let abstraction = &p.abstraction;
-    value_at(table, (j * concrete.states + c) * abstraction.states + a)
+    element_or(table, i, 0)
 }
 
 // The l and k of an entry that is not 0.
@@ -70,168 +69,179 @@ fn hits(t: Target, m: usize, e: u16) -> bool
     }
 }
 
-// Whether some successor of a is matched with d and has, beside it in section j, an entry that the line steps into.
-fn finds(p: &Pair, table: &[u16], t: Target, j: usize, d: usize, a: usize) -> bool
-    requires { (well_formed p.now ≡ true) × ((j < 7) × (d ≤ 64)) }
-    ensures { result ≡ some_in (n_a p.now) (successors p.now.abstraction a) (in_target p.now table.now t j d) }
-{
-    let concrete = &p.concrete;
-    let abstraction = &p.abstraction;
-    (0..abstraction.states).any(|b| {
-        has_move(abstraction, a, b)
-            && is_matched(p, d, b)
-            && hits(t, concrete.sets, entry_at(p, table, j, d, b))
-    })
-}
-
-// Whether (c, a) steps into the entries of section j that the line asks for.
-pub fn steps_into(p: &Pair, table: &[u16], t: Target, j: usize, c: usize, a: usize) -> bool
-    requires { (well_formed p.now ≡ true) × (j < 7) }
-    ensures { result ≡ steps p.now (in_target p.now table.now t j) c a }
-{
-    let concrete = &p.concrete;
-    (0..concrete.states).all(|d| !has_move(concrete, c, d) || finds(p, table, t, j, d, a))
-}
-
-// Entry 0: a is in set j, and the pair steps into the non-blank pairs of the next section.
-pub fn goal_holds(p: &Pair, table: &[u16], j: usize, c: usize, a: usize) -> bool
-    requires { (well_formed p.now ≡ true) × (j < sets_a p.now) }
-    ensures { result ≡ goal_line p.now table.now j c a }
-{
-    let abstraction = &p.abstraction;
-    let next = machine::next_section(abstraction.sets, j);
-    in_set(abstraction, j, a) && steps_into(p, table, Target::NonBlank, next, c, a)
-}
-
-// Entry e > 0: if c is in set k, the pair steps into entries that are 0 or have a smaller l, else into those that are at most e.
-fn rank_holds(p: &Pair, table: &[u16], j: usize, e: u16, c: usize, a: usize) -> bool
-    requires { (well_formed p.now ≡ true) × ((j < 7) × (0 < e)) }
-    ensures { result ≡ rank_line p.now table.now j e c a }
-{
-    let concrete = &p.concrete;
-    let rank = level_of(concrete.sets, e);
-    if in_set(concrete, rank.set, c) {
-        steps_into(p, table, Target::Lower(rank.level), j, c, a)
-    } else {
-        steps_into(p, table, Target::AtMost(e), j, c, a)
+impl<'a> Tabled<'a> {
+    // The entry of (c, a) in section j. Its place is computed from the counts, as section and states are from a number elsewhere: a table is one buffer
+    // without rows, as its file has it, and the counts are no constants.
+    pub fn entry_at(&self, j: usize, c: usize, a: usize) -> u16
+        requires { (j < 7) × ((c < 256) × (a ≤ 64)) }
+        ensures { result ≡ entry self.now.pair.now self.now.table.now j c a }
+    {
+        let concrete = &self.pair.concrete;
+        let abstraction = &self.pair.abstraction;
+        value_at(
+            self.table,
+            (j * concrete.states + c) * abstraction.states + a,
+        )
     }
-}
 
-// Whether the entry of (c, a) in section j passes.
-pub fn entry_passes(p: &Pair, table: &[u16], j: usize, c: usize, a: usize) -> bool
-    requires { (well_formed p.now ≡ true) × ((j < sets_a p.now) × ((c ≤ 64) × (a ≤ 64))) }
-    ensures { result ≡ passes p.now table.now j c a }
-{
-    let concrete = &p.concrete;
-    let abstraction = &p.abstraction;
-    let e = entry_at(p, table, j, c, a);
-    if e == machine::BLANK {
-        return true;
+    // Whether some successor of a is matched with d and has, beside it in section j, an entry that the line steps into.
+    fn finds(&self, t: Target, j: usize, d: usize, a: usize) -> bool
+        requires { (j < 7) × (d ≤ 64) }
+        ensures { result ≡ some_in (n_a self.now.pair.now) (successors self.now.pair.now.abstraction a) (in_target self.now.pair.now self.now.table.now t j d) }
+    {
+        let concrete = &self.pair.concrete;
+        let abstraction = &self.pair.abstraction;
+        (0..abstraction.states).any(|b| {
+            has_move(abstraction, a, b)
+                && is_matched(self.pair, d, b)
+                && hits(t, concrete.sets, self.entry_at(j, d, b))
+        })
     }
-    if !is_matched(p, c, a) {
-        return false;
+
+    // Whether (c, a) steps into the entries of section j that the line asks for.
+    pub fn steps_into(&self, t: Target, j: usize, c: usize, a: usize) -> bool
+        requires { j < 7 }
+        ensures { result ≡ steps self.now.pair.now (in_target self.now.pair.now self.now.table.now t j) c a }
+    {
+        let concrete = &self.pair.concrete;
+        (0..concrete.states).all(|d| !has_move(concrete, c, d) || self.finds(t, j, d, a))
     }
-    if e as usize > concrete.sets * (concrete.states * abstraction.states) {
-        return false;
+
+    // Entry 0: a is in set j, and the pair steps into the non-blank pairs of the next section.
+    pub fn goal_holds(&self, j: usize, c: usize, a: usize) -> bool
+        requires { j < sets_a self.now.pair.now }
+        ensures { result ≡ goal_line self.now.pair.now self.now.table.now j c a }
+    {
+        let abstraction = &self.pair.abstraction;
+        let next = machine::next_section(abstraction.sets, j);
+        in_set(abstraction, j, a) && self.steps_into(Target::NonBlank, next, c, a)
     }
-    if e == 0 {
-        return goal_holds(p, table, j, c, a);
+
+    // Entry e > 0: if c is in set k, the pair steps into entries that are 0 or have a smaller l, else into those that are at most e.
+    fn rank_holds(&self, j: usize, e: u16, c: usize, a: usize) -> bool
+        requires { (j < 7) × (0 < e) }
+        ensures { result ≡ rank_line self.now.pair.now self.now.table.now j e c a }
+    {
+        let concrete = &self.pair.concrete;
+        let rank = level_of(concrete.sets, e);
+        if in_set(concrete, rank.set, c) {
+            self.steps_into(Target::Lower(rank.level), j, c, a)
+        } else {
+            self.steps_into(Target::AtMost(e), j, c, a)
+        }
     }
-    rank_holds(p, table, j, e, c, a)
-}
 
-// The lowest a whose entry beside c in section j fails.
-fn failing_state(p: &Pair, table: &[u16], j: usize, c: usize) -> Option<usize>
-    requires { (well_formed p.now ≡ true) × ((j < sets_a p.now) × (c ≤ 64)) }
-    ensures { result ≡ below (n_a p.now) (first (n_a p.now) (λ a. not (passes p.now table.now j c a))) }
-{
-    let abstraction = &p.abstraction;
-    (0..abstraction.states).find(|a| !entry_passes(p, table, j, c, *a))
-}
+    // Whether the entry of (c, a) in section j passes.
+    pub fn entry_passes(&self, j: usize, c: usize, a: usize) -> bool
+        requires { (j < sets_a self.now.pair.now) × ((c ≤ 64) × (a ≤ 64)) }
+        ensures { result ≡ passes self.now.pair.now self.now.table.now j c a }
+    {
+        let concrete = &self.pair.concrete;
+        let abstraction = &self.pair.abstraction;
+        let e = self.entry_at(j, c, a);
+        if e == machine::BLANK {
+            return true;
+        }
+        if !is_matched(self.pair, c, a) {
+            return false;
+        }
+        if e as usize > concrete.sets * (concrete.states * abstraction.states) {
+            return false;
+        }
+        if e == 0 {
+            return self.goal_holds(j, c, a);
+        }
+        self.rank_holds(j, e, c, a)
+    }
 
-// The lowest c in whose row of section j an entry fails.
-fn failing_row(p: &Pair, table: &[u16], j: usize) -> Option<usize>
-    requires { (well_formed p.now ≡ true) × (j < sets_a p.now) }
-    ensures { result ≡ below (n_c p.now) (first (n_c p.now) (λ c. not (every (n_a p.now) (passes p.now table.now j c)))) }
-{
-    let concrete = &p.concrete;
-    (0..concrete.states).find(|c| failing_state(p, table, j, *c).is_some())
-}
+    // The lowest a whose entry beside c in section j fails.
+    fn failing_state(&self, j: usize, c: usize) -> Option<usize>
+        requires { (j < sets_a self.now.pair.now) × (c ≤ 64) }
+        ensures { result ≡ below (n_a self.now.pair.now) (first (n_a self.now.pair.now) (fails self.now.pair.now self.now.table.now j c)) }
+    {
+        let abstraction = &self.pair.abstraction;
+        (0..abstraction.states).find(|a| !self.entry_passes(j, c, *a))
+    }
 
-// The lowest section in which an entry fails.
-fn failing_section(p: &Pair, table: &[u16]) -> Option<usize>
-    requires { well_formed p.now ≡ true }
-    ensures { result ≡ below (sets_a p.now) (first (sets_a p.now) (λ j. not (every (n_c p.now) (λ c. every (n_a p.now) (passes p.now table.now j c))))) }
-{
-    let abstraction = &p.abstraction;
-    (0..abstraction.sets).find(|j| failing_row(p, table, *j).is_some())
-}
+    // The lowest c in whose row of section j an entry fails.
+    fn failing_row(&self, j: usize) -> Option<usize>
+        requires { j < sets_a self.now.pair.now }
+        ensures { result ≡ below (n_c self.now.pair.now) (first (n_c self.now.pair.now) (row_fails self.now.pair.now self.now.table.now j)) }
+    {
+        let concrete = &self.pair.concrete;
+        (0..concrete.states).find(|c| self.failing_state(j, *c).is_some())
+    }
 
-// 12, with the first entry that fails; the spot's section is counted from 1.
-pub fn lines(p: &Pair, table: &[u16]) -> Result<(), Refusal>
-    requires { well_formed p.now ≡ true }
-    ensures { result ≡ lines_validity p.now table.now }
-{
-    let Some(j) = failing_section(p, table) else {
-        return Ok(());
-    };
-    let c = failing_row(p, table, j).unwrap_or(0);
-    let a = failing_state(p, table, j, c).unwrap_or(0);
-    Err(Refusal::FailingEntry {
-        section: j + 1,
-        c,
-        a,
-    })
-}
+    // The lowest section in which an entry fails.
+    fn failing_section(&self) -> Option<usize>
+        ensures { result ≡ below (sets_a self.now.pair.now) (first (sets_a self.now.pair.now) (section_fails self.now.pair.now self.now.table.now)) }
+    {
+        let abstraction = &self.pair.abstraction;
+        (0..abstraction.sets).find(|j| self.failing_row(*j).is_some())
+    }
 
-// How many of the n x P entries are not blank.
-fn covered(p: &Pair, table: &[u16]) -> usize
-    requires { well_formed p.now ≡ true }
-    ensures { result ≡ covered_count p.now table.now }
-{
-    let concrete = &p.concrete;
-    let abstraction = &p.abstraction;
-    let entries = abstraction.sets * (concrete.states * abstraction.states);
-    (0..entries)
-        .filter(|e| value_at(table, *e) != machine::BLANK)
-        .count()
-}
+    // 12, with the first entry that fails; the spot's section is counted from 1.
+    pub fn lines(&self) -> Result<(), Refusal>
+        ensures { result ≡ lines_validity self.now.pair.now self.now.table.now }
+    {
+        let Some(j) = self.failing_section() else {
+            return Ok(());
+        };
+        let c = self.failing_row(j).unwrap_or(0);
+        let a = self.failing_state(j, c).unwrap_or(0);
+        Err(Refusal::FailingEntry {
+            section: j + 1,
+            c,
+            a,
+        })
+    }
 
-// Whether c has an abstract start state beside it that is not blank in section 1.
-fn start_covered(p: &Pair, table: &[u16], c: usize) -> bool
-    requires { (well_formed p.now ≡ true) × (c ≤ 64) }
-    ensures { result ≡ start_covered p.now table.now c }
-{
-    let abstraction = &p.abstraction;
-    (0..abstraction.states).any(|a| {
-        has_start(abstraction, a) && entry_at(p, table, 0, c, a) != machine::BLANK
-    })
-}
+    // How many of the n x P entries are not blank.
+    fn covered(&self) -> usize
+        ensures { result ≡ covered_count self.now.pair.now self.now.table.now }
+    {
+        let concrete = &self.pair.concrete;
+        let abstraction = &self.pair.abstraction;
+        let entries = abstraction.sets * (concrete.states * abstraction.states);
+        (0..entries)
+            .filter(|e| value_at(self.table, *e) != machine::BLANK)
+            .count()
+    }
 
-// The lowest concrete start state that has none.
-fn lacking_start(p: &Pair, table: &[u16]) -> Option<usize>
-    requires { well_formed p.now ≡ true }
-    ensures { result ≡ below (n_c p.now) (lacking_start p.now table.now) }
-{
-    let concrete = &p.concrete;
-    (0..concrete.states).find(|c| has_start(concrete, *c) && !start_covered(p, table, *c))
-}
+    // Whether c has an abstract start state beside it that is not blank in section 1.
+    fn start_covered(&self, c: usize) -> bool
+        requires { c ≤ 64 }
+        ensures { result ≡ start_covered self.now.pair.now self.now.table.now c }
+    {
+        let abstraction = &self.pair.abstraction;
+        (0..abstraction.states).any(|a| {
+            has_start(abstraction, a) && self.entry_at(0, c, a) != machine::BLANK
+        })
+    }
 
-// What is said of a table that passes each line.
-fn start_checked(p: &Pair, table: &[u16]) -> Checked
-    requires { well_formed p.now ≡ true }
-    ensures verdict { result.verdict ≡ start_verdict p.now table.now }
-    ensures empty { result.empty_set ≡ has_empty_set p.now.concrete }
-{
-    let covered = covered(p, table);
-    let verdict = match lacking_start(p, table) {
-        Some(lacking) => Verdict::NotCarried { lacking, covered },
-        None => Verdict::Carried { covered },
-    };
-    let concrete = &p.concrete;
-    Checked {
-        verdict,
-        empty_set: has_empty_set(concrete),
+    // The lowest concrete start state that has none.
+    fn lacking_start(&self) -> Option<usize>
+        ensures { result ≡ below (n_c self.now.pair.now) (lacking_start self.now.pair.now self.now.table.now) }
+    {
+        let concrete = &self.pair.concrete;
+        (0..concrete.states).find(|c| has_start(concrete, *c) && !self.start_covered(*c))
+    }
+
+    // What is said of a table that passes each line.
+    fn start_checked(&self) -> Checked
+        ensures verdict { result.verdict ≡ start_verdict self.now.pair.now self.now.table.now }
+        ensures empty { result.empty_set ≡ has_empty_set self.now.pair.now.concrete }
+    {
+        let covered = self.covered();
+        let verdict = match self.lacking_start() {
+            Some(lacking) => Verdict::NotCarried { lacking, covered },
+            None => Verdict::Carried { covered },
+        };
+        let concrete = &self.pair.concrete;
+        Checked {
+            verdict,
+            empty_set: has_empty_set(concrete),
+        }
     }
 }
 
@@ -244,6 +254,7 @@ pub fn plain_verdict(p: Pair, table: &[u16]) -> Result<Checked, Refusal>
         return Err(Refusal::ShortBuffer);
     }
     validity(p)?;
-    lines(&p, table)?;
-    Ok(start_checked(&p, table))
+    let tabled = Tabled { pair: &p, table };
+    tabled.lines()?;
+    Ok(tabled.start_checked())
 }

@@ -1,21 +1,22 @@
 // The plain reading of machines: every question is asked of a state by its number.
 ghost use Rattle.std.specs.Prelude.{◌≡◌, eqb};
 ghost use Rattle.mask.specs.Logic.{not};
-ghost use Rattle.mask.specs.Bounded.{some, below};
-ghost use Rattle.machine.specs.Machines.{observation, successors, moves, starts, fair_set, in_fair_set, matched};
+ghost use Rattle.mask.specs.Bounded.{below};
+ghost use Rattle.machine.specs.Machines.{observation, successors, moves, starts, in_fair_set, matched};
 ghost use Rattle.brute.specs.Asked.{asks_states};
-ghost use Rattle.machine.specs.WellFormed.{counts_ok, beyond, state_beyond, set_beyond, is_beyond_counts, stuck_state, lowest_empty_set, has_empty_set, content_validity, sets_validity, content_tests, pair_tests, pair_validity, nonempty_validity};
+ghost use Rattle.machine.specs.WellFormed.{counts_ok, beyond, state_beyond, set_beyond, is_beyond_counts, first_empty, lowest_empty_set, has_empty_set, content_validity, sets_validity, content_tests, pair_tests, pair_validity, nonempty_validity};
 
+use crate::lists::element_or;
 use machine::{Machine, Pair, Refusal};
 
 // The successor mask of state s; a machine has 64, and past these an empty one.
 pub fn successors_of(m: &Machine, s: usize) -> u64
     ensures { result ≡ successors m.now s }
 {
-    m.successors.get(s).copied().unwrap_or(0)
+    element_or(&m.successors, s, 0)
 }
 
-// Whether t is a successor of s.
+// Whether t is a successor of s. This and `in_set` are one bit of a mask each, under the names that document 01 has for them.
 pub fn has_move(m: &Machine, s: usize, t: usize) -> bool
     ensures { result ≡ moves m.now s t }
 {
@@ -29,25 +30,18 @@ pub fn has_start(m: &Machine, s: usize) -> bool
     mask::has(m.start, s)
 }
 
-// The mask of set k; a machine has 8, and past these an empty one.
-pub fn set_of(m: &Machine, k: usize) -> u64
-    ensures { result ≡ fair_set m.now k }
-{
-    m.fairness.get(k).copied().unwrap_or(0)
-}
-
 // Whether s is in set k.
 pub fn in_set(m: &Machine, k: usize, s: usize) -> bool
     ensures { result ≡ in_fair_set m.now k s }
 {
-    mask::has(set_of(m, k), s)
+    mask::has(element_or(&m.fairness, k, 0), s)
 }
 
 // The observation of state s; past the 64 of a machine it is 0.
 pub fn observed(m: &Machine, s: usize) -> u8
     ensures { result ≡ observation m.now s }
 {
-    m.observations.get(s).copied().unwrap_or(0)
+    element_or(&m.observations, s, 0)
 }
 
 // Whether (c, a) is matched.
@@ -78,57 +72,50 @@ fn has_past(n: usize, m: u64) -> bool
     m > mask::full(n) && (0..64).any(|s| mask::has(m, s) && n <= s)
 }
 
+// Whether mask i of `count` has something beyond the counts: a state, or anything at all where there is no such mask.
+fn mask_past(states: usize, count: usize, masks: &[u64], i: usize) -> bool
+    ensures { result ≡ set_beyond states count masks.now i }
+{
+    let mask = element_or(masks, i, 0);
+    if i < count {
+        has_past(states, mask)
+    } else {
+        mask != 0
+    }
+}
+
 // Whether state s has something beyond the counts: a successor, or anything at all where the machine has no such state.
 fn state_past(m: &Machine, s: usize) -> bool
     ensures { result ≡ state_beyond m.now.states m.now.observations m.now.successors s }
 {
-    if s < m.states {
-        has_past(m.states, successors_of(m, s))
-    } else {
-        observed(m, s) != 0 || successors_of(m, s) != 0
-    }
-}
-
-// Whether some state has something beyond the counts.
-fn states_past(m: &Machine) -> bool
-    ensures { result ≡ some 64 (state_beyond m.now.states m.now.observations m.now.successors) }
-{
-    (0..64).any(|s| state_past(m, s))
-}
-
-// Whether set k has something beyond the counts: a state, or anything at all where the machine has no such set.
-fn set_past(m: &Machine, k: usize) -> bool
-    ensures { result ≡ set_beyond m.now.states m.now.sets m.now.fairness k }
-{
-    if k < m.sets {
-        has_past(m.states, set_of(m, k))
-    } else {
-        set_of(m, k) != 0
-    }
-}
-
-// Whether some set has something beyond the counts.
-fn sets_past(m: &Machine) -> bool
-    ensures { result ≡ some 8 (set_beyond m.now.states m.now.sets m.now.fairness) }
-{
-    (0..8).any(|k| set_past(m, k))
+    (m.states <= s && observed(m, s) != 0) || mask_past(m.states, m.states, &m.successors, s)
 }
 
 // Whether a bit or an entry of a machine lies beyond its counts.
 fn is_past(m: &Machine) -> bool
     ensures { result ≡ is_beyond_counts m.now }
 {
-    has_past(m.states, m.start) || states_past(m) || sets_past(m)
+    has_past(m.states, m.start)
+        || (0..64).any(|s| state_past(m, s))
+        || (0..8).any(|k| mask_past(m.states, m.sets, &m.fairness, k))
 }
 
-// The lowest state without a successor.
-fn stuck(m: &Machine) -> Option<usize>
-    ensures { result ≡ below 64 (stuck_state m.now.states m.now.successors) }
+// Whether a mask has a state.
+fn has_state(members: u64) -> bool
+    ensures { result ≡ not (eqb members 0) }
 {
-    (0..64).find(|s| *s < m.states && successors_of(m, *s) == 0)
+    (0..64).any(|s| mask::has(members, s))
 }
 
-// 9, 10 and 11 of machine number i of a pair.
+// The lowest of the first `count` masks without a state.
+fn first_empty(room: usize, count: usize, masks: &[u64]) -> Option<usize>
+    ensures { result ≡ below room (first_empty room count masks.now) }
+{
+    (0..room).find(|i| *i < count && !has_state(element_or(masks, *i, 0)))
+}
+
+// 9, 10 and 11 of machine number i of a pair. The number goes into the spot as it is, and a machine alone has number 0 whichever kind it is: an enum of
+// the two kinds would say too much.
 fn content(i: usize, m: &Machine) -> Result<(), Refusal>
     ensures { result ≡ content_validity i m.now }
 {
@@ -138,24 +125,17 @@ fn content(i: usize, m: &Machine) -> Result<(), Refusal>
     if m.start == 0 {
         return Err(Refusal::NoStart { machine: i });
     }
-    match stuck(m) {
+    match first_empty(64, m.states, &m.successors) {
         Some(state) => Err(Refusal::NoSuccessor { machine: i, state }),
         None => Ok(()),
     }
-}
-
-// Whether a set has a state.
-fn has_state(members: u64) -> bool
-    ensures { result ≡ not (eqb members 0) }
-{
-    (0..64).any(|s| mask::has(members, s))
 }
 
 // The lowest set without a state, counted from 0.
 fn empty_set(m: &Machine) -> Option<usize>
     ensures { result ≡ below 8 (lowest_empty_set m.now.sets m.now.fairness) }
 {
-    (0..8).find(|k| *k < m.sets && !has_state(set_of(m, *k)))
+    first_empty(8, m.sets, &m.fairness)
 }
 
 // Whether a machine has a set without a state.
@@ -178,7 +158,8 @@ fn sets_nonempty(i: usize, m: &Machine) -> Result<(), Refusal>
     }
 }
 
-// What is asked of the fairness sets: nothing, or that each has a state.
+// What is asked of the fairness sets: nothing, or that each has a state. One function makes both rows of tests, as the definition `pair_tests` takes
+// this as data; a closure that tests or does not would have to promise that once more.
 #[derive(Clone, Copy, Debug, PartialEq, Eq)]
 enum Sets {
     Any,
@@ -196,7 +177,8 @@ fn content_and_sets(asked: Sets, i: usize, m: &Machine) -> Result<(), Refusal>
     }
 }
 
-// 5, then these of the concrete machine and of the abstract one.
+// 5, then these of the concrete machine and of the abstract one. Callers have two names for it, `validity` and `nonempty_validity`, that say which
+// numbers each refuses.
 fn tests(asked: Sets, p: &Pair) -> Result<(), Refusal>
     ensures { result ≡ pair_tests (asks_states asked) p.now }
 {

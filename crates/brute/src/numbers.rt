@@ -3,6 +3,7 @@ ghost use Rattle.std.specs.Prelude.{cond, ◌≡◌, ◌+◌, length};
 ghost use Rattle.mask.specs.Bits.{has_bit};
 ghost use Rattle.brute.specs.Numbers.{digit_of, entry_of, numbered_table, states_of, numbered_machine, numbered_pair};
 
+use crate::lists::put_each;
 use machine::{Machine, Pair};
 use std::array;
 
@@ -27,7 +28,7 @@ pub fn digit(x: u64, top: u32, i: usize) -> u64
     rest % base
 }
 
-// Digit i of x where a test holds, and else 0.
+// Digit i of x where a test holds, and else 0. `b.then(|| digit(x, top, i)).unwrap_or(0)` says the same in more words.
 fn digit_if(b: bool, x: u64, top: u32, i: usize) -> u64
     ensures { result ≡ cond b (digit_of top x i) 0 }
 {
@@ -38,7 +39,7 @@ fn digit_if(b: bool, x: u64, top: u32, i: usize) -> u64
 fn observation_of(ones: u64, twos: u64, s: usize) -> u8
     ensures { result ≡ cond (has_bit ones s) 1 0 + cond (has_bit twos s) 2 0 }
 {
-    mask::has(ones, s) as u8 + 2 * mask::has(twos, s) as u8
+    u8::from(mask::has(ones, s)) + 2 * u8::from(mask::has(twos, s))
 }
 
 // Machine number x of a shape: digit 0 is its start mask, digit 1 has the states of an odd observation, then come the successor masks, then
@@ -81,16 +82,15 @@ pub fn put_entries(x: u64, top: u16, n: usize, table: &mut [u16])
     ensures { table.new ≡ numbered_table top x n table.old }
 {
     let end = n.min(table.len());
-    for (e, entry) in table[..end].iter_mut().enumerate() {
-        *entry = entry_of(digit(x, top as u32, e) as u16);
-    }
+    put_each(
+        &mut table[..end],
+        |e| entry_of(digit(x, u32::from(top), e) as u16),
+    );
 }
 
 // Fills `out` with the digits of x.
 pub fn put_states(x: u64, top: u8, out: &mut [u8])
     ensures { out.new ≡ states_of top x (length out.old) }
 {
-    for (i, state) in out.iter_mut().enumerate() {
-        *state = digit(x, top as u32, i) as u8;
-    }
+    put_each(out, |i| digit(x, u32::from(top), i) as u8);
 }

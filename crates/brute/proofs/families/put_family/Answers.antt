@@ -1,14 +1,14 @@
--- The invariant: the first e entries are those of the family, and the others are as they were.
-use Rattle.std.proofs.Common.{arith, sym, ◌∙◌}
+-- The first entries are those of the family, and the others are as they were.
+use Rattle.std.proofs.Common.{arith, rules, sym, tests, ◌∙◌}
 use Rattle.std.specs.Prelude.{◌≡◌}
 use Rattle.machine.specs.Refusals.{valid}
 use Rattle.machine.specs.WellFormed.{pair_validity}
 use Rattle.machine.specs.WellFormedLaws.{valid_is_well, WellPair, entries_small, pairs_small, well_valid}
-use Rattle.std.specs.Prelude.{◌≤◌, length, take}
+use Rattle.std.specs.Prelude.{◌≤◌, length}
 use Rattle.std.proofs.lemmas.List.{length-take-le}
-use Rattle.mask.specs.FrontLaws.{front_none, front_turn}
 use Rattle.machine.specs.Table.{entries}
-use Rattle.brute.specs.PartLaws.{part_filled}
+use Rattle.brute.specs.Families.{family_entry}
+use Rattle.brute.proofs.EachLaws.{each_front}
 use Rattle.brute.specs.MachineLaws.{none_refused, some_refused}
 use Rattle.brute.specs.FamiliesLaws.{family_ill, family_short, family_well}
 use Rattle.brute.proofs.families.put_family.Goals as goal
@@ -40,26 +40,18 @@ overflow_mul-entries c = omega (arith, pairs_small _ (well c))
 pub overflow_mul-entries-2 : goal.overflow_mul-entries-2
 overflow_mul-entries-2 c = omega (arith, entries_small _ (well c))
 
-pub slice_bounds-entry-items-end : goal.slice_bounds-entry-items-end
-slice_bounds-entry-items-end c = room c
+pub slice_bounds-put_each-end : goal.slice_bounds-put_each-end
+slice_bounds-put_each-end c = room (goal.at.slice_bounds-put_each-end c).Else-is_err
 
-pub slice_bounds-entry-items-end-2 : goal.slice_bounds-entry-items-end-2
-slice_bounds-entry-items-end-2 c = sym (length-take-le _ _ (room (goal.at.slice_bounds-entry-items-end-2 c).Else-is_err))
+pub slice_bounds-put_each-end-2 : goal.slice_bounds-put_each-end-2
+slice_bounds-put_each-end-2 c = sym (length-take-le _ _ (room (goal.at.slice_bounds-put_each-end-2 c).Else-is_err))
 
-pub loop-e-init : goal.loop-e-init
-loop-e-init c = front_none _ _
-
-pub family_entry-requires : goal.family_entry-requires
-family_entry-requires c =
-    let at = (goal.at.family_entry-requires c).Else-is_err in
-    let n : length (take (entries c.args.p) c.args.table.now) ≡ entries c.args.p = length-take-le _ _ (room at) in
-    (valid_is_well _ (formed at), rw (← n) c.loop-e-test.true)
-
-pub loop-e-preserved : goal.loop-e-preserved
-loop-e-preserved c = front_turn _ _ c.loop-e.invariant c.loop-e-test.true c.family_entry.ensures
+pub invariant_of-formed : goal.invariant_of-formed
+invariant_of-formed c = record { well = valid_is_well _ (formed (goal.at.invariant_of-formed c).Else-is_err) }
 
 pub returns : goal.returns
 returns c =
     let x = c.args in
     let at = (goal.at.returns c).Else-is_err in
-    family_well x.p x.family.now x.table.now c.if-table-lt-TABLE_ROOM.false (formed at) (part_filled _ x.table.now (entries x.p) (room at) c.loop-e.invariant (omega arith))
+    family_well x.p x.family.now x.table.now c.if-table-lt-TABLE_ROOM.false (formed at)
+    (each_front (family_entry x.p x.family.now) x.table.now (entries x.p) (room at) c.put_each.ensures (search (rules, tests)))

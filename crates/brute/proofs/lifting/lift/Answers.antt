@@ -1,13 +1,11 @@
 -- The invariant: what is lifted from here in the turns that are left is the answer.
 use Rattle.std.proofs.Common.{arith, rules, sym, ◌∙◌}
-use Rattle.std.proofs.Math.Path.{refl}
 use Rattle.std.specs.Prelude.{length, ◌*◌, ◌+◌, ◌-◌, ◌≡◌, ◌≤◌}
 use Rattle.machine.specs.Refusals.{valid}
 use Rattle.machine.specs.Machines.{pairs, sets_c}
 use Rattle.machine.specs.WellFormed.{pair_validity}
 use Rattle.machine.specs.WellFormedLaws.{WellPair, entries_small, pairs_small, ranks_small, valid_is_well, well_valid}
 use Rattle.machine.specs.Table.{entries, table_room}
-use native.Mathlib.Nat.{sub-zero}
 use Rattle.brute.specs.MachineLaws.{none_refused, ok_failed, ok_passed, some_refused}
 use Rattle.brute.specs.Lifting.{lifted, lifted_table}
 use Rattle.brute.specs.LiftingLaws.{lifted_done, lifted_ill, lifted_next, lifted_none, lifted_short, lifted_well, turns_small}
@@ -34,9 +32,6 @@ returns-then-table-lt-TABLE_ROOM c =
 room : (c : Else-is_err) → table_room ≤ length c.args.table.now
 room c = c.if-table-lt-TABLE_ROOM.false
 
-same : (c : At-loop) → length c.loop.table ≡ length c.args.table.now
-same c = c.loop.invariant.1 ∙ c.put_zeros.auto.table
-
 answer : (c : At-loop) → let x = c.args in
     lifted x.p (entries x.p * (sets_c x.p * pairs x.p + 2) - c.loop.counter) c.loop.table ≡ c.loop.table
     → c.loop.table ≡ lifted_table x.p x.table.now
@@ -62,20 +57,12 @@ overflow_add-end c = omega (arith, ranks_small _ (well (goal.at.overflow_add-end
 pub overflow_mul-end-2 : goal.overflow_mul-end-2
 overflow_mul-end-2 c = omega (arith, turns_small _ (well (goal.at.overflow_mul-end-2 c).Else-is_err))
 
-pub loop-init : goal.loop-init
-loop-init c = (search rules, refl, rw sub-zero)
-
-pub lines-requires : goal.lines-requires
-lines-requires c = valid_is_well _ (formed (goal.at.lines-requires c).Else-is_err)
+pub invariant_of-tabled : goal.invariant_of-tabled
+invariant_of-tabled c = record { well = valid_is_well _ (formed (goal.at.invariant_of-tabled c).Else-is_err) }
 
 pub returns-then-is_ok : goal.returns-then-is_ok
 returns-then-is_ok c =
     answer (goal.at.returns-then-is_ok c).At-loop (lifted_done _ c.loop.table _ (sym c.lines.ensures ∙ ok_passed _ (sym c.is_ok.ensures.value ∙ c.if-is_ok.true)))
-
-pub sweep-requires : goal.sweep-requires
-sweep-requires c =
-    let w = (goal.at.sweep-requires c).Else-is_err in
-    (valid_is_well _ (formed w), omega (arith, entries_small _ (well w), room w, same (goal.at.sweep-requires c).At-loop))
 
 pub loop-preserved : goal.loop-preserved
 loop-preserved c =

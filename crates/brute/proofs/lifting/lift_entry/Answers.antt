@@ -1,38 +1,33 @@
 -- An entry's number tells its section, c and a, which are within the counts.
 use mathlib.Core.Path.{◌∙◌, sym}
 use native.Mathlib.Omega.{arith}
-use Rattle.machine.specs.WellFormedLaws.{WellPair, pairs_small, ranks_small, well_pair}
+use Rattle.machine.specs.WellFormedLaws.{ranks_small}
 use Rattle.brute.specs.LiftingLaws.{Located, lifted_failing, lifted_passing, located}
+use Rattle.brute.proofs.WellLaws.{well_in}
 use Rattle.brute.proofs.lifting.lift_entry.Goals as goal
 use Rattle.brute.proofs.lifting.lift_entry.Goals.{Start}
 
-well : (c : Start) → WellPair c.args.p.now
-well c = well_pair c.args.p.now c.requires.0
-
-place : (c : Start) → Located c.args.p.now c.args.e
-place c = located c.args.p.now (well c) c.args.e c.requires.1.0
-
-pub overflow_mul-pairs : goal.overflow_mul-pairs
-overflow_mul-pairs c = omega (arith, pairs_small _ (well (goal.at.overflow_mul-pairs c).Start))
+place : (c : Start) → Located c.args.p.pair.now c.args.e
+place c = located c.args.p.pair.now (well_in c.args.p) c.args.e c.requires.0
 
 pub entry_passes-requires : goal.entry_passes-requires
 entry_passes-requires c =
-    let w = well (goal.at.entry_passes-requires c).Start in
+    let w = well_in c.args.p in
     let q = place (goal.at.entry_passes-requires c).Start in
-    (c.requires.0, (q.in_section, (omega (arith, q.in_row_lem, w.concrete.states_high), omega (arith, q.in_column, w.abstraction.states_high))))
+    (q.in_section, (omega (arith, q.in_row_lem, w.concrete.states_high), omega (arith, q.in_column, w.abstraction.states_high)))
 
 pub overflow_mul-concrete : goal.overflow_mul-concrete
-overflow_mul-concrete c = omega (arith, ranks_small _ (well (goal.at.overflow_mul-concrete c).Start))
+overflow_mul-concrete c = omega (arith, ranks_small _ (well_in c.args.p))
 
 pub raise-requires : goal.raise-requires
-raise-requires c = ranks_small _ (well (goal.at.raise-requires c).Start)
+raise-requires c = ranks_small _ (well_in c.args.p)
 
 pub returns-then-not-entry_passes : goal.returns-then-not-entry_passes
 returns-then-not-entry_passes c =
     let x = c.args in
-    lifted_failing x.p.now x.e x.table.now (sym c.entry_passes.ensures ∙ c.if-not-entry_passes.true) c.raise.ensures
+    lifted_failing x.p.pair.now x.e x.table.now (sym c.entry_passes.ensures ∙ c.if-not-entry_passes.true) c.raise.ensures
 
 pub returns-else-not-entry_passes : goal.returns-else-not-entry_passes
 returns-else-not-entry_passes c =
     let x = c.args in
-    lifted_passing x.p.now x.e x.table.now (sym c.entry_passes.ensures ∙ c.if-not-entry_passes.false)
+    lifted_passing x.p.pair.now x.e x.table.now (sym c.entry_passes.ensures ∙ c.if-not-entry_passes.false)

@@ -1,33 +1,20 @@
 -- The invariant: the first e entries have been raised, one after the other.
-use mathlib.Core.Path.{◌∙◌, ◌≡◌, refl}
+use mathlib.Core.Path.{◌∙◌, refl}
 use native.Mathlib.Omega.{arith}
 use borrow.Author.Rules.{rules}
-use Rattle.machine.specs.Table.{entries}
-use Rattle.machine.specs.WellFormedLaws.{WellPair, entries_small, pairs_small, well_pair}
+use Rattle.machine.specs.WellFormedLaws.{pairs_small}
 use Rattle.brute.specs.LiftingLaws.{swept_next, swept_none}
+use Rattle.brute.proofs.WellLaws.{well_in}
 use Rattle.brute.proofs.lifting.sweep.Goals as goal
-use Rattle.brute.proofs.lifting.sweep.Goals.{Start}
-
-well : (c : Start) → WellPair c.args.p.now
-well c = well_pair c.args.p.now c.requires.0
 
 pub overflow_mul-e-end : goal.overflow_mul-e-end
-overflow_mul-e-end c = omega (arith, pairs_small _ (well (goal.at.overflow_mul-e-end c).Start))
-
-pub overflow_mul-e-end-2 : goal.overflow_mul-e-end-2
-overflow_mul-e-end-2 c = omega (arith, entries_small _ (well (goal.at.overflow_mul-e-end-2 c).Start))
+overflow_mul-e-end c = omega (arith, pairs_small _ (well_in c.args.p))
 
 pub loop-e-init : goal.loop-e-init
-loop-e-init c = let x = c.args in (search rules, refl, swept_none x.p.now x.table.now)
+loop-e-init c = let x = c.args in (search rules, refl, swept_none x.p.pair.now x.table.now)
 
 pub loop-e-preserved : goal.loop-e-preserved
 loop-e-preserved c =
     let call = c.lift_entry in
     let x = c.args in
-    (search rules, call.auto.table ∙ c.loop-e.invariant.1, swept_next x.p.now x.table.now c.loop-e.e c.loop-e.invariant.2 call.ensures)
-
-pub returns : goal.returns
-returns c =
-    let l = c.loop-e in
-    let p = c.args.p.now in
-    let e : l.e ≡ entries p = omega arith in rw (← e) l.invariant.2
+    (search rules, call.auto.table ∙ c.loop-e.invariant.1, swept_next x.p.pair.now x.table.now c.loop-e.e c.loop-e.invariant.2 call.ensures)

@@ -5,7 +5,7 @@ use Rattle.brute.specs.Lifting.{swept}
 use Rattle.brute.proofs.lifting.sweep.Given as goal
 
 abbrev pub invariant-loop-e : goal.invariant-loop-e
-invariant-loop-e l = (l.e ≤ l.e-end) × (length l.table ≡ length l.initial.table) × (l.table ≡ swept l.p l.e l.initial.table)
+invariant-loop-e l = (l.e ≤ l.e-end) × (length l.table ≡ length l.initial.table) × (l.table ≡ swept l.p.pair.now l.e l.initial.table)
 
 abbrev pub decreases-loop-e : goal.decreases-loop-e
 decreases-loop-e l = l.e-end - l.e

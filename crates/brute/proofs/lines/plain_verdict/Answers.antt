@@ -24,8 +24,8 @@ returns-in_err-validity c =
       empty = ap empty_set_of (passed_on c.from_residual.ensures) ∙ sym (empty_told_refused x.p x.table.now said);
     }
 
-pub lines-requires : goal.lines-requires
-lines-requires c = valid_is_well _ (sym c.validity.ensures ∙ c.in_ok-validity.was)
+pub invariant_of-tabled : goal.invariant_of-tabled
+invariant_of-tabled c = record { well = valid_is_well _ (sym c.validity.ensures ∙ c.in_ok-validity.was) }
 
 pub returns-in_err-lines : goal.returns-in_err-lines
 unfolding verdict_of empty_set_of
@@ -36,9 +36,6 @@ returns-in_err-lines c =
       verdict = ap verdict_of (passed_on c.from_residual-in_err-lines.ensures) ∙ sym said;
       empty = ap empty_set_of (passed_on c.from_residual-in_err-lines.ensures) ∙ sym (empty_told_refused x.p x.table.now said);
     }
-
-pub start_checked-requires : goal.start_checked-requires
-start_checked-requires c = valid_is_well _ (sym c.validity.ensures ∙ c.in_ok-validity.was)
 
 pub returns : goal.returns
 unfolding verdict_of empty_set_of

@@ -20,10 +20,10 @@ returns-then-m-eq0 c = rw (sym c.is_past.ensures ∙ c.if-is_past.false, eq-eqb 
 pub returns-in-Some : goal.returns-in-Some
 unfolding content_validity
 returns-in-Some c =
-    let at = below_at 64 _ (sym c.stuck.ensures ∙ c.in-Some.is) in
+    let at = below_at 64 _ (sym c.first_empty.ensures ∙ c.in-Some.is) in
     rw (sym c.is_past.ensures ∙ c.if-is_past.false, ne_eqb _ 0 c.if-m-eq0.false, lt-ltb _ 64 at.1)
     (let refuse : ℕ → Tested = λ s. Err (NoSuccessor c.args.i s) in ap refuse at.0)
 
 pub returns-in-None : goal.returns-in-None
 unfolding content_validity
-returns-in-None c = rw (sym c.is_past.ensures ∙ c.if-is_past.false, ne_eqb _ 0 c.if-m-eq0.false, le-ltb _ 64 (below_past 64 _ (sym c.stuck.ensures ∙ c.in-None.is))) refl
+returns-in-None c = rw (sym c.is_past.ensures ∙ c.if-is_past.false, ne_eqb _ 0 c.if-m-eq0.false, le-ltb _ 64 (below_past 64 _ (sym c.first_empty.ensures ∙ c.in-None.is))) refl

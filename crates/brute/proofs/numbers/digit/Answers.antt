@@ -1,14 +1,10 @@
 -- The invariant: the digit that is asked for is one of what is left.
-use mathlib.Core.Path.{◌∙◌, ap}
+use mathlib.Core.Path.{◌∙◌}
 use Prim.Native.Nat.{◌+◌, ◌-◌}
 use native.Mathlib.Omega.{arith}
 use borrow.Author.Rules.{rules}
-use Rattle.brute.specs.Numbers.{digit_of}
 use Rattle.brute.specs.NumbersLaws.{digit_last, digit_rest}
 use Rattle.brute.proofs.numbers.digit.Goals as goal
-
-pub loop-init : goal.loop-init
-loop-init c = (search rules, search rules, ap (digit_of c.args.top c.args.x) (omega arith))
 
 pub loop-preserved : goal.loop-preserved
 loop-preserved c =

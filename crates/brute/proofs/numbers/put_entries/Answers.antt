@@ -1,27 +1,20 @@
--- The invariant: the first e entries are those of table number x, and the others are as they were.
-use Rattle.std.proofs.Common.{ap, arith, ◌∙◌}
-use Rattle.std.specs.Prelude.{◌≤◌}
-use Rattle.mask.specs.FrontLaws.{front_none, front_over, front_turn}
+use Rattle.std.proofs.Common.{arith, rules, tests}
+use Rattle.std.proofs.iter.Serving.{serving}
+use Rattle.std.specs.Prelude.{ℕ, ◌≤◌}
+use Rattle.mask.specs.FrontLaws.{front_over}
 use Rattle.brute.specs.Numbers.{digit_of, entry_of, numbered_table}
 use Rattle.brute.specs.NumbersLaws.{digit_le}
-use Rattle.brute.specs.PartLaws.{part_filled}
+use Rattle.brute.proofs.EachLaws.{each_front}
 use Rattle.brute.proofs.numbers.put_entries.Goals as goal
-use Rattle.brute.proofs.numbers.put_entries.Goals.{After-digit}
 
-small : (c : After-digit) → c.digit.result ≤ c.args.top
-small c = let x = c.args in rw c.digit.ensures (digit_le x.top x.x c.loop-e.e)
-
-pub loop-e-init : goal.loop-e-init
-loop-e-init c = front_none _ _
-
-pub overflow_cast-digit : goal.overflow_cast-digit
-overflow_cast-digit c = omega (arith, small c)
-
-pub loop-e-preserved : goal.loop-e-preserved
-loop-e-preserved c = front_turn _ _ c.loop-e.invariant (omega arith) (c.entry_of.ensures ∙ ap entry_of c.digit.ensures)
+pub put_each-requires : goal.put_each-requires
+put_each-requires c =
+    let small : (i : ℕ) → digit_of c.args.top c.args.x i ≤ c.args.top = digit_le c.args.top c.args.x in
+    grind (serving, small)
 
 pub returns : goal.returns
 unfolding numbered_table
 returns c =
     let x = c.args in
-    front_over (λ e. entry_of (digit_of x.top x.x e)) x.table.now (part_filled _ x.table.now c.min-end.result (omega arith) c.loop-e.invariant (omega arith)) x.n c.min-end.ensures
+    let digits : ℕ → ℕ = λ e. entry_of (digit_of x.top x.x e) in
+    front_over digits x.table.now (each_front digits x.table.now c.min-end.result (omega arith) c.put_each.ensures (search (rules, tests))) x.n c.min-end.ensures

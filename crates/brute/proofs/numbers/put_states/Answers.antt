@@ -1,24 +1,16 @@
--- The invariant: the first i elements are the digits of x.
-use Rattle.std.proofs.Common.{arith}
-use Rattle.std.specs.Prelude.{◌≤◌}
-use Rattle.mask.specs.FrontLaws.{front_all, front_none, front_turn}
-use Rattle.brute.specs.Numbers.{states_of}
+use Rattle.std.proofs.Common.{rules, tests}
+use Rattle.std.proofs.iter.Serving.{serving}
+use Rattle.std.specs.Prelude.{ℕ, ◌≤◌}
+use Rattle.brute.specs.Numbers.{digit_of, states_of}
 use Rattle.brute.specs.NumbersLaws.{digit_le}
+use Rattle.brute.proofs.EachLaws.{each_table}
 use Rattle.brute.proofs.numbers.put_states.Goals as goal
-use Rattle.brute.proofs.numbers.put_states.Goals.{After-digit}
 
-small : (c : After-digit) → c.digit.result ≤ c.args.top
-small c = let x = c.args in rw c.digit.ensures (digit_le x.top x.x c.loop-i.i)
-
-pub loop-i-init : goal.loop-i-init
-loop-i-init c = front_none _ _
-
-pub overflow_cast-state : goal.overflow_cast-state
-overflow_cast-state c = omega (arith, small c)
-
-pub loop-i-preserved : goal.loop-i-preserved
-loop-i-preserved c = front_turn _ _ c.loop-i.invariant (omega arith) c.digit.ensures
+pub put_each-requires : goal.put_each-requires
+put_each-requires c =
+    let small : (i : ℕ) → digit_of c.args.top c.args.x i ≤ c.args.top = digit_le c.args.top c.args.x in
+    grind (serving, small)
 
 pub returns : goal.returns
 unfolding states_of
-returns c = front_all _ _ c.loop-i.invariant (omega arith)
+returns c = each_table _ c.put_each.ensures (search (rules, tests))
