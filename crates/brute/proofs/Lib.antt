@@ -1,3 +1,2 @@
 pub mod EachLaws
-pub mod MadeLaws
 pub mod WellLaws

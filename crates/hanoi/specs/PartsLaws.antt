@@ -2,11 +2,9 @@
 use Rattle.std.specs.Prelude.{Bool, true, false, cond, ◌≡◌, ℕ, ◌+◌, ◌-◌, ◌^◌, ◌≤◌, ◌<◌, get_or}
 use mathlib.Core.List.{List, [], ◌∷◌, ◌++◌, map, flat_map, flatten, append_assoc}
 use Rattle.std.proofs.Math.Path.{refl, ap}
-use Rattle.std.proofs.Common.{sym, ap₂, ◌∙◌, ne_eqb, add-one}
+use Rattle.std.proofs.Common.{sym, ap₂, ◌∙◌, ne_eqb}
 use native.Mathlib.Omega.{arith}
-use Rattle.mask.specs.Bits.{has_bit, lowest_of, rest_of, with_bit}
-use Rattle.mask.specs.Tables.{mask_of}
-use Rattle.mask.specs.TablesLaws.{mask_of_hit, mask_of_miss}
+use Rattle.mask.specs.Bits.{has_bit, lowest_of, rest_of}
 use Rattle.text.specs.Decimal.{decimal}
 use Rattle.text.specs.DecimalLaws.{decimal_one}
 use Rattle.hanoi.specs.Words.{ascii, numbers, below, states_of, spread, joined}
@@ -135,17 +133,3 @@ module _ (k : ℕ) (observations successors fairness : List ℕ) where
   pub lines_past : (s n : ℕ) → n ≤ s → lines_from k observations successors fairness s n ≡ []
   unfolding lines_from
   lines_past s n h = flat_past (lines_at k observations successors fairness) s n h
-
--- ---- the mask of a state's sets
-module _ (fairness : List ℕ) (s : ℕ) where
-  pub sets_none : sets_mask 0 fairness s ≡ 0
-  unfolding sets_mask mask_of
-  sets_none = refl
-
-  pub sets_hit : (k : ℕ) → k < 64 → has_bit (get_or fairness k 0) s ≡ true → with_bit (sets_mask k fairness s) k ≡ sets_mask (k + 1) fairness s
-  unfolding sets_mask
-  sets_hit k h e = mask_of_hit k _ h e ∙ ap (λ (n : ℕ). mask_of n (λ j. has_bit (get_or fairness j 0) s)) (sym (add-one k))
-
-  pub sets_miss : (k : ℕ) → has_bit (get_or fairness k 0) s ≡ false → sets_mask k fairness s ≡ sets_mask (k + 1) fairness s
-  unfolding sets_mask
-  sets_miss k e = mask_of_miss k _ e ∙ ap (λ (n : ℕ). mask_of n (λ j. has_bit (get_or fairness j 0) s)) (sym (add-one k))

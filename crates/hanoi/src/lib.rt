@@ -143,13 +143,7 @@ fn sets_with(k: usize, fairness: &[u64; 8], s: usize) -> u64
     requires { k ≤ 8 }
     ensures { result ≡ sets_mask k fairness.now s }
 {
-    let mut m: u64 = 0;
-    for j in 0..k {
-        if mask::has(fairness[j], s) {
-            m = mask::with(m, j);
-        }
-    }
-    m
+    mask::those(k, |j| mask::has(fairness[j], s))
 }
 
 // Puts the lines of all states of a machine.

@@ -1,21 +1,12 @@
--- The invariant: the mask of the sets below j that have the state.
-use mathlib.Core.Path.{sym, ap, ◌∙◌}
-use Prim.Native.Nat.{ℕ}
-use native.Mathlib.Omega.{arith}
-use Rattle.mask.specs.Bits.{with_bit}
-use Rattle.hanoi.specs.PartsLaws.{sets_none, sets_hit, sets_miss}
+use Rattle.std.proofs.Common.{◌≡◌, ◌∙◌, ℕ, ap, arith, rules, tests, get_or, min}
+use Rattle.mask.specs.Bits.{has_bit}
+use Rattle.mask.specs.Tables.{mask_of}
+use Rattle.hanoi.specs.Parts.{sets_mask}
 use Rattle.hanoi.proofs.sets_with.Goals as goal
-use Rattle.hanoi.proofs.sets_with.Goals.{else-has, then-has}
 
-pub loop-j-init : goal.loop-j-init
-loop-j-init c = sym (sets_none _ _)
-
-pub loop-j-preserved : goal.loop-j-preserved
-loop-j-preserved c =
-    let l = c.loop-j in
+pub returns : goal.returns
+unfolding sets_mask
+returns c =
     let x = c.args in
-    let has = sym c.has.ensures in
-    elim c.if-has.branch [
-      | then-has w ↦ w.m-is ∙ w.with-m.ensures ∙ ap (λ (m : ℕ). with_bit m l.j) l.invariant ∙ sets_hit x.fairness.now x.s l.j (omega (arith, c.requires)) (has ∙ w.if-has.true)
-      | else-has w ↦ w.m-is ∙ l.invariant ∙ sets_miss x.fairness.now x.s l.j (has ∙ w.if-has.false)
-    ]
+    let few : min x.k 64 ≡ x.k = omega (arith, c.requires) in
+    c.those.ensures _ (search (rules, tests)) ∙ ap (λ (n : ℕ). mask_of n (λ j. has_bit (get_or x.fairness.now j 0) x.s)) few

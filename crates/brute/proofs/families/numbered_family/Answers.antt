@@ -1,6 +1,6 @@
 use Rattle.std.proofs.Common.{rules, tests}
 use Rattle.brute.specs.Families.{numbered_family}
-use Rattle.brute.proofs.MadeLaws.{made_table}
+use Rattle.mask.proofs.MadeLaws.{made_table}
 use Rattle.brute.proofs.families.numbered_family.Goals as goal
 
 pub returns : goal.returns

@@ -1,7 +1,7 @@
 use Rattle.std.proofs.Common.{arith, rules, tests}
 use Rattle.std.specs.Prelude.{min, ◌≡◌}
 use Rattle.brute.specs.NumbersLaws.{machine_is}
-use Rattle.brute.proofs.MadeLaws.{made_table}
+use Rattle.mask.proofs.MadeLaws.{made_table}
 use Rattle.std.proofs.iter.Serving.{serving}
 use Rattle.brute.proofs.numbers.numbered_machine.Goals as goal
 
