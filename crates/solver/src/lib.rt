@@ -38,12 +38,12 @@ impl Game {
     fn new(formed: &Formed) -> Game
         ensures { result.pair ≡ formed.now.pair.now }
     {
-        let p = *formed.pair;
-        let matched = machine::matched_masks(p);
+        let p = formed.pair;
+        let matched = machine::matched_masks(*p);
         let dependents = rows::predecessors(p.concrete.states, &p.concrete.successors);
         let predecessors = rows::predecessors(p.abstraction.states, &p.abstraction.successors);
         Game {
-            pair: p,
+            pair: *p,
             matched,
             dependents,
             predecessors,
