@@ -1,4 +1,4 @@
-// The lines of the solver by turns: document 02, No. 6, for the eye.
+// The lines of the solver by turns: document 02, No. 6, for the eye. Their words are put one behind the other, for the reason that `report::Line` gives.
 #![tactic(auto)]
 
 ghost use Rattle.std.specs.Prelude.{◌∷◌, ◌≡◌, ◌++◌, ◌<◌, take};
