@@ -288,7 +288,7 @@ fn read_numbers<T: Stored>(bytes: &[u8], out: &mut [T])
     }
 }
 
-// The machine of n states and some sets at a place.
+// The machine of n states and some sets at a place: the machines follow each other in one payload, whose counts tell where each begins.
 fn machine_at(q: &[u8], at: usize, n: usize, sets: usize) -> Machine
     requires n_bound { (n ≤ 64) × (sets ≤ 8) }
     requires sets_in_bounds { at + (9 * n + 8 * sets + 8) ≤ length q.now }
@@ -342,7 +342,7 @@ fn table_at(head: &Head, q: &[u8], table: &mut [u16])
 
 // ---- The reader
 
-// A machine of zeros, field by field, since `machine::Machine` derives no Default.
+// A machine of zeros, field by field: what a derived Default says of arrays of 64 was not proved (tried).
 fn zero_machine() -> Machine
     ensures { result ≡ zero_machine }
 {
