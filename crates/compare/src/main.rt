@@ -5,7 +5,7 @@ ghost use Rattle.std.specs.Prelude.{true, false, ◌≡◌, ◌≤◌, ◌-◌, 
 
 use brute::Shape;
 use comparison::{Numbers, Series, Tally, Trial};
-use rings::Rings;
+use rings::{Family, Rings};
 use std::io;
 
 // Writes the rest of a series' line.
@@ -208,15 +208,15 @@ fn ring(first: u32, second: u32, sets: usize) -> Rings
 // A pair of rings, with the solver's table and all that differ from it in one entry.
 #[derive(Clone, Copy)]
 struct RingPair {
-    entry: u32,
+    family: Family,
     concrete: Rings,
     abstraction: Rings,
     tables: u64,
 }
 
-fn rings_of(entry: u32, concrete: Rings, abstraction: Rings, tables: u64) -> RingPair {
+fn rings_of(family: Family, concrete: Rings, abstraction: Rings, tables: u64) -> RingPair {
     RingPair {
-        entry,
+        family,
         concrete,
         abstraction,
         tables,
@@ -226,34 +226,34 @@ fn rings_of(entry: u32, concrete: Rings, abstraction: Rings, tables: u64) -> Rin
 // Pairs of the first family: four of coprime rings, two of others, and one with an entry past the states.
 fn staying() -> [RingPair; 7] {
     [
-        rings_of(1, ring(2, 2, 2), ring(3, 3, 1), 7380),
-        rings_of(0, ring(3, 3, 1), ring(2, 2, 2), 8576),
-        rings_of(2, ring(3, 2, 1), ring(2, 5, 1), 6160),
-        rings_of(3, ring(2, 3, 1), ring(3, 5, 1), 7308),
-        rings_of(1, ring(3, 2, 1), ring(2, 3, 1), 4158),
-        rings_of(0, ring(2, 2, 2), ring(2, 2, 2), 9504),
-        rings_of(9, ring(2, 2, 1), ring(3, 3, 1), 3780),
+        rings_of(Family::Staying { entry: 1 }, ring(2, 2, 2), ring(3, 3, 1), 7380),
+        rings_of(Family::Staying { entry: 0 }, ring(3, 3, 1), ring(2, 2, 2), 8576),
+        rings_of(Family::Staying { entry: 2 }, ring(3, 2, 1), ring(2, 5, 1), 6160),
+        rings_of(Family::Staying { entry: 3 }, ring(2, 3, 1), ring(3, 5, 1), 7308),
+        rings_of(Family::Staying { entry: 1 }, ring(3, 2, 1), ring(2, 3, 1), 4158),
+        rings_of(Family::Staying { entry: 0 }, ring(2, 2, 2), ring(2, 2, 2), 9504),
+        rings_of(Family::Staying { entry: 9 }, ring(2, 2, 1), ring(3, 3, 1), 3780),
     ]
 }
 
 // Pairs of the second family: four of coprime rings, two of others, and one with too long a ring.
 fn leading_back() -> [RingPair; 7] {
     [
-        rings_of(0, ring(2, 2, 2), ring(3, 3, 1), 12402),
-        rings_of(0, ring(3, 3, 1), ring(2, 2, 2), 16016),
-        rings_of(0, ring(3, 2, 1), ring(2, 5, 1), 9898),
-        rings_of(0, ring(2, 3, 1), ring(3, 5, 1), 11340),
-        rings_of(0, ring(3, 2, 1), ring(2, 3, 1), 7308),
-        rings_of(0, ring(2, 2, 2), ring(2, 2, 1), 8910),
-        rings_of(0, ring(2, 2, 1), ring(3, 60, 1), 6318),
+        rings_of(Family::LeadingBack, ring(2, 2, 2), ring(3, 3, 1), 12402),
+        rings_of(Family::LeadingBack, ring(3, 3, 1), ring(2, 2, 2), 16016),
+        rings_of(Family::LeadingBack, ring(3, 2, 1), ring(2, 5, 1), 9898),
+        rings_of(Family::LeadingBack, ring(2, 3, 1), ring(3, 5, 1), 11340),
+        rings_of(Family::LeadingBack, ring(3, 2, 1), ring(2, 3, 1), 7308),
+        rings_of(Family::LeadingBack, ring(2, 2, 2), ring(2, 2, 1), 8910),
+        rings_of(Family::LeadingBack, ring(2, 2, 1), ring(3, 60, 1), 6318),
     ]
 }
 
-// Compares some pairs of one family.
-fn compare_rings(back: bool, pairs: &[RingPair]) -> Tally {
+// Compares some pairs of rings.
+fn compare_rings(pairs: &[RingPair]) -> Tally {
     let mut sum = Tally::default();
     for r in pairs {
-        let p = rings::ring_pair(back, r.entry, r.concrete, r.abstraction);
+        let p = rings::ring_pair(r.family, r.concrete, r.abstraction);
         sum = sum + comparison::compare_pair(p, altered_tables(r.tables, 2));
     }
     sum
@@ -272,7 +272,7 @@ fn main(rt: HostRuntime) -> io::Result<()> {
         }
     }
     print!(rt; "rings with ends that stay")?;
-    counts(&rt, compare_rings(false, &staying()))?;
+    counts(&rt, compare_rings(&staying()))?;
     print!(rt; "rings with an end that leads back")?;
-    counts(&rt, compare_rings(true, &leading_back()))
+    counts(&rt, compare_rings(&leading_back()))
 }

@@ -3,4 +3,4 @@ use Rattle.rings.proofs.ring_pair.Goals as goal
 
 pub returns : goal.returns
 unfolding ring_pair
-returns c = rw (c.ring_machine.ensures, c.ring_machine-2.ensures)
+returns c = rw (c.machine.ensures, c.machine-2.ensures)
