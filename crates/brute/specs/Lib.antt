@@ -1,5 +1,6 @@
 -- definitions
 pub mod Asked
+pub mod Given
 pub mod Comparing
 pub mod Numbers
 pub mod Lines

@@ -1,17 +1,17 @@
 -- Laws of lassos and runs as the plain reading meets them.
-use Rattle.std.specs.Prelude.{Bool, false, cond, List, [], ◌≡◌, ◌+◌, ◌-◌, ◌<◌, ◌≤◌, ℕ, eqb, leb, length, ltb}
+use Rattle.std.specs.Prelude.{Bool, false, cond, ◌≡◌, ◌+◌, ◌-◌, ◌<◌, ◌≤◌, ℕ, eqb, leb, length, ltb}
 use Rattle.std.proofs.Common.{◌∙◌, sym, add-one, arith, eq-eqb, le-ltb, lt-ltb, ne_eqb}
 use Rattle.std.proofs.Math.Decide.{ℕ_discrete}
 use Rattle.std.proofs.Math.Logic.{by_cases}
 use Rattle.std.proofs.Math.Path.{refl}
 use Rattle.std.proofs.Math.ListN.{get_or-eq_default}
-use Rattle.mask.specs.Bounded.{every, first}
+use Rattle.mask.specs.Bounded.{every}
 use Rattle.mask.specs.BoundedLaws.{every_cong}
 use Rattle.mask.specs.Logic.{and, not, or}
 use Rattle.mask.specs.LogicLaws.{and_false_l, and_true_l}
-use Rattle.machine.specs.Lassos.{Lasso, is_lasso, lasso_length, moment, given}
+use Rattle.machine.specs.Lassos.{Lasso, is_lasso, lasso_length, moment}
 use Rattle.machine.specs.Machines.{moves, starts}
-use Rattle.machine.specs.Player.{bad_step, missed_set}
+use Rattle.machine.specs.Player.{bad_step}
 use Rattle.machine.specs.LassosLaws.{moment_round}
 use Rattle.machine.specs.declared.Machine.{Machine}
 
@@ -28,11 +28,6 @@ module _ (m : Machine) (l : Lasso) where
   pub lasso_each : 0 < length l.loop → every (lasso_length l) (λ t. and (ltb (moment l t) m.states) (moves m (moment l t) (moment l (t + 1)))) ≡ is_lasso m l
   unfolding is_lasso
   lasso_each h = every_cong _ _ _ (λ t k. rw add-one) ∙ sym (and_true_l _ (lt-ltb 0 _ h))
-
--- ---- the stem makes no difference to fairness
-pub missed_loop : (m : Machine) (stem cycle : List ℕ) → first m.sets (missed_set m (given [] cycle)) ≡ first m.sets (missed_set m (given stem cycle))
-unfolding missed_set
-missed_loop m stem cycle = refl
 
 -- ---- 14 at position i, as code asks for it: s is the state there, the tests tell whether it is entered rightly and whether it is the last one
 module _ (m : Machine) (l : Lasso) (i s : ℕ) (at : s ≡ moment l i) where

@@ -13,7 +13,7 @@ mod ranking;
 mod runs;
 
 pub use families::{holds_pairs, numbered_family, put_family};
-pub use lassos::{is_play, same_until};
+pub use lassos::{Lasso, is_play, same_until};
 pub use lifting::lift;
 pub use lines::{plain_verdict, value_at};
 pub use machines::{nonempty_validity, validity};

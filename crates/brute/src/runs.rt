@@ -1,6 +1,6 @@
 // The plain reading of document 01's "Player", with the single step of document 02, No. 10.
-ghost use Rattle.std.specs.Prelude.{true, ◌≡◌, ◌+◌, ◌<◌, ◌≤◌, eqb, length, get_or};
-ghost use Rattle.machine.specs.Lassos.{given};
+ghost use Rattle.std.specs.Prelude.{true, ◌≡◌, ◌<◌, ◌≤◌, eqb, get_or};
+ghost use Rattle.machine.specs.Lassos.{lasso_length};
 ghost use Rattle.mask.specs.Bounded.{every, some, first, below};
 ghost use Rattle.mask.specs.Logic.{and};
 ghost use Rattle.machine.specs.Machines.{sets_a};
@@ -9,9 +9,10 @@ ghost use Rattle.machine.specs.Step.{present_of, staying, single_step};
 ghost use Rattle.machine.specs.Table.{entry};
 ghost use Rattle.machine.specs.Lines.{non_blank};
 ghost use Rattle.machine.specs.Player.{section_after, step_to, place_at, same_place, last_round, play_answer};
+ghost use Rattle.brute.specs.Given.{lent};
 ghost use Rattle.brute.specs.Runs.{as_place};
 
-use crate::lassos::{lasso_fits, moment_at};
+use crate::lassos::Lasso;
 use crate::lines::{entry_at, lines};
 use crate::machines::{is_matched, successors_of, validity};
 use machine::{Pair, Refusal, Run};
@@ -89,9 +90,9 @@ fn step_to(p: &Pair, table: &[u16], c: usize, at: Spot, d: usize) -> Spot
 }
 
 // The place at moment t, by the rule from the start.
-fn place_at(p: &Pair, table: &[u16], stem: &[u8], cycle: &[u8], t: usize) -> Spot
+fn place_at(p: &Pair, table: &[u16], lasso: &Lasso, t: usize) -> Spot
     requires { well_formed p.now ≡ true }
-    ensures { as_place result ≡ place_at p.now table.now (given stem.now cycle.now) t }
+    ensures { as_place result ≡ place_at p.now table.now (lent lasso.now) t }
 {
     let abstraction = &p.abstraction;
     let found = least_partner(
@@ -100,69 +101,69 @@ fn place_at(p: &Pair, table: &[u16], stem: &[u8], cycle: &[u8], t: usize) -> Spo
         None,
         abstraction.start,
         0,
-        moment_at(stem, cycle, 0) as usize,
+        lasso.moment_at(0) as usize,
     );
     let mut at = Spot {
         state: found.unwrap_or(0),
         section: 0,
     };
     for i in 0..t {
-        let c = moment_at(stem, cycle, i) as usize;
-        let d = moment_at(stem, cycle, i + 1) as usize;
+        let c = lasso.moment_at(i) as usize;
+        let d = lasso.moment_at(i + 1) as usize;
         at = step_to(p, table, c, at, d);
     }
     at
 }
 
 // Whether a and j are the same at the loop starts after x and after y rounds.
-fn same_place(p: &Pair, table: &[u16], stem: &[u8], cycle: &[u8], x: usize, y: usize) -> bool
-    requires { (well_formed p.now ≡ true) × ((length stem.now + length cycle.now ≤ 64) × ((x ≤ 449) × (y ≤ 449))) }
-    ensures { result ≡ same_place p.now table.now (given stem.now cycle.now) x y }
+fn same_place(p: &Pair, table: &[u16], lasso: &Lasso, x: usize, y: usize) -> bool
+    requires { (well_formed p.now ≡ true) × ((lasso_length (lent lasso.now) ≤ 64) × ((x ≤ 449) × (y ≤ 449))) }
+    ensures { result ≡ same_place p.now table.now (lent lasso.now) x y }
 {
-    let u = place_at(p, table, stem, cycle, stem.len() + x * cycle.len());
-    let v = place_at(p, table, stem, cycle, stem.len() + y * cycle.len());
+    let u = place_at(p, table, lasso, lasso.stem.len() + x * lasso.cycle.len());
+    let v = place_at(p, table, lasso, lasso.stem.len() + y * lasso.cycle.len());
     u == v
 }
 
 // The first round before round y with the same place.
-fn earlier_round(p: &Pair, table: &[u16], stem: &[u8], cycle: &[u8], y: usize) -> Option<usize>
-    requires { (well_formed p.now ≡ true) × ((length stem.now + length cycle.now ≤ 64) × (y ≤ 449)) }
-    ensures { result ≡ below y (first y (λ x. same_place p.now table.now (given stem.now cycle.now) x y)) }
+fn earlier_round(p: &Pair, table: &[u16], lasso: &Lasso, y: usize) -> Option<usize>
+    requires { (well_formed p.now ≡ true) × ((lasso_length (lent lasso.now) ≤ 64) × (y ≤ 449)) }
+    ensures { result ≡ below y (first y (λ x. same_place p.now table.now (lent lasso.now) x y)) }
 {
-    (0..y).find(|x| same_place(p, table, stem, cycle, *x, y))
+    (0..y).find(|x| same_place(p, table, lasso, *x, y))
 }
 
 // Whether a round before round y has the same place.
-fn recurs(p: &Pair, table: &[u16], stem: &[u8], cycle: &[u8], y: usize) -> bool
-    requires { (well_formed p.now ≡ true) × ((length stem.now + length cycle.now ≤ 64) × (y ≤ 449)) }
-    ensures { result ≡ some y (λ x. same_place p.now table.now (given stem.now cycle.now) x y) }
+fn recurs(p: &Pair, table: &[u16], lasso: &Lasso, y: usize) -> bool
+    requires { (well_formed p.now ≡ true) × ((lasso_length (lent lasso.now) ≤ 64) × (y ≤ 449)) }
+    ensures { result ≡ some y (λ x. same_place p.now table.now (lent lasso.now) x y) }
 {
-    earlier_round(p, table, stem, cycle, y).is_some()
+    earlier_round(p, table, lasso, y).is_some()
 }
 
 // The first round whose place occurred before.
-fn last_round(p: &Pair, table: &[u16], stem: &[u8], cycle: &[u8]) -> Option<usize>
-    requires { (well_formed p.now ≡ true) × (length stem.now + length cycle.now ≤ 64) }
-    ensures { result ≡ below 449 (last_round p.now table.now (given stem.now cycle.now)) }
+fn last_round(p: &Pair, table: &[u16], lasso: &Lasso) -> Option<usize>
+    requires { (well_formed p.now ≡ true) × (lasso_length (lent lasso.now) ≤ 64) }
+    ensures { result ≡ below 449 (last_round p.now table.now (lent lasso.now)) }
 {
-    (0..449).find(|y| recurs(p, table, stem, cycle, *y))
+    (0..449).find(|y| recurs(p, table, lasso, *y))
 }
 
 // What the player says of any table and any lasso, where its buffers are long enough.
-pub fn plain_play(p: Pair, table: &[u16], stem: &[u8], cycle: &[u8]) -> Result<Run, Refusal>
-    ensures { result ≡ play_answer p table.now (given stem.now cycle.now) }
+pub fn plain_play(p: Pair, table: &[u16], lasso: Lasso) -> Result<Run, Refusal>
+    ensures { result ≡ play_answer p table.now (lent lasso.entry) }
 {
     let abstraction = &p.abstraction;
     validity(p)?;
     lines(&p, table)?;
-    lasso_fits(p.concrete, stem, cycle)?;
-    let first = moment_at(stem, cycle, 0) as usize;
+    lasso.fits(p.concrete)?;
+    let first = lasso.moment_at(0) as usize;
     least_partner(&p, table, None, abstraction.start, 0, first).ok_or(Refusal::NoStartPartner)?;
-    let y = last_round(&p, table, stem, cycle).unwrap_or(449);
-    let x = earlier_round(&p, table, stem, cycle, y).unwrap_or(y);
+    let y = last_round(&p, table, &lasso).unwrap_or(449);
+    let x = earlier_round(&p, table, &lasso, y).unwrap_or(y);
     Ok(Run {
-        stem: stem.len() + x * cycle.len(),
-        cycle: (y - x) * cycle.len(),
+        stem: lasso.stem.len() + x * lasso.cycle.len(),
+        cycle: (y - x) * lasso.cycle.len(),
     })
 }
 
@@ -174,10 +175,10 @@ fn byte_at(run: &[u8], i: usize) -> u8
 }
 
 // Whether a run of n states is that of the rule; of a pair that is not well formed there is none.
-pub fn is_run(p: Pair, table: &[u16], stem: &[u8], cycle: &[u8], run: &[u8], n: usize) -> bool
+pub fn is_run(p: Pair, table: &[u16], lasso: Lasso, run: &[u8], n: usize) -> bool
     ensures { result ≡ and (well_formed p) (every n (λ t. eqb (get_or run.now t 0)
-        (place_at p table.now (given stem.now cycle.now) t).state)) }
+        (place_at p table.now (lent lasso.entry) t).state)) }
 {
     validity(p).is_ok()
-        && (0..n).all(|t| { byte_at(run, t) as usize == place_at(&p, table, stem, cycle, t).state })
+        && (0..n).all(|t| { byte_at(run, t) as usize == place_at(&p, table, &lasso, t).state })
 }

@@ -8,7 +8,7 @@ use Rattle.mask.specs.Bounded.{every}
 use Rattle.mask.proofs.RangeLaws.{all_range}
 use Rattle.machine.specs.WellFormed.{is_valid, well_formed}
 use Rattle.machine.specs.WellFormedLaws.{valid_is_well}
-use Rattle.machine.specs.Lassos.{given}
+use Rattle.brute.specs.Given.{lent}
 use Rattle.machine.specs.Player.{place_at}
 use Rattle.brute.specs.MachineLaws.{ok_failed, ok_passed}
 use Rattle.brute.proofs.runs.is_run.Goals as goal
@@ -23,7 +23,7 @@ all-requires-clause-callable c = let w = well (goal.at.all-requires-clause-calla
 pub returns-then-is_ok : goal.returns-then-is_ok
 returns-then-is_ok c =
     let x = c.args in
-    let e : c.all.result ≡ every x.n (λ t. eqb (get_or x.run.now t 0) (place_at x.p x.table.now (given x.stem.now x.cycle.now) t).state) = all_range c.all.ensures.ran (search (rules, tests)) in
+    let e : c.all.result ≡ every x.n (λ t. eqb (get_or x.run.now t 0) (place_at x.p x.table.now (lent x.lasso) t).state) = all_range c.all.ensures.ran (search (rules, tests)) in
     e ∙ sym (and_true_l _ (well (goal.at.returns-then-is_ok c).Then-is_ok))
 
 pub returns-else-is_ok : goal.returns-else-is_ok

@@ -2,7 +2,7 @@ use Rattle.std.proofs.Common.{rules, tests}
 use Rattle.std.specs.Prelude.{ℕ, ◌≡◌}
 use Rattle.mask.specs.Bounded.{some}
 use Rattle.mask.proofs.RangeLaws.{find_range}
-use Rattle.machine.specs.Lassos.{given}
+use Rattle.brute.specs.Given.{lent}
 use Rattle.machine.specs.Player.{last_round, same_place}
 use Rattle.std.proofs.Common.{subst}
 use Rattle.brute.proofs.runs.last_round.Goals as goal
@@ -13,5 +13,5 @@ returns c =
     let a = c.args in
     find_range _ c.find.ensures.ran (λ x b q h. (
       search rules,
-      λ l. subst (λ (y : ℕ). b ≡ some y (λ k. same_place a.p.now a.table.now (given a.stem.now a.cycle.now) k y)) h.shows (search (rules, tests)),
+      λ l. subst (λ (y : ℕ). b ≡ some y (λ k. same_place a.p.now a.table.now (lent a.lasso.now) k y)) h.shows (search (rules, tests)),
     ))

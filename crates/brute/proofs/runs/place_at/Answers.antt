@@ -3,7 +3,7 @@ use mathlib.Core.Path.{◌∙◌, ◌≡◌, ap}
 use native.Mathlib.Numerals.{add-one}
 use native.Mathlib.Omega.{arith}
 use borrow.Author.Rules.{rules}
-use Rattle.machine.specs.Lassos.{given}
+use Rattle.brute.specs.Given.{lent}
 use Rattle.machine.specs.Player.{start_partner}
 use Rattle.machine.specs.PlayerLaws.{start_single}
 use Rattle.machine.specs.WellFormedLaws.{WellPair, well_pair}
@@ -20,13 +20,13 @@ here : (c : At-loop-i) → Placed c.args.p.now c.args.table.now (as_place c.loop
 here c =
     let x = c.args in
     let w = well_pair x.p.now c.requires in
-    rw c.loop-i.invariant.1 (placed x.p.now x.table.now (given x.stem.now x.cycle.now) w.abstraction.sets_low c.loop-i.i)
+    rw c.loop-i.invariant.1 (placed x.p.now x.table.now (lent x.lasso.now) w.abstraction.sets_low c.loop-i.i)
 
 pub loop-i-init : goal.loop-i-init
 unfolding present_of
 loop-i-init c =
     let x = c.args in
-    let l = given x.stem.now x.cycle.now in
+    let l = lent x.lasso.now in
     (search rules, rw c.unwrap_or.ensures (place_start x.p.now x.table.now l _ (c.least_partner-found.ensures ∙ start_single x.p.now x.table.now _ _ (omega arith) ∙ ap (start_partner x.p.now x.table.now) c.moment_at.ensures)))
 
 pub step_to-at-requires : goal.step_to-at-requires
@@ -36,7 +36,7 @@ pub loop-i-preserved : goal.loop-i-preserved
 loop-i-preserved c =
     let x = c.args in
     let T = x.table.now in
-    let l = given x.stem.now x.cycle.now in (
+    let l = lent x.lasso.now in (
       search rules,
       rw add-one (c.step_to-at.ensures ∙ rw (c.moment_at-c.ensures, c.moment_at-d.ensures, add-one) (place_next x.p.now T l c.loop-i.i (as_place c.loop-i.at) c.loop-i.invariant.1)),
     )

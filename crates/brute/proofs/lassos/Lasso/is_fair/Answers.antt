@@ -1,7 +1,7 @@
 use Rattle.std.proofs.Common.{rules, tests}
 use Rattle.mask.proofs.RangeLaws.{all_range}
 use Rattle.machine.specs.Lassos.{is_fair}
-use Rattle.brute.proofs.lassos.is_fair.Goals as goal
+use Rattle.brute.proofs.lassos.Lasso.is_fair.Goals as goal
 
 pub returns : goal.returns
 unfolding is_fair
