@@ -1,10 +1,11 @@
 // Compares solver, solver by turns, check and player with brute force on series of small pairs, and writes a line of counts for each.
 #![tactic(auto)]
 
-ghost use Rattle.std.specs.Prelude.{true, false, ◌≡◌, ◌≤◌, ◌-◌, ◌^◌};
+ghost use Rattle.std.specs.Prelude.{◌≡◌, ◌≤◌, ◌-◌, ◌^◌};
+ghost use Rattle.comparison.specs.declared.tables.Tables.TheVariants.{Every, Altered};
 
 use brute::Shape;
-use comparison::{Numbers, Series, Tally, Trial};
+use comparison::{Numbers, Series, Tables, Tally, Trial};
 use rings::{Family, Rings};
 use std::io;
 
@@ -72,10 +73,10 @@ fn numbered(states: usize, sets: usize, twos: u64, count: u32, step: u32) -> Mac
 // All tables of a tiny pair, lassos with a stem of at most two states, and all families: each row is any set of abstract states and of one number past
 // them, a digit from 0 to `row`. After these come a few with a bit in every row past the sections and concrete states.
 fn every_table(tables: u64, families: u64, row: u32) -> Trial
-    ensures { result ≡ record { every = true; tables = tables; stem = 2; families = families; row = row } }
+    ensures { result ≡ record { which = Every; tables = tables; stem = 2; families = families; row = row } }
 {
     Trial {
-        every: true,
+        which: Tables::Every,
         tables,
         stem: 2,
         families,
@@ -86,10 +87,10 @@ fn every_table(tables: u64, families: u64, row: u32) -> Trial
 // The solver's table, or the lifted one of a pair that the solver refuses, and all that differ from it in one entry, and lassos with a stem of at
 // most `stem` states.
 fn altered_tables(tables: u64, stem: usize) -> Trial
-    ensures { result ≡ record { every = false; tables = tables; stem = stem; families = 0; row = 0 } }
+    ensures { result ≡ record { which = Altered; tables = tables; stem = stem; families = 0; row = 0 } }
 {
     Trial {
-        every: false,
+        which: Tables::Altered,
         tables,
         stem,
         families: 0,
@@ -226,13 +227,48 @@ fn rings_of(family: Family, concrete: Rings, abstraction: Rings, tables: u64) ->
 // Pairs of the first family: four of coprime rings, two of others, and one with an entry past the states.
 fn staying() -> [RingPair; 7] {
     [
-        rings_of(Family::Staying { entry: 1 }, ring(2, 2, 2), ring(3, 3, 1), 7380),
-        rings_of(Family::Staying { entry: 0 }, ring(3, 3, 1), ring(2, 2, 2), 8576),
-        rings_of(Family::Staying { entry: 2 }, ring(3, 2, 1), ring(2, 5, 1), 6160),
-        rings_of(Family::Staying { entry: 3 }, ring(2, 3, 1), ring(3, 5, 1), 7308),
-        rings_of(Family::Staying { entry: 1 }, ring(3, 2, 1), ring(2, 3, 1), 4158),
-        rings_of(Family::Staying { entry: 0 }, ring(2, 2, 2), ring(2, 2, 2), 9504),
-        rings_of(Family::Staying { entry: 9 }, ring(2, 2, 1), ring(3, 3, 1), 3780),
+        rings_of(
+            Family::Staying { entry: 1 },
+            ring(2, 2, 2),
+            ring(3, 3, 1),
+            7380,
+        ),
+        rings_of(
+            Family::Staying { entry: 0 },
+            ring(3, 3, 1),
+            ring(2, 2, 2),
+            8576,
+        ),
+        rings_of(
+            Family::Staying { entry: 2 },
+            ring(3, 2, 1),
+            ring(2, 5, 1),
+            6160,
+        ),
+        rings_of(
+            Family::Staying { entry: 3 },
+            ring(2, 3, 1),
+            ring(3, 5, 1),
+            7308,
+        ),
+        rings_of(
+            Family::Staying { entry: 1 },
+            ring(3, 2, 1),
+            ring(2, 3, 1),
+            4158,
+        ),
+        rings_of(
+            Family::Staying { entry: 0 },
+            ring(2, 2, 2),
+            ring(2, 2, 2),
+            9504,
+        ),
+        rings_of(
+            Family::Staying { entry: 9 },
+            ring(2, 2, 1),
+            ring(3, 3, 1),
+            3780,
+        ),
     ]
 }
 

@@ -18,7 +18,7 @@ module _ (k : Known) (said : Answer Bool) (F N T : List ℕ) {same told : Bool} 
   unfolding turn_agrees plain_agrees stopped_agrees
   stopped_is e t = rw (e, t, es)
 
-  pub made_is : k.plain ≡ Ok tt → told ≡ same_answer beq said (Ok same) → turn_agrees k said F N T ≡ and told (left_fits k same F N T)
+  pub made_is : k.plain ≡ Ok tt → told ≡ same_answer beq said (Ok same) → turn_agrees k said F N T ≡ and told (left_fits k F N T)
   unfolding turn_agrees plain_agrees made_agrees
   made_is e t = rw (e, t, es)
 

@@ -1,42 +1,29 @@
 // The player beside the rule, on all short lassos: the answers, the run, and whether it is a fair lasso with the same observations, in
 // the bits that are not hidden.
 ghost use Rattle.std.specs.Prelude.{◌≡◌, ◌+◌, ◌≤◌};
-ghost use Rattle.machine.specs.Lassos.{given};
+ghost use Rattle.brute.specs.Given.{lent};
 ghost use Rattle.comparison.specs.Lassos.{run_fits, lasso_agrees, lasso_tally, numbered_lasso, shape_tally, lassos_tally};
 
 use crate::tally::{Tally, total};
+use brute::Lasso;
 use machine::{Pair, Refusal, Run};
-
-// The states of a lasso.
-#[derive(Clone, Copy)]
-struct Lasso<'a> {
-    stem: &'a [u8],
-    cycle: &'a [u8],
-}
 
 // Whether the front of a buffer is the rule's run, and with its stem a fair lasso of the abstract machine from a start state, with the
 // lasso's observations in the bits that are not hidden.
 fn run_fits(p: Pair, table: &[u16], lasso: Lasso, buffer: &[u8], run: Run) -> bool
-    ensures { result ≡ run_fits p table.now (given lasso.entry.stem.now lasso.entry.cycle.now) buffer.now run.stem run.cycle }
+    ensures { result ≡ run_fits p table.now (lent lasso.entry) buffer.now run.stem run.cycle }
 {
     if buffer.len() < run.stem || buffer.len() - run.stem < run.cycle {
         return false;
     }
     let n = run.stem + run.cycle;
-    let front = &buffer[..run.stem];
-    let back = &buffer[run.stem..n];
-    brute::is_run(p, table, lasso.stem, lasso.cycle, buffer, n)
-        && brute::is_play(p.abstraction, front, back)
-        && brute::same_until(
-            p.hidden,
-            p.concrete,
-            lasso.stem,
-            lasso.cycle,
-            p.abstraction,
-            front,
-            back,
-            n,
-        )
+    let written = Lasso {
+        stem: &buffer[..run.stem],
+        cycle: &buffer[run.stem..n],
+    };
+    brute::is_run(p, table, lasso, buffer, n)
+        && brute::is_play(p.abstraction, written)
+        && brute::same_until(p.hidden, p.concrete, lasso, p.abstraction, written, n)
 }
 
 // Whether the player's answer is the rule's, and its run fits.
@@ -48,7 +35,7 @@ fn lasso_agrees(
     answer: Result<Run, Refusal>,
     plain: Result<Run, Refusal>,
 ) -> bool
-    ensures { result ≡ lasso_agrees p table.now (given lasso.entry.stem.now lasso.entry.cycle.now) buffer.now answer plain }
+    ensures { result ≡ lasso_agrees p table.now (lent lasso.entry) buffer.now answer plain }
 {
     answer == plain
         && match answer {
@@ -59,11 +46,11 @@ fn lasso_agrees(
 
 // One lasso.
 fn compare_lasso(p: Pair, table: &[u16], lasso: Lasso) -> Tally
-    ensures { result ≡ lasso_tally p table.now (given lasso.entry.stem.now lasso.entry.cycle.now) }
+    ensures { result ≡ lasso_tally p table.now (lent lasso.entry) }
 {
     let mut buffer = [0u8; player::RUN_ROOM];
     let answer = player::play(p, table, lasso.stem, lasso.cycle, &mut buffer);
-    let plain = brute::plain_play(p, table, lasso.stem, lasso.cycle);
+    let plain = brute::plain_play(p, table, lasso);
     Tally::of_lasso(
         answer.is_ok(),
         lasso_agrees(p, table, lasso, &buffer, answer, plain),

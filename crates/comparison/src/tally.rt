@@ -39,14 +39,14 @@ impl Tally {
         }
     }
 
-    // The solver's table of one pair; `carried` is 1 where it is Carried, and else 0.
-    pub(crate) fn of_solution(carried: u64, agrees: bool) -> Tally
+    // The solver's table of one pair.
+    pub(crate) fn of_solution(carried: bool, agrees: bool) -> Tally
         ensures { result ≡ of_solution carried agrees }
     {
         Tally {
             formed: 1,
             solved: 1,
-            carried,
+            carried: u64::from(carried),
             ..Tally::of_test(agrees)
         }
     }
@@ -74,7 +74,7 @@ impl Tally {
         }
     }
 
-    // One lasso.
+    // One lasso. Of lassos, turns and look-ups each has a function: no parameter names the two fields in which these differ.
     pub(crate) fn of_lasso(runs: bool, agrees: bool) -> Tally
         ensures { result ≡ of_lasso runs agrees }
     {

@@ -1,7 +1,6 @@
 // The solver by turns beside brute force: what a turn says, the family and the table that it leaves, and every look-up, for families of any content
 // and for those from the first to the finish.
-ghost use Rattle.std.specs.Prelude.{◌≡◌, ◌≤◌, true, length};
-ghost use Rattle.machine.specs.WellFormed.{well_formed};
+ghost use Rattle.std.specs.Prelude.{◌≡◌, ◌≤◌, length};
 ghost use Rattle.machine.specs.Table.{table_room};
 ghost use Rattle.progress.specs.Turns.{turn_family};
 ghost use Rattle.comparison.specs.Answers.{says_yes};
@@ -10,12 +9,13 @@ ghost use Rattle.comparison.specs.Turns.{marks, kept_from, same_entries, rows_fi
 use crate::tables::is_within;
 use crate::tally::{Tally, total};
 use brute::Compared;
-use machine::{Pair, Refusal};
+use machine::{Formed, Pair, Refusal};
 
 // What a lent table is full of: no rank, and not blank.
 const MARK: u16 = 40000;
 
-// A pair, and what brute force says of it: what its tests say, and if they refuse nothing how many entries, sections and states there are.
+// A pair, and what brute force says of it: what its tests say, and if they refuse nothing how many entries, sections and states there are, else 0.
+// No `Result` holds these: look-ups are tried of a refused pair too, by the same numbers.
 #[derive(Clone, Copy)]
 struct Known {
     pair: Pair,
@@ -54,31 +54,26 @@ fn rows_fit(p: Pair, given: &[u16], next: &[u64; 448]) -> bool
     brute::is_ranked(p, Compared::Covered, given, &seen)
 }
 
-// Whether the table was written only by a turn that is finished: n entries, the ranks over the family.
-fn table_fits(p: Pair, n: usize, finished: bool, given: &[u16], table: &[u16; 28672]) -> bool
-    ensures { result ≡ table_fits p n finished given.now table.now }
+// Whether a finished turn wrote n entries, the ranks over the family.
+fn table_fits(p: Pair, n: usize, given: &[u16], table: &[u16; 28672]) -> bool
+    ensures { result ≡ table_fits p n given.now table.now }
 {
-    if !finished {
-        return is_kept(0, table);
-    }
     is_kept(n, table) && brute::is_ranked(p, Compared::Ranks, given, table)
 }
 
 impl Known {
-    // Whether a turn of a pair that is not refused left a family and a table that fit.
-    fn left_fits(
-        &self,
-        finished: bool,
-        family: &[u64; 448],
-        next: &[u64; 448],
-        table: &[u16; 28672],
-    ) -> bool
-        ensures { result ≡ left_fits self.now finished family.now next.now table.now }
+    // Whether a turn of a pair that is not refused left a family that fits, and wrote the table only if that is the one before.
+    fn left_fits(&self, family: &[u64; 448], next: &[u64; 448], table: &[u16; 28672]) -> bool
+        ensures { result ≡ left_fits self.now family.now next.now table.now }
     {
         let mut given = [0u16; machine::TABLE_ROOM];
         brute::put_family(self.pair, family, &mut given);
         rows_fit(self.pair, &given, next)
-            && table_fits(self.pair, self.entries, finished, &given, table)
+            && if family == next {
+                table_fits(self.pair, self.entries, &given, table)
+            } else {
+                is_kept(0, table)
+            }
     }
 
     // Whether a turn said what brute force says, and left the family and the table that it has to leave.
@@ -93,7 +88,7 @@ impl Known {
     {
         let same = family == next;
         match self.plain {
-            Ok(()) => said == Ok(same) && self.left_fits(same, family, next, table),
+            Ok(()) => said == Ok(same) && self.left_fits(family, next, table),
             Err(refusal) => said == Err(refusal) && same && is_kept(0, table),
         }
     }
@@ -206,7 +201,8 @@ impl Known {
 
     // ---- From the first to the finish
 
-    // Whether a first family has all matched pairs in every section and no stray bits.
+    // Whether a first family has all matched pairs in every section and no stray bits. It begins as `rows_fit` does: a function of what both do would
+    // have to give 57 KB back, or to take a closure for the rest.
     fn first_fits(&self, family: &[u64; 448]) -> bool
         ensures { result ≡ first_fits self.now family.now }
     {
@@ -259,7 +255,7 @@ impl Known {
     }
 }
 
-// Whether two tables have the same n entries.
+// Whether two tables have the same n entries. Not by `==` of slices: a table may be shorter, and has 0 past its end.
 fn same_entries(n: usize, x: &[u16], y: &[u16]) -> bool
     ensures { result ≡ same_entries n x.now y.now }
 {
@@ -268,19 +264,19 @@ fn same_entries(n: usize, x: &[u16], y: &[u16]) -> bool
 
 // A pair that the solver takes, with its table: the first family, those up to the finish, and the first `count` of all.
 pub fn compare_turns(
-    p: Pair,
+    formed: Formed,
     plain: Result<(), Refusal>,
     row: u32,
     count: u64,
     solved: &[u16],
 ) -> Tally
-    requires { well_formed p ≡ true }
-    ensures { result ≡ turns_tally p plain row count solved.now }
+    ensures { result ≡ turns_tally formed.entry.pair.now plain row count solved.now }
 {
-    let concrete = p.concrete;
-    let abstraction = p.abstraction;
+    let pair = *formed.pair;
+    let concrete = pair.concrete;
+    let abstraction = pair.abstraction;
     let known = Known {
-        pair: p,
+        pair,
         plain,
         entries: abstraction.sets * (concrete.states * abstraction.states),
         sections: abstraction.sets as u8,

@@ -6,11 +6,8 @@ use Rattle.comparison.specs.Pairs.{pair_tally}
 use Rattle.comparison.proofs.EqualLaws.{units_told}
 use Rattle.comparison.proofs.pairs.compare_pair.Goals as goal
 
-pub compare_turns-turns-requires : goal.compare_turns-turns-requires
-compare_turns-turns-requires c = solved_well _ _ (sym c.solve-answer.ensures.answer ∙ c.in-Ok.is)
-
-pub compare_formed-requires : goal.compare_formed-requires
-compare_formed-requires c = solved_well _ _ (sym c.solve-answer.ensures.answer ∙ c.in-Ok.is)
+pub invariant_of-formed : goal.invariant_of-formed
+invariant_of-formed c = record { well = solved_well _ _ (sym c.solve-answer.ensures.answer ∙ c.in-Ok.is) }
 
 pub returns-in-Ok : goal.returns-in-Ok
 unfolding pair_tally is_valid

@@ -5,8 +5,8 @@ use Rattle.comparison.specs.Turns.{known_of, turns_tally}
 use Rattle.comparison.proofs.turns.compare_turns.Goals as goal
 use Rattle.comparison.proofs.turns.compare_turns.Goals.{Start}
 
-well : (c : Start) → WellPair c.args.p
-well c = well_pair c.args.p c.requires
+well : (c : Start) → WellPair c.args.formed.pair.now
+well c = well_pair c.args.formed.pair.now c.args.formed.well
 
 pub overflow_mul-known : goal.overflow_mul-known
 overflow_mul-known c = omega (arith, pairs_small _ (well (goal.at.overflow_mul-known c).Start))

@@ -4,10 +4,6 @@ use Rattle.mask.specs.Logic.{and}
 use Rattle.comparison.specs.Turns.{table_fits}
 use Rattle.comparison.proofs.turns.table_fits.Goals as goal
 
-pub returns-then-not-finished : goal.returns-then-not-finished
-unfolding table_fits and
-returns-then-not-finished c = grind (arith, common_steps)
-
 pub returns-then-is_kept : goal.returns-then-is_kept
 unfolding table_fits and
 returns-then-is_kept c = grind (arith, common_steps)
