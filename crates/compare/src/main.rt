@@ -55,6 +55,7 @@ struct Machines {
 
 // Machines of `states` states, from 1 to 3, and `sets` sets. Their greatest digit is 2^states - 1, so that a mask can be any set of states, and
 // the states in `twos` have 2 added to their observations, which else are 0 and 1.
+// Five numbers, and no structs of them: so the machines of a series are one line each below.
 fn numbered(states: usize, sets: usize, twos: u64, count: u32, step: u32) -> Machines
     requires { states ≤ 3 }
     ensures { result ≡ record { shape = record { states = states; sets = sets; top = 2 ^ states - 1; twos = twos }; numbers = record { count = count; step = step } } }

@@ -57,29 +57,38 @@ fn compare_lasso(p: Pair, table: &[u16], lasso: Lasso) -> Tally
     )
 }
 
-// Lasso number x of a stem of s states and a loop of q: its states are digits from 0 to `top`.
-fn compare_numbered(p: Pair, table: &[u16], s: usize, q: usize, top: u8, x: u64) -> Tally
-    requires { s + q ≤ 4 }
-    ensures { result ≡ lasso_tally p table.now (numbered_lasso top s q x) }
+// How many states stem and loop of a lasso have, and the greatest state that they may have.
+#[derive(Clone, Copy)]
+struct LassoShape {
+    stem: usize,
+    cycle: usize,
+    top: u8,
+}
+
+// Lasso number x of a shape: its states are digits.
+fn compare_numbered(p: Pair, table: &[u16], shape: LassoShape, x: u64) -> Tally
+    requires { shape.stem + shape.cycle ≤ 4 }
+    ensures { result ≡ lasso_tally p table.now (numbered_lasso shape.top shape.stem shape.cycle x) }
 {
     let mut states = [0u8; 4];
-    brute::put_states(x, top, &mut states);
+    brute::put_states(x, shape.top, &mut states);
     let lasso = Lasso {
-        stem: &states[..s],
-        cycle: &states[s..s + q],
+        stem: &states[..shape.stem],
+        cycle: &states[shape.stem..shape.stem + shape.cycle],
     };
     compare_lasso(p, table, lasso)
 }
 
-// Every lasso with a stem of s states and a loop of q, each up to 2.
-fn compare_shape(p: Pair, table: &[u16], s: usize, q: usize, top: u8) -> Tally
-    requires { (s ≤ 2) × (q ≤ 2) }
-    ensures { result ≡ shape_tally p table.now top s q }
+// Every lasso of a shape whose stem and loop have up to 2 states each.
+fn compare_shape(p: Pair, table: &[u16], shape: LassoShape) -> Tally
+    requires { (shape.stem ≤ 2) × (shape.cycle ≤ 2) }
+    ensures { result ≡ shape_tally p table.now shape.top shape.stem shape.cycle }
 {
-    let base = u64::from(top) + 1;
-    total(base.pow(s as u32) * base.pow(q as u32), |x| {
-        compare_numbered(p, table, s, q, top, x)
-    })
+    let base = u64::from(shape.top) + 1;
+    total(
+        base.pow(shape.stem as u32) * base.pow(shape.cycle as u32),
+        |x| compare_numbered(p, table, shape, x),
+    )
 }
 
 // Every lasso with a stem of at most `longest` states, at most 2, and a loop of 0 to 2.
@@ -88,6 +97,11 @@ pub fn compare_lassos(p: Pair, table: &[u16], top: u8, longest: usize) -> Tally
 {
     let most = longest.min(2);
     total(3 * (most as u64 + 1), |i| {
-        compare_shape(p, table, (i / 3) as usize, (i % 3) as usize, top)
+        let shape = LassoShape {
+            stem: (i / 3) as usize,
+            cycle: (i % 3) as usize,
+            top,
+        };
+        compare_shape(p, table, shape)
     })
 }

@@ -47,7 +47,7 @@ struct State {
     fair: bool,
 }
 
-// The mask of some states.
+// The mask of some states, without those of 64 or more.
 fn mask_of(states: &[usize]) -> u64
     ensures { result ≡ fold with_bit 0 states.now }
 {
@@ -62,72 +62,7 @@ fn ring_next(from: usize, end: usize, s: usize) -> usize
     if s + 1 == end { from } else { s + 1 }
 }
 
-// The states of both rings, of an abstract machine those of the second, so that a play has to follow the ranks along a chain.
-fn start_states(kind: Kind, rings: Rings) -> u64
-    ensures { result ≡ start_states kind rings }
-{
-    let second = rings.first as usize;
-    let whole = mask::full(second + rings.second as usize);
-    match kind {
-        Kind::Concrete => whole,
-        Kind::Abstract => whole ^ mask::full(second),
-    }
-}
-
 impl Family {
-    // State s of a concrete machine; `end` is the one of observation 1.
-    fn concrete_state(self, rings: Rings, s: usize) -> State
-        requires { s < 64 }
-        ensures { result ≡ concrete_state self rings s }
-    {
-        let second = rings.first as usize;
-        let end = second + rings.second as usize;
-        if s < second {
-            let next = ring_next(0, second, s);
-            let successors = if s == 0 {
-                mask_of(&[next, end + 1, end])
-            } else {
-                mask_of(&[next, end + 1])
-            };
-            return State {
-                successors,
-                ..State::default()
-            };
-        }
-        if s < end {
-            let next = ring_next(second, end, s);
-            let successors = if s == second + 1 {
-                mask_of(&[next])
-            } else {
-                mask_of(&[next, end + 1])
-            };
-            return State {
-                successors,
-                fair: true,
-                ..State::default()
-            };
-        }
-        if s != end {
-            return State {
-                observation: 2,
-                successors: mask_of(&[end + 1]),
-                fair: false,
-            };
-        }
-        match self {
-            Family::Staying { .. } => State {
-                observation: 1,
-                successors: mask_of(&[end]),
-                fair: false,
-            },
-            Family::LeadingBack => State {
-                observation: 1,
-                successors: mask_of(&[second + 1]),
-                fair: true,
-            },
-        }
-    }
-
     // The state beside its ring to which the first state of an abstract machine leads; `after` is the first state after the rings.
     fn side_state(self, second: usize, after: usize) -> usize
         requires { (second ≤ 4294967296) × (after ≤ 8589934592) }
@@ -185,18 +120,81 @@ impl Family {
             },
         }
     }
+}
+
+// A machine to be made: which of a pair, of which family, and its rings.
+#[derive(Clone, Copy)]
+struct Plan {
+    kind: Kind,
+    family: Family,
+    rings: Rings,
+}
+
+impl Plan {
+    // State s of a concrete machine; `end` is the one of observation 1.
+    fn concrete_state(self, s: usize) -> State
+        requires { s < 64 }
+        ensures { result ≡ concrete_state self.family self.rings s }
+    {
+        let second = self.rings.first as usize;
+        let end = second + self.rings.second as usize;
+        if s < second {
+            let next = ring_next(0, second, s);
+            let successors = if s == 0 {
+                mask_of(&[next, end + 1, end])
+            } else {
+                mask_of(&[next, end + 1])
+            };
+            return State {
+                successors,
+                ..State::default()
+            };
+        }
+        if s < end {
+            let next = ring_next(second, end, s);
+            let successors = if s == second + 1 {
+                mask_of(&[next])
+            } else {
+                mask_of(&[next, end + 1])
+            };
+            return State {
+                successors,
+                fair: true,
+                ..State::default()
+            };
+        }
+        if s != end {
+            return State {
+                observation: 2,
+                successors: mask_of(&[end + 1]),
+                fair: false,
+            };
+        }
+        match self.family {
+            Family::Staying { .. } => State {
+                observation: 1,
+                successors: mask_of(&[end]),
+                fair: false,
+            },
+            Family::LeadingBack => State {
+                observation: 1,
+                successors: mask_of(&[second + 1]),
+                fair: true,
+            },
+        }
+    }
 
     // State s of an abstract machine.
-    fn abstract_state(self, rings: Rings, s: usize) -> State
+    fn abstract_state(self, s: usize) -> State
         requires { s < 64 }
-        ensures { result ≡ abstract_state self rings s }
+        ensures { result ≡ abstract_state self.family self.rings s }
     {
-        let second = rings.first as usize;
-        let after = second + rings.second as usize;
+        let second = self.rings.first as usize;
+        let after = second + self.rings.second as usize;
         if s < second {
             let next = ring_next(0, second, s);
             let side = if s == 0 {
-                self.side_state(second, after)
+                self.family.side_state(second, after)
             } else {
                 after + 2
             };
@@ -211,7 +209,7 @@ impl Family {
             let successors = if s != second {
                 mask_of(&[next, after + 3, after + 2])
             } else {
-                match self {
+                match self.family {
                     Family::Staying { .. } => mask_of(&[next, after + 3, after]),
                     Family::LeadingBack => mask_of(&[next, after + 3, after, after + 4]),
                 }
@@ -221,17 +219,17 @@ impl Family {
                 ..State::default()
             };
         }
-        self.further_state(second, after, s - after)
+        self.family.further_state(second, after, s - after)
     }
 
     // How many states a machine has.
-    fn states(self, kind: Kind, rings: Rings) -> usize
-        ensures { result ≡ ring_states kind self rings }
+    fn states(self) -> usize
+        ensures { result ≡ ring_states self.kind self.family self.rings }
     {
-        let end = rings.first as usize + rings.second as usize;
-        match kind {
+        let end = self.rings.first as usize + self.rings.second as usize;
+        match self.kind {
             Kind::Concrete => end + 2,
-            Kind::Abstract => match self {
+            Kind::Abstract => match self.family {
                 Family::Staying { .. } => end + 4,
                 Family::LeadingBack => end + 7,
             },
@@ -239,26 +237,38 @@ impl Family {
     }
 
     // State s of a machine; past its states everything is zero.
-    fn state(self, kind: Kind, rings: Rings, s: usize) -> State
+    fn state(self, s: usize) -> State
         requires { s < 64 }
-        ensures { result ≡ ring_state kind self rings s }
+        ensures { result ≡ ring_state self.kind self.family self.rings s }
     {
-        if self.states(kind, rings) <= s {
+        if self.states() <= s {
             return State::default();
         }
-        match kind {
-            Kind::Concrete => self.concrete_state(rings, s),
-            Kind::Abstract => self.abstract_state(rings, s),
+        match self.kind {
+            Kind::Concrete => self.concrete_state(s),
+            Kind::Abstract => self.abstract_state(s),
         }
     }
 
-    // The mask of a machine's fair states.
-    fn fair_states(self, kind: Kind, rings: Rings) -> u64
-        ensures { result ≡ mask_of 64 (λ s. (ring_state kind self rings s).fair) }
+    // The start states: those of both rings, of an abstract machine those of the second, so that a play has to follow the ranks along a chain.
+    fn start_states(self) -> u64
+        ensures { result ≡ start_states self.kind self.rings }
+    {
+        let second = self.rings.first as usize;
+        let whole = mask::full(second + self.rings.second as usize);
+        match self.kind {
+            Kind::Concrete => whole,
+            Kind::Abstract => whole ^ mask::full(second),
+        }
+    }
+
+    // The mask of the fair states.
+    fn fair_states(self) -> u64
+        ensures { result ≡ mask_of 64 (λ s. (ring_state self.kind self.family self.rings s).fair) }
     {
         let mut fair = 0;
         for s in 0..64 {
-            if self.state(kind, rings, s).fair {
+            if self.state(s).fair {
                 fair = mask::with(fair, s);
             }
         }
@@ -266,17 +276,17 @@ impl Family {
     }
 
     // A machine of two rings.
-    fn machine(self, kind: Kind, rings: Rings) -> Machine
-        ensures { result ≡ ring_machine kind self rings }
+    fn machine(self) -> Machine
+        ensures { result ≡ ring_machine self.kind self.family self.rings }
     {
-        let fair = self.fair_states(kind, rings);
+        let fair = self.fair_states();
         Machine {
-            states: self.states(kind, rings),
-            sets: rings.sets,
-            start: start_states(kind, rings),
-            observations: array::from_fn(|s| self.state(kind, rings, s).observation),
-            successors: array::from_fn(|s| self.state(kind, rings, s).successors),
-            fairness: array::from_fn(|k| if k < rings.sets { fair } else { 0 }),
+            states: self.states(),
+            sets: self.rings.sets,
+            start: self.start_states(),
+            observations: array::from_fn(|s| self.state(s).observation),
+            successors: array::from_fn(|s| self.state(s).successors),
+            fairness: array::from_fn(|k| if k < self.rings.sets { fair } else { 0 }),
         }
     }
 }
@@ -285,9 +295,19 @@ impl Family {
 pub fn ring_pair(family: Family, concrete: Rings, abstraction: Rings) -> Pair
     ensures { result ≡ ring_pair family concrete abstraction }
 {
+    let concrete = Plan {
+        kind: Kind::Concrete,
+        family,
+        rings: concrete,
+    };
+    let abstraction = Plan {
+        kind: Kind::Abstract,
+        family,
+        rings: abstraction,
+    };
     Pair {
-        concrete: family.machine(Kind::Concrete, concrete),
-        abstraction: family.machine(Kind::Abstract, abstraction),
+        concrete: concrete.machine(),
+        abstraction: abstraction.machine(),
         hidden: 0,
     }
 }

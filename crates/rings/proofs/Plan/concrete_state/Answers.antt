@@ -1,8 +1,8 @@
 -- The cases are those of the definition.
 use Rattle.std.proofs.Common.{eq-eqb, le-ltb, lt-ltb, ne_eqb}
 use Rattle.rings.specs.Rings.{concrete_state}
-use Rattle.rings.proofs.Family.concrete_state.Goals as goal
-use Rattle.rings.proofs.Family.concrete_state.Goals.{then-s-eq0, else-s-eq0, then-s-second-2, else-s-second-2}
+use Rattle.rings.proofs.Plan.concrete_state.Goals as goal
+use Rattle.rings.proofs.Plan.concrete_state.Goals.{then-s-eq0, else-s-eq0, then-s-second-2, else-s-second-2}
 
 pub returns-then-s-second : goal.returns-then-s-second
 unfolding concrete_state

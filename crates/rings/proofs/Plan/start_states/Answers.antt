@@ -1,5 +1,5 @@
 use Rattle.rings.specs.Rings.{start_states}
-use Rattle.rings.proofs.start_states.Goals as goal
+use Rattle.rings.proofs.Plan.start_states.Goals as goal
 
 pub returns-in-Concrete : goal.returns-in-Concrete
 unfolding start_states

@@ -1,5 +1,5 @@
 use Rattle.rings.specs.Rings.{ring_states, states_after}
-use Rattle.rings.proofs.Family.states.Goals as goal
+use Rattle.rings.proofs.Plan.states.Goals as goal
 
 pub returns-in-Concrete : goal.returns-in-Concrete
 unfolding ring_states states_after

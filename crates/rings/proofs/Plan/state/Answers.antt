@@ -1,7 +1,7 @@
 -- The cases are those of the definition.
 use Rattle.std.proofs.Common.{le-ltb, lt-ltb}
 use Rattle.rings.specs.Rings.{own_state, ring_state}
-use Rattle.rings.proofs.Family.state.Goals as goal
+use Rattle.rings.proofs.Plan.state.Goals as goal
 
 pub returns-then-states-s : goal.returns-then-states-s
 unfolding ring_state

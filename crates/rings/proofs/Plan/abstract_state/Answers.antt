@@ -1,8 +1,8 @@
 -- The cases are those of the definition.
 use Rattle.std.proofs.Common.{eq-eqb, le-ltb, lt-ltb, ne_eqb}
 use Rattle.rings.specs.Rings.{abstract_state}
-use Rattle.rings.proofs.Family.abstract_state.Goals as goal
-use Rattle.rings.proofs.Family.abstract_state.Goals.{then-s-eq0, else-s-eq0, then-s-second-2, else-s-second-2+in-Staying, else-s-second-2+in-LeadingBack}
+use Rattle.rings.proofs.Plan.abstract_state.Goals as goal
+use Rattle.rings.proofs.Plan.abstract_state.Goals.{then-s-eq0, else-s-eq0, then-s-second-2, else-s-second-2+in-Staying, else-s-second-2+in-LeadingBack}
 
 pub returns-then-s-second : goal.returns-then-s-second
 unfolding abstract_state
