@@ -1,6 +1,6 @@
 -- All that is compared of a pair, and of a series of pairs.
 use Rattle.std.specs.Prelude.{ℕ, ◌+◌, ◌*◌, Bool, true, false, cond, List, length, Option, Some, None, ◌==◌}
-use Rattle.mask.specs.Logic.{not, and, or}
+use Rattle.mask.specs.Logic.{not, and}
 use Rattle.machine.specs.declared.Pair.{Pair}
 use Rattle.machine.specs.Machines.{n_c, sets_c, pairs}
 use Rattle.machine.specs.WellFormed.{is_valid, well_formed, nonempty_validity}

@@ -21,6 +21,3 @@ loop-s-preserved c =
         | else-state w ↦ rw (w.fair-is, l.invariant.1, add-one) (mask_of_miss l.s _ (rw e at w.if-state.false))
       ],
     )
-
-pub returns : goal.returns
-returns c = let e : c.loop-s.s ≡ 64 = omega arith in rw (← e) c.loop-s.invariant.1

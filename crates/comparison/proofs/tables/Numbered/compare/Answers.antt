@@ -1,5 +1,5 @@
 -- The invariant: the sum of the first x tables, and that a table laid over the used buffer is the one laid over the first.
-use Rattle.std.proofs.Common.{◌≡◌, arith, rules}
+use Rattle.std.proofs.Common.{rules}
 use Rattle.comparison.specs.Tallies.{nothing, total}
 use Rattle.comparison.specs.TablesLaws.{reused_start, reused_tally, reused_turn}
 use Rattle.comparison.specs.TalliesLaws.{total_more}
@@ -14,9 +14,3 @@ loop-x-preserved c =
     let l = c.loop-x in
     let e = c.put.ensures in
     (search rules, reused_turn _ _ l.invariant.1 e, total_more _ l.x l.sum c.compare_table.result _ l.invariant.2 (reused_tally _ _ _ _ l.invariant.1 e c.compare_table.ensures) c.add-sum.ensures)
-
-pub returns : goal.returns
-returns c =
-    let l = c.loop-x in
-    let e : l.x ≡ c.args.count = omega (arith, l.invariant.0) in
-    rw (← e) l.invariant.2

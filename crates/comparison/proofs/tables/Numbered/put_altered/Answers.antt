@@ -1,5 +1,5 @@
 -- The invariant: the first e entries are those of the altered table, and the others are as they were.
-use Rattle.std.proofs.Common.{◌≡◌, ◌+◌, ◌/◌, ◌%◌, cond, eqb, get_or, arith, rules}
+use Rattle.std.proofs.Common.{◌+◌, ◌/◌, ◌%◌, cond, eqb, get_or, arith, rules}
 use Rattle.mask.specs.FrontLaws.{front_none, front_over, front_turn}
 use Rattle.brute.specs.Numbers.{entry_of}
 use Rattle.brute.specs.PartLaws.{part_filled}
