@@ -55,6 +55,7 @@ fn mask_of(states: &[usize]) -> u64
 }
 
 // The state after s in a ring that starts at `from` and ends before `end`.
+#[tactic(auto, unfolding(crate::specs::Rings::ring_next))]
 fn ring_next(from: usize, end: usize, s: usize) -> usize
     requires { s < 64 }
     ensures { result ≡ ring_next from end s }
@@ -64,6 +65,7 @@ fn ring_next(from: usize, end: usize, s: usize) -> usize
 
 impl Family {
     // The state beside its ring to which the first state of an abstract machine leads; `after` is the first state after the rings.
+    #[tactic(auto, unfolding(crate::specs::Rings::side_state))]
     fn side_state(self, second: usize, after: usize) -> usize
         requires { (second ≤ 4294967296) × (after ≤ 8589934592) }
         ensures { result ≡ side_state self second after }
@@ -77,6 +79,7 @@ impl Family {
     // State number i after the rings of an abstract machine, of which `after` is the first: the one that leads to the universal state, the
     // universal state, ends of observation 1 and 2; in the second family one that leads back into the second ring, one that leads to the last,
     // and the last, which never shows 1 again.
+    #[tactic(auto, unfolding(crate::specs::Rings::further_states))]
     fn further_state(self, second: usize, after: usize, i: usize) -> State
         requires { (second ≤ 4294967296) × (after ≤ 8589934592) }
         ensures { result ≡ get_or (further_states self second after) i (last_state after) }
@@ -132,6 +135,7 @@ struct Plan {
 
 impl Plan {
     // State s of a concrete machine; `end` is the one of observation 1.
+    #[tactic(auto, unfolding(crate::specs::Rings::concrete_state))]
     fn concrete_state(self, s: usize) -> State
         requires { s < 64 }
         ensures { result ≡ concrete_state self.family self.rings s }
@@ -185,6 +189,7 @@ impl Plan {
     }
 
     // State s of an abstract machine.
+    #[tactic(auto, unfolding(crate::specs::Rings::abstract_state))]
     fn abstract_state(self, s: usize) -> State
         requires { s < 64 }
         ensures { result ≡ abstract_state self.family self.rings s }
@@ -223,6 +228,7 @@ impl Plan {
     }
 
     // How many states a machine has.
+    #[tactic(auto, unfolding(crate::specs::Rings::ring_states, crate::specs::Rings::states_after))]
     fn states(self) -> usize
         ensures { result ≡ ring_states self.kind self.family self.rings }
     {
@@ -237,6 +243,7 @@ impl Plan {
     }
 
     // State s of a machine; past its states everything is zero.
+    #[tactic(auto, unfolding(crate::specs::Rings::ring_state, crate::specs::Rings::own_state))]
     fn state(self, s: usize) -> State
         requires { s < 64 }
         ensures { result ≡ ring_state self.kind self.family self.rings s }
@@ -251,6 +258,7 @@ impl Plan {
     }
 
     // The start states: those of both rings, of an abstract machine those of the second, so that a play has to follow the ranks along a chain.
+    #[tactic(auto, unfolding(crate::specs::Rings::start_states))]
     fn start_states(self) -> u64
         ensures { result ≡ start_states self.kind self.rings }
     {
@@ -292,6 +300,7 @@ impl Plan {
 }
 
 // A pair of such machines, with no bit hidden.
+#[tactic(auto, unfolding(crate::specs::Rings::ring_pair))]
 pub fn ring_pair(family: Family, concrete: Rings, abstraction: Rings) -> Pair
     ensures { result ≡ ring_pair family concrete abstraction }
 {

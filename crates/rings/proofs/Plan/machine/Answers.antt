@@ -1,3 +1,4 @@
+-- Each array is a table of what the states have.
 use Rattle.std.proofs.Common.{◌≡◌, cond, ltb, rules, tests}
 use Rattle.mask.specs.Tables.{table}
 use Rattle.rings.specs.Rings.{ring_machine, ring_state}
