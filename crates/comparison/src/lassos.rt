@@ -10,6 +10,7 @@ use machine::{Pair, Refusal, Run};
 
 // Whether the front of a buffer is the rule's run, and with its stem a fair lasso of the abstract machine from a start state, with the
 // lasso's observations in the bits that are not hidden.
+#[tactic(auto, unfolding(crate::specs::Lassos::run_fits, mask::specs::Logic::and))]
 fn run_fits(p: Pair, table: &[u16], lasso: Lasso, buffer: &[u8], run: Run) -> bool
     ensures { result ≡ run_fits p table.now (lent lasso.entry) buffer.now run.stem run.cycle }
 {
@@ -45,6 +46,7 @@ fn lasso_agrees(
 }
 
 // One lasso.
+#[tactic(auto, unfolding(crate::specs::Lassos::lasso_tally))]
 fn compare_lasso(p: Pair, table: &[u16], lasso: Lasso) -> Tally
     ensures { result ≡ lasso_tally p table.now (lent lasso.entry) }
 {
@@ -66,6 +68,7 @@ struct LassoShape {
 }
 
 // Lasso number x of a shape: its states are digits.
+#[tactic(auto, unfolding(crate::specs::Lassos::numbered_lasso))]
 fn compare_numbered(p: Pair, table: &[u16], shape: LassoShape, x: u64) -> Tally
     requires { shape.stem + shape.cycle ≤ 4 }
     ensures { result ≡ lasso_tally p table.now (numbered_lasso shape.top shape.stem shape.cycle x) }

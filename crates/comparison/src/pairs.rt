@@ -41,6 +41,7 @@ pub struct Series {
 
 // Whether the solver's table, whose own count is given, passes each line; and where all tables were tried, of which so many are Carried, whether it is
 // Carried exactly if some table is.
+#[tactic(auto, unfolding(crate::specs::Pairs::verdict_fits, crate::specs::Pairs::carried_fits, mask::specs::Logic::and, mask::specs::Logic::not))]
 fn verdict_fits(own: Tally, carrying: Option<u64>) -> bool
     ensures { result ≡ verdict_fits own carrying }
 {
@@ -52,6 +53,7 @@ fn verdict_fits(own: Tally, carrying: Option<u64>) -> bool
 }
 
 // Whether what is said of the solver's table fits, and it covers what the lifted one covers, and no more, and has the ranks.
+#[tactic(auto, unfolding(crate::specs::Pairs::solution_agrees, mask::specs::Logic::and))]
 fn solution_agrees(p: Pair, n: usize, fits: bool, lifted: &[u16], solved: &[u16]) -> bool
     ensures { result ≡ solution_agrees p n fits lifted.now solved.now }
 {
@@ -61,6 +63,7 @@ fn solution_agrees(p: Pair, n: usize, fits: bool, lifted: &[u16], solved: &[u16]
 }
 
 // The solver's table of n entries beside the other algorithm's.
+#[tactic(auto, unfolding(crate::specs::Pairs::solution_tally, mask::specs::Logic::not))]
 fn compare_solution(p: Pair, n: usize, carrying: Option<u64>, solved: &[u16]) -> Tally
     ensures { result ≡ solution_tally p n carrying solved.now }
 {

@@ -17,6 +17,7 @@ pub fn is_within(n: usize, table: &[u16], other: &[u16]) -> bool
 }
 
 // Whether a verdict is Carried.
+#[tactic(auto, unfolding(crate::specs::Tables::is_carried))]
 fn is_carried(verdict: Verdict) -> bool
     ensures { result ≡ is_carried verdict }
 {
@@ -77,6 +78,7 @@ impl<'a> Numbered<'a> {
     }
 
     // Puts table number x into `table`.
+    #[tactic(auto, unfolding(crate::specs::Tables::tried_table))]
     fn put(&self, x: u64, table: &mut [u16])
         ensures { table.new ≡ tried_table self.now.which self.now.top self.now.n self.now.solved.now x table.old }
     {

@@ -43,6 +43,7 @@ fn is_kept(from: usize, table: &[u16; 28672]) -> bool
 }
 
 // Whether the next family has the pairs with a rank over the given one, and no stray bits.
+#[tactic(auto, unfolding(crate::specs::Turns::rows_fit, mask::specs::Logic::and))]
 fn rows_fit(p: Pair, given: &[u16], next: &[u64; 448]) -> bool
     ensures { result ≡ rows_fit p given.now next.now }
 {
@@ -55,6 +56,7 @@ fn rows_fit(p: Pair, given: &[u16], next: &[u64; 448]) -> bool
 }
 
 // Whether a finished turn wrote n entries, the ranks over the family.
+#[tactic(auto, unfolding(crate::specs::Turns::table_fits, mask::specs::Logic::and))]
 fn table_fits(p: Pair, n: usize, given: &[u16], table: &[u16; 28672]) -> bool
     ensures { result ≡ table_fits p n given.now table.now }
 {
@@ -63,6 +65,7 @@ fn table_fits(p: Pair, n: usize, given: &[u16], table: &[u16; 28672]) -> bool
 
 impl Known {
     // Whether a turn of a pair that is not refused left a family that fits, and wrote the table only if that is the one before.
+    #[tactic(auto, unfolding(crate::specs::Turns::left_fits, mask::specs::Logic::and))]
     fn left_fits(&self, family: &[u64; 448], next: &[u64; 448], table: &[u16; 28672]) -> bool
         ensures { result ≡ left_fits self.now family.now next.now table.now }
     {
@@ -94,6 +97,7 @@ impl Known {
     }
 
     // One turn.
+    #[tactic(auto, unfolding(crate::specs::Turns::turn_tally, crate::specs::Turns::turn_said))]
     fn compare_turn(&self, family: &mut [u64; 448]) -> Step
         ensures tally { result.tally ≡ turn_tally self.now family.old }
         ensures finished { result.finished ≡ says_yes (turn_said self.now.pair family.old) }
@@ -113,6 +117,7 @@ impl Known {
     // ---- Look-ups
 
     // Whether a look-up's section, counted from 1, and states are in range.
+    #[tactic(auto, unfolding(crate::specs::Turns::in_range, mask::specs::Logic::and, mask::specs::Logic::not))]
     fn in_range(&self, section: usize, c: usize, a: usize) -> bool
         ensures { result ≡ in_range self.now section c a }
     {
@@ -176,6 +181,7 @@ impl Known {
     // ---- Families
 
     // The turn of one family, and its look-ups.
+    #[tactic(auto, unfolding(crate::specs::Turns::family_tally))]
     fn compare_family(&self, family: &mut [u64; 448]) -> Step
         ensures tally { result.tally ≡ family_tally self.now family.old }
         ensures finished { result.finished ≡ says_yes (turn_said self.now.pair family.old) }
@@ -203,6 +209,7 @@ impl Known {
 
     // Whether a first family has all matched pairs in every section and no stray bits. It begins as `rows_fit` does: a function of what both do would
     // have to give 57 KB back, or to take a closure for the rest.
+    #[tactic(auto, unfolding(crate::specs::Turns::first_fits, mask::specs::Logic::and))]
     fn first_fits(&self, family: &[u64; 448]) -> bool
         ensures { result ≡ first_fits self.now family.now }
     {
@@ -227,6 +234,7 @@ impl Known {
     }
 
     // Whether a turn after the finish is finished too, and writes the solver's entries.
+    #[tactic(auto, unfolding(crate::specs::Turns::end_agrees, crate::specs::Turns::turn_said, mask::specs::Logic::and))]
     fn end_agrees(&self, family: &mut [u64; 448], solved: &[u16]) -> bool
         ensures { result ≡ end_agrees self.now.pair self.now.entries family.old solved.now }
     {
@@ -288,6 +296,7 @@ pub fn compare_turns(
 }
 
 // A pair that the solver refuses: the first family, and one of which each row has two bits.
+#[tactic(auto, unfolding(crate::specs::Turns::stopped_tally, crate::specs::Turns::unknown))]
 pub fn compare_stopped(p: Pair, plain: Result<(), Refusal>) -> Tally
     ensures { result ≡ stopped_tally p plain }
 {

@@ -5,10 +5,6 @@ use Rattle.mask.specs.Logic.{and}
 use Rattle.comparison.specs.Turns.{left_fits, same_rows}
 use Rattle.comparison.proofs.turns.Known.left_fits.Goals as goal
 
-pub returns-else-rows_fit : goal.returns-else-rows_fit
-unfolding left_fits and
-returns-else-rows_fit c = grind (arith, common_steps)
-
 pub returns-then-eq : goal.returns-then-eq
 unfolding left_fits same_rows and
 returns-then-eq c =
