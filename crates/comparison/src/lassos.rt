@@ -28,6 +28,7 @@ fn run_fits(p: Pair, table: &[u16], lasso: Lasso, buffer: &[u8], run: Run) -> bo
 }
 
 // Whether the player's answer is the rule's, and its run fits.
+#[tactic(auto, using(crate::proofs::EqualLaws::runs_told), unfolding(crate::specs::Lassos::lasso_agrees, crate::specs::Lassos::answer_fits, mask::specs::Logic::and))]
 fn lasso_agrees(
     p: Pair,
     table: &[u16],

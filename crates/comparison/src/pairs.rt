@@ -79,6 +79,7 @@ fn compare_solution(p: Pair, n: usize, carrying: Option<u64>, solved: &[u16]) ->
 
 // A well-formed pair with a table: if it was solved, the solver's.
 // Solver's and lifted table are used alike but for one comparison: an enum of the two would be taken apart again for the others.
+#[tactic(auto, using(crate::proofs::SizeLaws::sizes), unfolding(crate::specs::Pairs::formed_tally, crate::specs::Pairs::tables_tally, crate::specs::Pairs::carried_of))]
 fn compare_formed(formed: Formed, t: Trial, solved: bool, table: &[u16]) -> Tally
     ensures { result ≡ formed_tally t formed.entry.pair.now solved table.now }
 {
@@ -119,6 +120,7 @@ fn compare_unsolved(p: Pair, t: Trial) -> Tally
 }
 
 // Any pair.
+#[tactic(auto, using(crate::proofs::EqualLaws::units_told, crate::specs::PairsLaws::solved_well), unfolding(crate::specs::Pairs::pair_tally, machine::specs::WellFormed::is_valid))]
 pub fn compare_pair(p: Pair, t: Trial) -> Tally
     ensures { result ≡ pair_tally t p }
 {

@@ -148,6 +148,7 @@ impl Known {
     }
 
     // One look-up.
+    #[tactic(auto, using(crate::proofs::EqualLaws::bools_told), unfolding(crate::specs::Turns::look_up_tally))]
     fn compare_look_up(
         &self,
         given: &[u16],
@@ -224,6 +225,7 @@ impl Known {
     }
 
     // Whether the first family is given, and fits, or refused as brute force says.
+    #[tactic(auto, using(crate::proofs::EqualLaws::units_told), unfolding(crate::specs::Turns::first_agrees, crate::specs::Turns::given_agrees, mask::specs::Logic::and))]
     fn first_agrees(&self) -> bool
         ensures { result ≡ first_agrees self.now }
     {
@@ -271,6 +273,7 @@ fn same_entries(n: usize, x: &[u16], y: &[u16]) -> bool
 }
 
 // A pair that the solver takes, with its table: the first family, those up to the finish, and the first `count` of all.
+#[tactic(auto, using(crate::proofs::SizeLaws::sizes), unfolding(crate::specs::Turns::turns_tally, crate::specs::Turns::known_of))]
 pub fn compare_turns(
     formed: Formed,
     plain: Result<(), Refusal>,
