@@ -16,8 +16,8 @@ pub struct Numbers {
     pub step: u32,
 }
 
-// What is tried of a pair. Tables: the first `tables` of all, or of those with one entry of the solver's changed (of a pair that the solver refuses,
-// of the lifted one's). Lassos: those with a stem of at most `stem` states. Families, beside those from the first to the finish: the first `families`
+// What is tried of a pair. Tables: the first `tables` of all tables, or of the solver's with one entry changed (of a pair that the solver refuses,
+// of the lifted one). Lassos: those with a stem of at most `stem` states. Families, beside those from the first to the finish: the first `families`
 // of all whose rows are digits from 0 to `row`.
 #[derive(Clone, Copy)]
 pub struct Trial {

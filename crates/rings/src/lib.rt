@@ -24,7 +24,7 @@ pub struct Rings {
 }
 
 // The two families of pairs.
-#[derive(Clone, Copy)]
+#[derive(Clone, Copy, Debug, PartialEq, Eq)]
 pub enum Family {
     // plays stay at an end; the first state of the abstract machine leads into its second ring too, to state number `entry` there
     Staying { entry: u32 },
@@ -33,7 +33,7 @@ pub enum Family {
 }
 
 // Which machine of a pair.
-#[derive(Clone, Copy)]
+#[derive(Clone, Copy, Debug, PartialEq, Eq)]
 enum Kind {
     Concrete,
     Abstract,
