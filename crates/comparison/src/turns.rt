@@ -65,7 +65,7 @@ fn table_fits(p: Pair, n: usize, given: &[u16], table: &[u16; 28672]) -> bool
 
 impl Known {
     // Whether a turn of a pair that is not refused left a family that fits, and wrote the table only if that is the one before.
-    #[tactic(auto, unfolding(crate::specs::Turns::left_fits, mask::specs::Logic::and))]
+    #[tactic(auto, using(crate::proofs::EqualLaws::rows_told), unfolding(crate::specs::Turns::left_fits, mask::specs::Logic::and))]
     fn left_fits(&self, family: &[u64; 448], next: &[u64; 448], table: &[u16; 28672]) -> bool
         ensures { result ≡ left_fits self.now family.now next.now table.now }
     {
@@ -80,6 +80,7 @@ impl Known {
     }
 
     // Whether a turn said what brute force says, and left the family and the table that it has to leave.
+    #[tactic(auto, using(crate::proofs::EqualLaws::rows_told, crate::proofs::EqualLaws::bools_told), unfolding(crate::specs::Turns::turn_agrees, crate::specs::Turns::plain_agrees, crate::specs::Turns::made_agrees, crate::specs::Turns::stopped_agrees, mask::specs::Logic::and))]
     fn turn_agrees(
         &self,
         said: Result<bool, Refusal>,
