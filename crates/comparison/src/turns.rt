@@ -129,6 +129,7 @@ impl Known {
     }
 
     // What a look-up has to say, where `given` covers what the family holds.
+    #[tactic(auto, using(machine::specs::RefusalsLaws::then_of), unfolding(crate::specs::Turns::plain_look_up, crate::specs::Turns::in_range, mask::specs::Logic::and, mask::specs::Logic::not))]
     fn plain_look_up(
         &self,
         given: &[u16],
