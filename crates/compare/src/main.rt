@@ -1,11 +1,12 @@
 // Compares solver, solver by turns, check and player with brute force on series of small pairs, and writes a line of counts for each.
 #![tactic(auto)]
 
-ghost use Rattle.std.specs.Prelude.{true, false, ◌≡◌, ◌≤◌, ◌-◌, ◌^◌};
+ghost use Rattle.std.specs.Prelude.{◌≡◌, ◌≤◌, ◌-◌, ◌^◌};
+ghost use Rattle.comparison.specs.declared.tables.Tables.TheVariants.{Every, Altered};
 
 use brute::Shape;
-use comparison::{Numbers, Series, Tally, Trial};
-use rings::Rings;
+use comparison::{Numbers, Series, Tables, Tally, Trial};
+use rings::{Family, Rings};
 use std::io;
 
 // Writes the rest of a series' line.
@@ -54,6 +55,7 @@ struct Machines {
 
 // Machines of `states` states, from 1 to 3, and `sets` sets. Their greatest digit is 2^states - 1, so that a mask can be any set of states, and
 // the states in `twos` have 2 added to their observations, which else are 0 and 1.
+// Five numbers, and no structs of them: so the machines of a series are one line each below.
 fn numbered(states: usize, sets: usize, twos: u64, count: u32, step: u32) -> Machines
     requires { states ≤ 3 }
     ensures { result ≡ record { shape = record { states = states; sets = sets; top = 2 ^ states - 1; twos = twos }; numbers = record { count = count; step = step } } }
@@ -72,10 +74,10 @@ fn numbered(states: usize, sets: usize, twos: u64, count: u32, step: u32) -> Mac
 // All tables of a tiny pair, lassos with a stem of at most two states, and all families: each row is any set of abstract states and of one number past
 // them, a digit from 0 to `row`. After these come a few with a bit in every row past the sections and concrete states.
 fn every_table(tables: u64, families: u64, row: u32) -> Trial
-    ensures { result ≡ record { every = true; tables = tables; stem = 2; families = families; row = row } }
+    ensures { result ≡ record { which = Every; tables = tables; stem = 2; families = families; row = row } }
 {
     Trial {
-        every: true,
+        which: Tables::Every,
         tables,
         stem: 2,
         families,
@@ -86,10 +88,10 @@ fn every_table(tables: u64, families: u64, row: u32) -> Trial
 // The solver's table, or the lifted one of a pair that the solver refuses, and all that differ from it in one entry, and lassos with a stem of at
 // most `stem` states.
 fn altered_tables(tables: u64, stem: usize) -> Trial
-    ensures { result ≡ record { every = false; tables = tables; stem = stem; families = 0; row = 0 } }
+    ensures { result ≡ record { which = Altered; tables = tables; stem = stem; families = 0; row = 0 } }
 {
     Trial {
-        every: false,
+        which: Tables::Altered,
         tables,
         stem,
         families: 0,
@@ -208,15 +210,15 @@ fn ring(first: u32, second: u32, sets: usize) -> Rings
 // A pair of rings, with the solver's table and all that differ from it in one entry.
 #[derive(Clone, Copy)]
 struct RingPair {
-    entry: u32,
+    family: Family,
     concrete: Rings,
     abstraction: Rings,
     tables: u64,
 }
 
-fn rings_of(entry: u32, concrete: Rings, abstraction: Rings, tables: u64) -> RingPair {
+fn rings_of(family: Family, concrete: Rings, abstraction: Rings, tables: u64) -> RingPair {
     RingPair {
-        entry,
+        family,
         concrete,
         abstraction,
         tables,
@@ -226,34 +228,69 @@ fn rings_of(entry: u32, concrete: Rings, abstraction: Rings, tables: u64) -> Rin
 // Pairs of the first family: four of coprime rings, two of others, and one with an entry past the states.
 fn staying() -> [RingPair; 7] {
     [
-        rings_of(1, ring(2, 2, 2), ring(3, 3, 1), 7380),
-        rings_of(0, ring(3, 3, 1), ring(2, 2, 2), 8576),
-        rings_of(2, ring(3, 2, 1), ring(2, 5, 1), 6160),
-        rings_of(3, ring(2, 3, 1), ring(3, 5, 1), 7308),
-        rings_of(1, ring(3, 2, 1), ring(2, 3, 1), 4158),
-        rings_of(0, ring(2, 2, 2), ring(2, 2, 2), 9504),
-        rings_of(9, ring(2, 2, 1), ring(3, 3, 1), 3780),
+        rings_of(
+            Family::Staying { entry: 1 },
+            ring(2, 2, 2),
+            ring(3, 3, 1),
+            7380,
+        ),
+        rings_of(
+            Family::Staying { entry: 0 },
+            ring(3, 3, 1),
+            ring(2, 2, 2),
+            8576,
+        ),
+        rings_of(
+            Family::Staying { entry: 2 },
+            ring(3, 2, 1),
+            ring(2, 5, 1),
+            6160,
+        ),
+        rings_of(
+            Family::Staying { entry: 3 },
+            ring(2, 3, 1),
+            ring(3, 5, 1),
+            7308,
+        ),
+        rings_of(
+            Family::Staying { entry: 1 },
+            ring(3, 2, 1),
+            ring(2, 3, 1),
+            4158,
+        ),
+        rings_of(
+            Family::Staying { entry: 0 },
+            ring(2, 2, 2),
+            ring(2, 2, 2),
+            9504,
+        ),
+        rings_of(
+            Family::Staying { entry: 9 },
+            ring(2, 2, 1),
+            ring(3, 3, 1),
+            3780,
+        ),
     ]
 }
 
 // Pairs of the second family: four of coprime rings, two of others, and one with too long a ring.
 fn leading_back() -> [RingPair; 7] {
     [
-        rings_of(0, ring(2, 2, 2), ring(3, 3, 1), 12402),
-        rings_of(0, ring(3, 3, 1), ring(2, 2, 2), 16016),
-        rings_of(0, ring(3, 2, 1), ring(2, 5, 1), 9898),
-        rings_of(0, ring(2, 3, 1), ring(3, 5, 1), 11340),
-        rings_of(0, ring(3, 2, 1), ring(2, 3, 1), 7308),
-        rings_of(0, ring(2, 2, 2), ring(2, 2, 1), 8910),
-        rings_of(0, ring(2, 2, 1), ring(3, 60, 1), 6318),
+        rings_of(Family::LeadingBack, ring(2, 2, 2), ring(3, 3, 1), 12402),
+        rings_of(Family::LeadingBack, ring(3, 3, 1), ring(2, 2, 2), 16016),
+        rings_of(Family::LeadingBack, ring(3, 2, 1), ring(2, 5, 1), 9898),
+        rings_of(Family::LeadingBack, ring(2, 3, 1), ring(3, 5, 1), 11340),
+        rings_of(Family::LeadingBack, ring(3, 2, 1), ring(2, 3, 1), 7308),
+        rings_of(Family::LeadingBack, ring(2, 2, 2), ring(2, 2, 1), 8910),
+        rings_of(Family::LeadingBack, ring(2, 2, 1), ring(3, 60, 1), 6318),
     ]
 }
 
-// Compares some pairs of one family.
-fn compare_rings(back: bool, pairs: &[RingPair]) -> Tally {
+// Compares some pairs of rings.
+fn compare_rings(pairs: &[RingPair]) -> Tally {
     let mut sum = Tally::default();
     for r in pairs {
-        let p = rings::ring_pair(back, r.entry, r.concrete, r.abstraction);
+        let p = rings::ring_pair(r.family, r.concrete, r.abstraction);
         sum = sum + comparison::compare_pair(p, altered_tables(r.tables, 2));
     }
     sum
@@ -272,7 +309,7 @@ fn main(rt: HostRuntime) -> io::Result<()> {
         }
     }
     print!(rt; "rings with ends that stay")?;
-    counts(&rt, compare_rings(false, &staying()))?;
+    counts(&rt, compare_rings(&staying()))?;
     print!(rt; "rings with an end that leads back")?;
-    counts(&rt, compare_rings(true, &leading_back()))
+    counts(&rt, compare_rings(&leading_back()))
 }

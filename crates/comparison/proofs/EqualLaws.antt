@@ -1,5 +1,6 @@
 -- What the code's `==` says of two answers: its derived tests are those of the definitions, since each decides that the two are one.
-use Rattle.std.specs.Prelude.{◌≡◌, Bool}
+use Rattle.std.specs.Prelude.{◌≡◌, Bool, ℕ, List, length, eqb}
+use lib.Pointwise.{pointwise}
 use Rattle.std.specs.Bool.{Decides, one_answer}
 use Rattle.std.specs.Cmp.{booleans_Decides}
 use Rattle.std.specs.Result.{result_eq}
@@ -12,6 +13,8 @@ use Rattle.machine.specs.contracts.RunPartialEq.TheImpl as run
 use Rattle.machine.specs.declared.Checked.{Checked}
 use Rattle.machine.specs.declared.Run.{Run}
 use Rattle.machine.specs.Refusals.{Answer, Tested}
+use Rattle.mask.proofs.RangeLaws.{pointwise_every}
+use Rattle.comparison.specs.Turns.{same_rows}
 use Rattle.comparison.specs.Answers.{same_answer, same_unit, same_checked, same_run}
 use Rattle.comparison.specs.AnswersLaws.{answers_same, units_same, checked_same, runs_same}
 
@@ -33,3 +36,8 @@ runs_told x y h = told_by (search rules) runs_same x y h
 
 pub checked_told : (x y : Answer Checked) {r : Bool} → r ≡ result_eq (checked.eq-value).it (refusal.eq-value).it x y → r ≡ same_answer same_checked x y
 checked_told x y h = told_by (search rules) checked_same x y h
+
+-- and of two families
+pub rows_told : (F N : List ℕ) → length F ≡ 448 → length N ≡ 448 → pointwise eqb F N ≡ same_rows F N
+unfolding same_rows
+rows_told F N a b = pointwise_every F N a b

@@ -12,6 +12,8 @@ use Rattle.machine.specs.Refusals.{Answer}
 use Rattle.machine.specs.Table.{blank, table_room}
 use Rattle.machine.specs.Verdict.{empty_set_of}
 use Rattle.brute.specs.Numbers.{entry_of, numbered_table}
+use Rattle.comparison.specs.declared.tables.Tables.{Tables}
+use Rattle.comparison.specs.declared.tables.Tables.TheVariants.{Every, Altered}
 use Rattle.comparison.specs.declared.tally.Tally.{Tally}
 use Rattle.comparison.specs.Answers.{same_answer, same_checked, check_answer}
 use Rattle.comparison.specs.Tallies.{of_table}
@@ -50,5 +52,6 @@ altered top x n S T =
     table (length T) (λ e. cond (nat_lt e n) (cond (e == x / (top + 1)) (entry_of (x % (top + 1))) (slice_index S e)) (slice_index T e))
 
 -- table number x: one of all tables, or S with one entry changed
-unfoldable pub tried_table : Bool → ℕ → ℕ → List ℕ → ℕ → List ℕ → List ℕ
-tried_table every top n S x T = cond every (numbered_table top x n T) (altered top x n S T)
+unfoldable pub tried_table : Tables → ℕ → ℕ → List ℕ → ℕ → List ℕ → List ℕ
+tried_table Every top n S x T = numbered_table top x n T
+tried_table Altered top n S x T = altered top x n S T

@@ -14,6 +14,8 @@ use Rattle.brute.specs.Numbers.{numbered_table}
 use Rattle.comparison.specs.Answers.{same_answer, same_checked, check_answer}
 use Rattle.comparison.specs.Tables.{altered, is_carried, says_carried, table_agrees, tried_table, table_tally, within}
 use Rattle.comparison.specs.Tallies.{of_table}
+use Rattle.comparison.specs.declared.tables.Tables.{Tables}
+use Rattle.comparison.specs.declared.tables.Tables.TheVariants.{Every, Altered}
 use Rattle.comparison.specs.declared.tally.Tally.{Tally}
 
 -- ---- one table's counts, from two answers x and y about it
@@ -53,33 +55,33 @@ module _ (e q w s v : ℕ) where
   entry_kept h t = rw (ne_eqb e q h) t
 
 -- ---- table number x
-table_of_twice : (every : Bool) (top n : ℕ) (S : List ℕ) (x y : ℕ) (T : List ℕ)
-    → tried_table every top n S x (tried_table every top n S y T) ≡ tried_table every top n S x T
+table_of_twice : (which : Tables) (top n : ℕ) (S : List ℕ) (x y : ℕ) (T : List ℕ)
+    → tried_table which top n S x (tried_table which top n S y T) ≡ tried_table which top n S x T
 unfolding tried_table numbered_table altered
-table_of_twice true top n S x y T = overlaid_twice n _ _ T
-table_of_twice false top n S x y T = overlaid_twice n _ _ T
+table_of_twice Every top n S x y T = overlaid_twice n _ _ T
+table_of_twice Altered top n S x y T = overlaid_twice n _ _ T
 
-table_of_length : (every : Bool) (top n : ℕ) (S : List ℕ) (x : ℕ) (T : List ℕ) → length (tried_table every top n S x T) ≡ length T
+table_of_length : (which : Tables) (top n : ℕ) (S : List ℕ) (x : ℕ) (T : List ℕ) → length (tried_table which top n S x T) ≡ length T
 unfolding tried_table numbered_table altered
-table_of_length true top n S x T = table_length _ _
-table_of_length false top n S x T = table_length _ _
+table_of_length Every top n S x T = table_length _ _
+table_of_length Altered top n S x T = table_length _ _
 
 -- laid over B, each table is what it is laid over A
-pub record Reused (every : Bool) (top n : ℕ) (S A B : List ℕ) : Type 0 where
+pub record Reused (which : Tables) (top n : ℕ) (S A B : List ℕ) : Type 0 where
   pub size : length B ≡ length A
-  pub alike : (x : ℕ) → tried_table every top n S x B ≡ tried_table every top n S x A
+  pub alike : (x : ℕ) → tried_table which top n S x B ≡ tried_table which top n S x A
 
-pub reused_start : (every : Bool) (top n : ℕ) (S A : List ℕ) → Reused every top n S A A
-reused_start every top n S A = record { size = refl; alike = λ x. refl }
+pub reused_start : (which : Tables) (top n : ℕ) (S A : List ℕ) → Reused which top n S A A
+reused_start which top n S A = record { size = refl; alike = λ x. refl }
 
-pub reused_turn : {every : Bool} {top n : ℕ} {S A B : List ℕ} (y : ℕ) (C : List ℕ) → Reused every top n S A B → C ≡ tried_table every top n S y B
-    → Reused every top n S A C
-reused_turn {every} {top} {n} {S} {A} {B} y C b e = record {
-  size = ap length e ∙ table_of_length every top n S y B ∙ b.size;
-  alike = λ x. ap (tried_table every top n S x) e ∙ table_of_twice every top n S x y B ∙ b.alike x;
+pub reused_turn : {which : Tables} {top n : ℕ} {S A B : List ℕ} (y : ℕ) (C : List ℕ) → Reused which top n S A B → C ≡ tried_table which top n S y B
+    → Reused which top n S A C
+reused_turn {which} {top} {n} {S} {A} {B} y C b e = record {
+  size = ap length e ∙ table_of_length which top n S y B ∙ b.size;
+  alike = λ x. ap (tried_table which top n S x) e ∙ table_of_twice which top n S x y B ∙ b.alike x;
 }
 
 -- one table's counts, from a buffer that was used before
-pub reused_tally : {every : Bool} {top n : ℕ} {S A B : List ℕ} (p : Pair) (x : ℕ) (C : List ℕ) (r : Tally) → Reused every top n S A B
-    → C ≡ tried_table every top n S x B → r ≡ table_tally p n S C → r ≡ table_tally p n S (tried_table every top n S x A)
+pub reused_tally : {which : Tables} {top n : ℕ} {S A B : List ℕ} (p : Pair) (x : ℕ) (C : List ℕ) (r : Tally) → Reused which top n S A B
+    → C ≡ tried_table which top n S x B → r ≡ table_tally p n S C → r ≡ table_tally p n S (tried_table which top n S x A)
 reused_tally {n} {S} p x C r b e t = t ∙ ap (table_tally p n S) (e ∙ b.alike x)

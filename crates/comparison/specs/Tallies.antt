@@ -58,8 +58,8 @@ unfoldable pub of_pair : Bool → Tally
 of_pair agrees = counts 1 0 0 0 0 0 0 0 0 0 0 0 0 0 (cond agrees 0 1)
 
 -- the solver's table of one pair
-unfoldable pub of_solution : ℕ → Bool → Tally
-of_solution carried agrees = counts 0 1 1 carried 0 0 0 0 0 0 0 0 0 0 (cond agrees 0 1)
+unfoldable pub of_solution : Bool → Bool → Tally
+of_solution carried agrees = counts 0 1 1 (cond carried 1 0) 0 0 0 0 0 0 0 0 0 0 (cond agrees 0 1)
 
 -- one well-formed pair that the solver refuses
 unfoldable pub of_unsolved : Tally

@@ -38,18 +38,20 @@ same_rows F N = every 448 (λ e. nat_eq (slice_index F e) (slice_index N e))
 unfoldable pub rows_fit : Pair → List ℕ → List ℕ → Bool
 rows_fit p G N = and (holds_pairs p N) (table_ranked p false G (family_table p N zeros))
 
--- a finished turn wrote n entries, the ranks over what G covers, and any other turn none
-unfoldable pub table_fits : Pair → ℕ → Bool → List ℕ → List ℕ → Bool
-table_fits p n finished G T = cond finished (and (kept_from n T) (table_ranked p true G T)) (kept_from 0 T)
+-- a finished turn wrote n entries, the ranks over what G covers
+unfoldable pub table_fits : Pair → ℕ → List ℕ → List ℕ → Bool
+table_fits p n G T = and (kept_from n T) (table_ranked p true G T)
 
 module _ (k : Known) where
-  -- what a turn left and wrote, where nothing is refused
-  unfoldable pub left_fits : Bool → List ℕ → List ℕ → List ℕ → Bool
-  left_fits finished F N T = let G = family_table k.pair F zeros in and (rows_fit k.pair G N) (table_fits k.pair k.entries finished G T)
+  -- what a turn left and wrote, where nothing is refused: it is finished exactly if the rows are the same, and any other writes no entry
+  unfoldable pub left_fits : List ℕ → List ℕ → List ℕ → Bool
+  left_fits F N T =
+      let G = family_table k.pair F zeros in
+      and (rows_fit k.pair G N) (cond (same_rows F N) (table_fits k.pair k.entries G T) (kept_from 0 T))
 
-  -- and what it said: it is finished exactly if the rows are the same
+  -- and what it said
   unfoldable pub made_agrees : Answer Bool → List ℕ → List ℕ → List ℕ → Bool
-  made_agrees said F N T = and (same_answer beq said (Ok (same_rows F N))) (left_fits (same_rows F N) F N T)
+  made_agrees said F N T = and (same_answer beq said (Ok (same_rows F N))) (left_fits F N T)
 
   -- and beside a refusal: family and table are as they were
   unfoldable pub stopped_agrees : Refusal → Answer Bool → List ℕ → List ℕ → List ℕ → Bool

@@ -1,28 +1,14 @@
--- Laws of what is compared of the solver by turns, case by case.
-use Rattle.std.specs.Prelude.{◌≡◌, ℕ, suc, ◌+◌, Bool, true, false, cond, List, length, Ok, Err}
+-- Laws of the walk from the first family to the finish, case by case.
+use Rattle.std.specs.Prelude.{◌≡◌, ℕ, suc, ◌+◌, Bool, true, false, cond, List, length, Ok}
 use Rattle.std.proofs.Common.{◌∙◌, sym}
-use Rattle.std.proofs.Math.Bool.{beq}
-use Rattle.mask.specs.Logic.{and}
-use Rattle.machine.specs.declared.Refusal.{Refusal}
 use Rattle.machine.specs.Refusals.{Answer}
 use Rattle.progress.specs.Turns.{first_answer, turn_family}
 use Rattle.comparison.specs.declared.tally.Tally.{Tally}
 use Rattle.comparison.specs.declared.turns.Known.{Known}
-use Rattle.comparison.specs.Answers.{same_answer, says_yes}
+use Rattle.comparison.specs.Answers.{says_yes}
 use Rattle.comparison.specs.Tallies.{nothing, of_test, plus}
-use Rattle.comparison.specs.Turns.{end_agrees, family_tally, kept_from, made_agrees, marks, plain_agrees, left_fits, same_rows, stopped_agrees, turn_agrees, turn_said, walk_tally, walked, walked_from}
+use Rattle.comparison.specs.Turns.{end_agrees, family_tally, marks, turn_said, walk_tally, walked, walked_from}
 
--- ---- a turn beside brute force
-module _ (k : Known) (said : Answer Bool) (F N T : List ℕ) {same told : Bool} (es : same ≡ same_rows F N) where
-  pub stopped_is : {r : Refusal} → k.plain ≡ Err r → told ≡ same_answer beq said (Err r) → turn_agrees k said F N T ≡ and told (and same (kept_from 0 T))
-  unfolding turn_agrees plain_agrees stopped_agrees
-  stopped_is e t = rw (e, t, es)
-
-  pub made_is : k.plain ≡ Ok tt → told ≡ same_answer beq said (Ok same) → turn_agrees k said F N T ≡ and told (left_fits k same F N T)
-  unfolding turn_agrees plain_agrees made_agrees
-  made_is e t = rw (e, t, es)
-
--- ---- the walk
 module _ (k : Known) where
   -- ---- from the first to the finish: A is what is counted in the end
   module _ (S : List ℕ) (n : ℕ) (F : List ℕ) (sum : Tally) {A : Tally} (a : walked k S n F sum ≡ A) where

@@ -8,4 +8,5 @@ mod tally;
 mod turns;
 
 pub use pairs::{Numbers, Series, Trial, compare, compare_pair};
+pub use tables::Tables;
 pub use tally::Tally;

@@ -1,14 +1,13 @@
 // All that is compared of a pair, and of a series of pairs.
-ghost use Rattle.std.specs.Prelude.{◌≡◌, true};
-ghost use Rattle.machine.specs.WellFormed.{well_formed};
+ghost use Rattle.std.specs.Prelude.{◌≡◌};
 ghost use Rattle.comparison.specs.Pairs.{verdict_fits, solution_agrees, solution_tally, formed_tally, unsolved_tally, pair_tally, row_tally, series_tally};
 
 use crate::lassos::compare_lassos;
-use crate::tables::{compare_table, compare_tables, is_within};
+use crate::tables::{Numbered, Tables, compare_table, is_within};
 use crate::tally::{Tally, total};
 use crate::turns::{compare_stopped, compare_turns};
 use brute::{Compared, Shape};
-use machine::Pair;
+use machine::{Formed, Pair};
 
 // The numbers 0, step, 2 x step, .., so many of them.
 #[derive(Clone, Copy)]
@@ -22,7 +21,7 @@ pub struct Numbers {
 // of all whose rows are digits from 0 to `row`.
 #[derive(Clone, Copy)]
 pub struct Trial {
-    pub every: bool,
+    pub which: Tables,
     pub tables: u64,
     pub stem: usize,
     pub families: u64,
@@ -40,15 +39,21 @@ pub struct Series {
     pub trial: Trial,
 }
 
-// Whether the solver's table, whose own count is given, passes each line; and where every table was tried, whether it is Carried exactly
-// if some table is.
-fn verdict_fits(own: Tally, every: bool, carrying: u64) -> bool
-    ensures { result ≡ verdict_fits own every carrying }
+// Whether the solver's table, whose own count is given, passes each line; and where all tables were tried, of which so many are Carried, whether it is
+// Carried exactly if some table is.
+#[tactic(auto, unfolding(crate::specs::Pairs::verdict_fits, crate::specs::Pairs::carried_fits, mask::specs::Logic::and, mask::specs::Logic::not))]
+fn verdict_fits(own: Tally, carrying: Option<u64>) -> bool
+    ensures { result ≡ verdict_fits own carrying }
 {
-    own.passing != 0 && (!every || (own.carrying == 0) == (carrying == 0))
+    own.passing != 0
+        && match carrying {
+            Some(n) => (own.carrying == 0) == (n == 0),
+            None => true,
+        }
 }
 
 // Whether what is said of the solver's table fits, and it covers what the lifted one covers, and no more, and has the ranks.
+#[tactic(auto, unfolding(crate::specs::Pairs::solution_agrees, mask::specs::Logic::and))]
 fn solution_agrees(p: Pair, n: usize, fits: bool, lifted: &[u16], solved: &[u16]) -> bool
     ensures { result ≡ solution_agrees p n fits lifted.now solved.now }
 {
@@ -58,33 +63,47 @@ fn solution_agrees(p: Pair, n: usize, fits: bool, lifted: &[u16], solved: &[u16]
 }
 
 // The solver's table of n entries beside the other algorithm's.
-fn compare_solution(p: Pair, n: usize, every: bool, carrying: u64, solved: &[u16]) -> Tally
-    ensures { result ≡ solution_tally p n every carrying solved.now }
+#[tactic(auto, unfolding(crate::specs::Pairs::solution_tally, mask::specs::Logic::not))]
+fn compare_solution(p: Pair, n: usize, carrying: Option<u64>, solved: &[u16]) -> Tally
+    ensures { result ≡ solution_tally p n carrying solved.now }
 {
     let own = compare_table(p, n, solved, solved);
-    let fits = verdict_fits(own, every, carrying);
+    let fits = verdict_fits(own, carrying);
     let mut lifted = [0u16; machine::TABLE_ROOM];
     brute::lift(p, &mut lifted);
-    Tally::of_solution(own.carrying, solution_agrees(p, n, fits, &lifted, solved))
+    Tally::of_solution(
+        own.carrying != 0,
+        solution_agrees(p, n, fits, &lifted, solved),
+    )
 }
 
 // A well-formed pair with a table: if it was solved, the solver's.
-fn compare_formed(p: Pair, t: Trial, solved: bool, table: &[u16]) -> Tally
-    requires { well_formed p ≡ true }
-    ensures { result ≡ formed_tally t p solved table.now }
+// Solver's and lifted table are used alike but for one comparison: an enum of the two would be taken apart again for the others.
+#[tactic(auto, using(crate::proofs::SizeLaws::sizes), unfolding(crate::specs::Pairs::formed_tally, crate::specs::Pairs::tables_tally, crate::specs::Pairs::carried_of))]
+fn compare_formed(formed: Formed, t: Trial, solved: bool, table: &[u16]) -> Tally
+    ensures { result ≡ formed_tally t formed.entry.pair.now solved table.now }
 {
-    let concrete = p.concrete;
-    let abstraction = p.abstraction;
-    let pairs = concrete.states * abstraction.states;
-    let n = abstraction.sets * pairs;
-    let top = concrete.sets * pairs + 2;
-    let tables = compare_tables(p, t.every, top as u16, n, t.tables, table);
+    let p = *formed.pair;
+    let pairs = p.concrete.states * p.abstraction.states;
+    let n = p.abstraction.sets * pairs;
+    let top = p.concrete.sets * pairs + 2;
+    let numbered = Numbered {
+        which: t.which,
+        top: top as u16,
+        n,
+        solved: table,
+    };
+    let tables = numbered.compare(p, t.tables);
+    let carrying = match t.which {
+        Tables::Every => Some(tables.carrying),
+        Tables::Altered => None,
+    };
     let solution = if solved {
-        compare_solution(p, n, t.every, tables.carrying, table)
+        compare_solution(p, n, carrying, table)
     } else {
         Tally::of_unsolved()
     };
-    tables + solution + compare_lassos(p, table, concrete.states as u8, t.stem)
+    tables + solution + compare_lassos(p, table, p.concrete.states as u8, t.stem)
 }
 
 // A pair that the solver refuses. A well-formed one has an empty set, and is tried with the lifted table in place of the solver's.
@@ -96,10 +115,12 @@ fn compare_unsolved(p: Pair, t: Trial) -> Tally
     }
     let mut lifted = [0u16; machine::TABLE_ROOM];
     brute::lift(p, &mut lifted);
-    compare_formed(p, t, false, &lifted)
+    let formed = Formed { pair: &p };
+    compare_formed(formed, t, false, &lifted)
 }
 
 // Any pair.
+#[tactic(auto, using(crate::proofs::EqualLaws::units_told, crate::specs::PairsLaws::solved_well), unfolding(crate::specs::Pairs::pair_tally, machine::specs::WellFormed::is_valid))]
 pub fn compare_pair(p: Pair, t: Trial) -> Tally
     ensures { result ≡ pair_tally t p }
 {
@@ -109,8 +130,9 @@ pub fn compare_pair(p: Pair, t: Trial) -> Tally
     let tried = Tally::of_pair(answer == plain);
     match answer {
         Ok(()) => {
-            let turns = compare_turns(p, plain, t.row, t.families, &solved);
-            tried + turns + compare_formed(p, t, true, &solved)
+            let formed = Formed { pair: &p };
+            let turns = compare_turns(formed, plain, t.row, t.families, &solved);
+            tried + turns + compare_formed(formed, t, true, &solved)
         }
         Err(_) => tried + compare_stopped(p, plain) + compare_unsolved(p, t),
     }

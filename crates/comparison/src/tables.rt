@@ -17,6 +17,7 @@ pub fn is_within(n: usize, table: &[u16], other: &[u16]) -> bool
 }
 
 // Whether a verdict is Carried.
+#[tactic(auto, unfolding(crate::specs::Tables::is_carried))]
 fn is_carried(verdict: Verdict) -> bool
     ensures { result ≡ is_carried verdict }
 {
@@ -40,43 +41,64 @@ pub fn compare_table(p: Pair, n: usize, table: &[u16], solved: &[u16]) -> Tally
     }
 }
 
-// Puts the solver's n entries into `table`, entry x / (top + 1) changed to what digit x % (top + 1) stands for.
-fn put_altered(x: u64, top: u16, n: usize, solved: &[u16], table: &mut [u16])
-    ensures { table.new ≡ altered top x n solved.now table.old }
-{
-    let base = top as u64 + 1;
-    let changed = x / base;
-    let value = brute::entry_of((x % base) as u16);
-    for e in 0..n.min(table.len()) {
-        table[e] = if e as u64 == changed {
-            value
-        } else {
-            brute::value_at(solved, e)
-        };
-    }
+// Which numbered tables are tried.
+#[derive(Clone, Copy, Debug, PartialEq, Eq)]
+pub enum Tables {
+    // all tables
+    Every,
+    // those that differ from the solver's in one entry at most
+    Altered,
 }
 
-// Puts table number x into `table`: one of all tables, or the solver's with one entry changed.
-fn put_table(every: bool, x: u64, top: u16, n: usize, solved: &[u16], table: &mut [u16])
-    ensures { table.new ≡ tried_table every top n solved.now x table.old }
-{
-    if every {
-        brute::put_entries(x, top, n, table);
-    } else {
-        put_altered(x, top, n, solved, table);
-    }
+// A pair's numbered tables, of n entries, each a digit from 0 to `top`; `solved` is the solver's.
+#[derive(Clone, Copy)]
+pub struct Numbered<'a> {
+    pub which: Tables,
+    pub top: u16,
+    pub n: usize,
+    pub solved: &'a [u16],
 }
 
-// The first `count` tables.
-pub fn compare_tables(p: Pair, every: bool, top: u16, n: usize, count: u64, solved: &[u16]) -> Tally
-    ensures { result ≡ total count (λ x. table_tally p n solved.now (tried_table every top n solved.now x zeros)) }
-{
-    let mut table = [0u16; machine::TABLE_ROOM];
-    let mut sum = Tally::default();
-    // not by `total`, whose closure writes nothing: each table is put over the last one, as zeroing 57 KB for each takes too long
-    for x in 0..count {
-        put_table(every, x, top, n, solved, &mut table);
-        sum = sum + compare_table(p, n, &table, solved);
+impl<'a> Numbered<'a> {
+    // Puts the solver's n entries into `table`, entry x / (top + 1) changed to what digit x % (top + 1) stands for.
+    fn put_altered(&self, x: u64, table: &mut [u16])
+        ensures { table.new ≡ altered self.now.top x self.now.n self.now.solved.now table.old }
+    {
+        let base = self.top as u64 + 1;
+        let changed = x / base;
+        let value = brute::entry_of((x % base) as u16);
+        let end = self.n.min(table.len());
+        for (e, entry) in table[..end].iter_mut().enumerate() {
+            *entry = if e as u64 == changed {
+                value
+            } else {
+                brute::value_at(self.solved, e)
+            };
+        }
     }
-    sum
+
+    // Puts table number x into `table`.
+    #[tactic(auto, unfolding(crate::specs::Tables::tried_table))]
+    fn put(&self, x: u64, table: &mut [u16])
+        ensures { table.new ≡ tried_table self.now.which self.now.top self.now.n self.now.solved.now x table.old }
+    {
+        match self.which {
+            Tables::Every => brute::put_entries(x, self.top, self.n, table),
+            Tables::Altered => self.put_altered(x, table),
+        }
+    }
+
+    // The first `count` tables.
+    pub fn compare(&self, p: Pair, count: u64) -> Tally
+        ensures { result ≡ total count (λ x. table_tally p self.now.n self.now.solved.now (tried_table self.now.which self.now.top self.now.n self.now.solved.now x zeros)) }
+    {
+        let mut table = [0u16; machine::TABLE_ROOM];
+        let mut sum = Tally::default();
+        // not by `total`, whose closure writes nothing: each table is put over the last one, as zeroing 57 KB for each takes too long
+        for x in 0..count {
+            self.put(x, &mut table);
+            sum = sum + compare_table(p, self.n, &table, self.solved);
+        }
+        sum
+    }
 }

@@ -30,6 +30,7 @@ pub struct Tally {
 
 impl Tally {
     // One pair, with its refusals compared.
+    #[tactic(auto, unfolding(crate::specs::Tallies::of_pair, crate::specs::Tallies::of_test))]
     pub(crate) fn of_pair(agrees: bool) -> Tally
         ensures { result ≡ of_pair agrees }
     {
@@ -39,19 +40,21 @@ impl Tally {
         }
     }
 
-    // The solver's table of one pair; `carried` is 1 where it is Carried, and else 0.
-    pub(crate) fn of_solution(carried: u64, agrees: bool) -> Tally
+    // The solver's table of one pair.
+    #[tactic(auto, unfolding(crate::specs::Tallies::of_solution, crate::specs::Tallies::of_test))]
+    pub(crate) fn of_solution(carried: bool, agrees: bool) -> Tally
         ensures { result ≡ of_solution carried agrees }
     {
         Tally {
             formed: 1,
             solved: 1,
-            carried,
+            carried: u64::from(carried),
             ..Tally::of_test(agrees)
         }
     }
 
     // One well-formed pair that the solver refuses.
+    #[tactic(auto, unfolding(crate::specs::Tallies::of_unsolved, crate::specs::Tallies::nothing))]
     pub(crate) fn of_unsolved() -> Tally
         ensures { result ≡ of_unsolved }
     {
@@ -62,6 +65,7 @@ impl Tally {
     }
 
     // One table.
+    #[tactic(auto, unfolding(crate::specs::Tallies::of_table, crate::specs::Tallies::of_test))]
     pub(crate) fn of_table(passing: bool, carried: bool, empty: bool, agrees: bool) -> Tally
         ensures { result ≡ of_table passing carried empty agrees }
     {
@@ -74,7 +78,8 @@ impl Tally {
         }
     }
 
-    // One lasso.
+    // One lasso. Of lassos, turns and look-ups each has a function: no parameter names the two fields in which these differ.
+    #[tactic(auto, unfolding(crate::specs::Tallies::of_lasso, crate::specs::Tallies::of_test))]
     pub(crate) fn of_lasso(runs: bool, agrees: bool) -> Tally
         ensures { result ≡ of_lasso runs agrees }
     {
@@ -86,6 +91,7 @@ impl Tally {
     }
 
     // One comparison that has no count of its own.
+    #[tactic(auto, unfolding(crate::specs::Tallies::of_test, crate::specs::Tallies::nothing))]
     pub(crate) fn of_test(agrees: bool) -> Tally
         ensures { result ≡ of_test agrees }
     {
@@ -96,6 +102,7 @@ impl Tally {
     }
 
     // One turn.
+    #[tactic(auto, unfolding(crate::specs::Tallies::of_turn, crate::specs::Tallies::of_test))]
     pub(crate) fn of_turn(finished: bool, agrees: bool) -> Tally
         ensures { result ≡ of_turn finished agrees }
     {
@@ -107,6 +114,7 @@ impl Tally {
     }
 
     // One look-up.
+    #[tactic(auto, unfolding(crate::specs::Tallies::of_look_up, crate::specs::Tallies::of_test))]
     pub(crate) fn of_look_up(held: bool, agrees: bool) -> Tally
         ensures { result ≡ of_look_up held agrees }
     {
@@ -122,6 +130,7 @@ impl Tally {
 impl Add for Tally {
     type Output = Tally;
 
+    #[tactic(auto, unfolding(crate::specs::Tallies::plus, crate::specs::Tallies::sum64))]
     fn add(self, other: Tally) -> Tally
         ensures { result ≡ plus self other }
     {

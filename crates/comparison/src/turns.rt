@@ -1,7 +1,6 @@
 // The solver by turns beside brute force: what a turn says, the family and the table that it leaves, and every look-up, for families of any content
 // and for those from the first to the finish.
-ghost use Rattle.std.specs.Prelude.{◌≡◌, ◌≤◌, true, length};
-ghost use Rattle.machine.specs.WellFormed.{well_formed};
+ghost use Rattle.std.specs.Prelude.{◌≡◌, ◌≤◌, length};
 ghost use Rattle.machine.specs.Table.{table_room};
 ghost use Rattle.progress.specs.Turns.{turn_family};
 ghost use Rattle.comparison.specs.Answers.{says_yes};
@@ -10,12 +9,13 @@ ghost use Rattle.comparison.specs.Turns.{marks, kept_from, same_entries, rows_fi
 use crate::tables::is_within;
 use crate::tally::{Tally, total};
 use brute::Compared;
-use machine::{Pair, Refusal};
+use machine::{Formed, Pair, Refusal};
 
 // What a lent table is full of: no rank, and not blank.
 const MARK: u16 = 40000;
 
-// A pair, and what brute force says of it: what its tests say, and if they refuse nothing how many entries, sections and states there are.
+// A pair, and what brute force says of it: what its tests say, and if they refuse nothing how many entries, sections and states there are, else 0.
+// No `Result` holds these: look-ups are tried of a refused pair too, by the same numbers.
 #[derive(Clone, Copy)]
 struct Known {
     pair: Pair,
@@ -43,6 +43,7 @@ fn is_kept(from: usize, table: &[u16; 28672]) -> bool
 }
 
 // Whether the next family has the pairs with a rank over the given one, and no stray bits.
+#[tactic(auto, unfolding(crate::specs::Turns::rows_fit, mask::specs::Logic::and))]
 fn rows_fit(p: Pair, given: &[u16], next: &[u64; 448]) -> bool
     ensures { result ≡ rows_fit p given.now next.now }
 {
@@ -54,34 +55,32 @@ fn rows_fit(p: Pair, given: &[u16], next: &[u64; 448]) -> bool
     brute::is_ranked(p, Compared::Covered, given, &seen)
 }
 
-// Whether the table was written only by a turn that is finished: n entries, the ranks over the family.
-fn table_fits(p: Pair, n: usize, finished: bool, given: &[u16], table: &[u16; 28672]) -> bool
-    ensures { result ≡ table_fits p n finished given.now table.now }
+// Whether a finished turn wrote n entries, the ranks over the family.
+#[tactic(auto, unfolding(crate::specs::Turns::table_fits, mask::specs::Logic::and))]
+fn table_fits(p: Pair, n: usize, given: &[u16], table: &[u16; 28672]) -> bool
+    ensures { result ≡ table_fits p n given.now table.now }
 {
-    if !finished {
-        return is_kept(0, table);
-    }
     is_kept(n, table) && brute::is_ranked(p, Compared::Ranks, given, table)
 }
 
 impl Known {
-    // Whether a turn of a pair that is not refused left a family and a table that fit.
-    fn left_fits(
-        &self,
-        finished: bool,
-        family: &[u64; 448],
-        next: &[u64; 448],
-        table: &[u16; 28672],
-    ) -> bool
-        ensures { result ≡ left_fits self.now finished family.now next.now table.now }
+    // Whether a turn of a pair that is not refused left a family that fits, and wrote the table only if that is the one before.
+    #[tactic(auto, using(crate::proofs::EqualLaws::rows_told), unfolding(crate::specs::Turns::left_fits, mask::specs::Logic::and))]
+    fn left_fits(&self, family: &[u64; 448], next: &[u64; 448], table: &[u16; 28672]) -> bool
+        ensures { result ≡ left_fits self.now family.now next.now table.now }
     {
         let mut given = [0u16; machine::TABLE_ROOM];
         brute::put_family(self.pair, family, &mut given);
         rows_fit(self.pair, &given, next)
-            && table_fits(self.pair, self.entries, finished, &given, table)
+            && if family == next {
+                table_fits(self.pair, self.entries, &given, table)
+            } else {
+                is_kept(0, table)
+            }
     }
 
     // Whether a turn said what brute force says, and left the family and the table that it has to leave.
+    #[tactic(auto, using(crate::proofs::EqualLaws::rows_told, crate::proofs::EqualLaws::bools_told), unfolding(crate::specs::Turns::turn_agrees, crate::specs::Turns::plain_agrees, crate::specs::Turns::made_agrees, crate::specs::Turns::stopped_agrees, mask::specs::Logic::and))]
     fn turn_agrees(
         &self,
         said: Result<bool, Refusal>,
@@ -93,12 +92,13 @@ impl Known {
     {
         let same = family == next;
         match self.plain {
-            Ok(()) => said == Ok(same) && self.left_fits(same, family, next, table),
+            Ok(()) => said == Ok(same) && self.left_fits(family, next, table),
             Err(refusal) => said == Err(refusal) && same && is_kept(0, table),
         }
     }
 
     // One turn.
+    #[tactic(auto, unfolding(crate::specs::Turns::turn_tally, crate::specs::Turns::turn_said))]
     fn compare_turn(&self, family: &mut [u64; 448]) -> Step
         ensures tally { result.tally ≡ turn_tally self.now family.old }
         ensures finished { result.finished ≡ says_yes (turn_said self.now.pair family.old) }
@@ -118,6 +118,7 @@ impl Known {
     // ---- Look-ups
 
     // Whether a look-up's section, counted from 1, and states are in range.
+    #[tactic(auto, unfolding(crate::specs::Turns::in_range, mask::specs::Logic::and, mask::specs::Logic::not))]
     fn in_range(&self, section: usize, c: usize, a: usize) -> bool
         ensures { result ≡ in_range self.now section c a }
     {
@@ -128,6 +129,7 @@ impl Known {
     }
 
     // What a look-up has to say, where `given` covers what the family holds.
+    #[tactic(auto, using(machine::specs::RefusalsLaws::then_of), unfolding(crate::specs::Turns::plain_look_up, crate::specs::Turns::in_range, mask::specs::Logic::and, mask::specs::Logic::not))]
     fn plain_look_up(
         &self,
         given: &[u16],
@@ -148,6 +150,7 @@ impl Known {
     }
 
     // One look-up.
+    #[tactic(auto, using(crate::proofs::EqualLaws::bools_told), unfolding(crate::specs::Turns::look_up_tally))]
     fn compare_look_up(
         &self,
         given: &[u16],
@@ -181,6 +184,7 @@ impl Known {
     // ---- Families
 
     // The turn of one family, and its look-ups.
+    #[tactic(auto, unfolding(crate::specs::Turns::family_tally))]
     fn compare_family(&self, family: &mut [u64; 448]) -> Step
         ensures tally { result.tally ≡ family_tally self.now family.old }
         ensures finished { result.finished ≡ says_yes (turn_said self.now.pair family.old) }
@@ -206,7 +210,9 @@ impl Known {
 
     // ---- From the first to the finish
 
-    // Whether a first family has all matched pairs in every section and no stray bits.
+    // Whether a first family has all matched pairs in every section and no stray bits. It begins as `rows_fit` does: a function of what both do would
+    // have to give 57 KB back, or to take a closure for the rest.
+    #[tactic(auto, unfolding(crate::specs::Turns::first_fits, mask::specs::Logic::and))]
     fn first_fits(&self, family: &[u64; 448]) -> bool
         ensures { result ≡ first_fits self.now family.now }
     {
@@ -221,6 +227,7 @@ impl Known {
     }
 
     // Whether the first family is given, and fits, or refused as brute force says.
+    #[tactic(auto, using(crate::proofs::EqualLaws::units_told), unfolding(crate::specs::Turns::first_agrees, crate::specs::Turns::given_agrees, mask::specs::Logic::and))]
     fn first_agrees(&self) -> bool
         ensures { result ≡ first_agrees self.now }
     {
@@ -231,6 +238,7 @@ impl Known {
     }
 
     // Whether a turn after the finish is finished too, and writes the solver's entries.
+    #[tactic(auto, unfolding(crate::specs::Turns::end_agrees, crate::specs::Turns::turn_said, mask::specs::Logic::and))]
     fn end_agrees(&self, family: &mut [u64; 448], solved: &[u16]) -> bool
         ensures { result ≡ end_agrees self.now.pair self.now.entries family.old solved.now }
     {
@@ -259,7 +267,7 @@ impl Known {
     }
 }
 
-// Whether two tables have the same n entries.
+// Whether two tables have the same n entries. Not by `==` of slices: a table may be shorter, and has 0 past its end.
 fn same_entries(n: usize, x: &[u16], y: &[u16]) -> bool
     ensures { result ≡ same_entries n x.now y.now }
 {
@@ -267,20 +275,21 @@ fn same_entries(n: usize, x: &[u16], y: &[u16]) -> bool
 }
 
 // A pair that the solver takes, with its table: the first family, those up to the finish, and the first `count` of all.
+#[tactic(auto, using(crate::proofs::SizeLaws::sizes), unfolding(crate::specs::Turns::turns_tally, crate::specs::Turns::known_of))]
 pub fn compare_turns(
-    p: Pair,
+    formed: Formed,
     plain: Result<(), Refusal>,
     row: u32,
     count: u64,
     solved: &[u16],
 ) -> Tally
-    requires { well_formed p ≡ true }
-    ensures { result ≡ turns_tally p plain row count solved.now }
+    ensures { result ≡ turns_tally formed.entry.pair.now plain row count solved.now }
 {
-    let concrete = p.concrete;
-    let abstraction = p.abstraction;
+    let pair = *formed.pair;
+    let concrete = pair.concrete;
+    let abstraction = pair.abstraction;
     let known = Known {
-        pair: p,
+        pair,
         plain,
         entries: abstraction.sets * (concrete.states * abstraction.states),
         sections: abstraction.sets as u8,
@@ -292,6 +301,7 @@ pub fn compare_turns(
 }
 
 // A pair that the solver refuses: the first family, and one of which each row has two bits.
+#[tactic(auto, unfolding(crate::specs::Turns::stopped_tally, crate::specs::Turns::unknown))]
 pub fn compare_stopped(p: Pair, plain: Result<(), Refusal>) -> Tally
     ensures { result ≡ stopped_tally p plain }
 {

@@ -1,4 +1,2 @@
 -- definitions
 pub mod Rings
--- laws
-pub mod RingsLaws

@@ -6,11 +6,14 @@
 // level above the whole third chain. Of the second rings' a level gains one pair, as only one of them leads to the universal state.
 #![tactic(auto)]
 
-ghost use Rattle.std.specs.Prelude.{cond, ◌≡◌, ◌<◌, ◌≤◌, get_or, length, ltb};
-ghost use Rattle.mask.specs.Tables.{table};
-ghost use Rattle.rings.specs.Rings.{three_states, ring_moves, concrete_state, further_states, last_state, abstract_state, ring_states, ring_state, ring_machine, ring_pair};
+ghost use Rattle.std.specs.Prelude.{cond, ◌≡◌, ◌<◌, ◌≤◌, eqb, get_or};
+ghost use Rattle.std.specs.List.{fold};
+ghost use Rattle.mask.specs.Bits.{with_bit};
+ghost use Rattle.mask.specs.Tables.{mask_of};
+ghost use Rattle.rings.specs.Rings.{ring_next, start_states, side_state, concrete_state, further_states, last_state, abstract_state, ring_states, ring_state, ring_machine, ring_pair};
 
 use machine::{Machine, Pair};
+use std::array;
 
 // The lengths of a machine's two rings, and how many sets it has. A machine of over 64 states is made, and is not well formed.
 #[derive(Clone, Copy)]
@@ -20,227 +23,300 @@ pub struct Rings {
     pub sets: usize,
 }
 
+// The two families of pairs.
+#[derive(Clone, Copy, Debug, PartialEq, Eq)]
+pub enum Family {
+    // plays stay at an end; the first state of the abstract machine leads into its second ring too, to state number `entry` there
+    Staying { entry: u32 },
+    // plays go back from an end of observation 1 into the second ring
+    LeadingBack,
+}
+
+// Which machine of a pair.
+#[derive(Clone, Copy, Debug, PartialEq, Eq)]
+enum Kind {
+    Concrete,
+    Abstract,
+}
+
 // What a state is like; `fair` states are in every set.
-#[derive(Clone, Copy)]
+#[derive(Clone, Copy, Default)]
 struct State {
     observation: u8,
     successors: u64,
     fair: bool,
 }
 
-// x where a test holds, and else y.
-fn pick(b: bool, x: usize, y: usize) -> usize
-    ensures { result ≡ cond b x y }
+// The mask of some states, without those of 64 or more.
+fn mask_of(states: &[usize]) -> u64
+    ensures { result ≡ fold with_bit 0 states.now }
 {
-    if b { x } else { y }
+    states.iter().fold(0, |m, s| mask::with(m, *s))
 }
 
-// The mask of three states; 64 is none.
-fn three_states(a: usize, b: usize, c: usize) -> u64
-    ensures { result ≡ three_states a b c }
-{
-    mask::with(mask::with(mask::with(0, a), b), c)
-}
-
-// The successors of state s of a ring that starts at `from` and ends before `end`: the next state, and two more.
-fn ring_moves(from: usize, end: usize, s: usize, a: usize, b: usize) -> u64
+// The state after s in a ring that starts at `from` and ends before `end`.
+#[tactic(auto, unfolding(crate::specs::Rings::ring_next))]
+fn ring_next(from: usize, end: usize, s: usize) -> usize
     requires { s < 64 }
-    ensures { result ≡ ring_moves from end s a b }
+    ensures { result ≡ ring_next from end s }
 {
-    three_states(pick(s + 1 == end, from, s + 1), a, b)
+    if s + 1 == end { from } else { s + 1 }
 }
 
-// State s of a concrete machine; `end` is the one of observation 1.
-fn concrete_state(back: bool, rings: Rings, s: usize) -> State
-    requires { s < 64 }
-    ensures { result ≡ concrete_state back rings s }
-{
-    let second = rings.first as usize;
-    let end = second + rings.second as usize;
-    if s < second {
-        return State {
-            observation: 0,
-            successors: ring_moves(0, second, s, end + 1, pick(s == 0, end, 64)),
-            fair: false,
-        };
-    }
-    if s < end {
-        return State {
-            observation: 0,
-            successors: ring_moves(second, end, s, pick(s == second + 1, 64, end + 1), 64),
-            fair: true,
-        };
-    }
-    if s == end {
-        return State {
-            observation: 1,
-            successors: mask::with(0, pick(back, second + 1, end)),
-            fair: back,
-        };
-    }
-    State {
-        observation: 2,
-        successors: mask::with(0, end + 1),
-        fair: false,
-    }
-}
-
-// State number i after the rings of an abstract machine, of which `after` is the first: the one that leads to the universal state, the universal state, ends of observation 1
-// and 2; in the second family one that leads back into the second ring, one that leads to the last, and the last, which never shows 1 again.
-fn further_state(back: bool, second: usize, after: usize, i: usize) -> State
-    requires { (second ≤ 4294967296) × (after ≤ 8589934592) }
-    ensures { result ≡ get_or (further_states back second after) i (last_state after) }
-{
-    match i {
-        0 => State {
-            observation: 0,
-            successors: mask::with(0, after + 1),
-            fair: false,
-        },
-        1 => State {
-            observation: 0,
-            successors: three_states(after + 1, after + 2, after + 3),
-            fair: true,
-        },
-        2 => State {
-            observation: 1,
-            successors: mask::with(0, pick(back, after + 1, after + 2)),
-            fair: true,
-        },
-        3 => State {
-            observation: 2,
-            successors: mask::with(0, after + 3),
-            fair: true,
-        },
-        4 => State {
-            observation: 1,
-            successors: mask::with(0, second + 1),
-            fair: false,
-        },
-        5 => State {
-            observation: 1,
-            successors: mask::with(0, after + 6),
-            fair: false,
-        },
-        _ => State {
-            observation: 0,
-            successors: three_states(after + 6, after + 3, 64),
-            fair: false,
-        },
-    }
-}
-
-// State s of an abstract machine.
-fn abstract_state(back: bool, entry: u32, rings: Rings, s: usize) -> State
-    requires { s < 64 }
-    ensures { result ≡ abstract_state back entry rings s }
-{
-    let second = rings.first as usize;
-    let after = second + rings.second as usize;
-    if s < second {
-        let side = pick(back, after + 5, second + entry as usize);
-        return State {
-            observation: 0,
-            successors: ring_moves(0, second, s, after + 3, pick(s == 0, side, after + 2)),
-            fair: true,
-        };
-    }
-    if s < after {
-        let moves = ring_moves(
-            second,
-            after,
-            s,
-            after + 3,
-            pick(s == second, after, after + 2),
-        );
-        let back_state = pick(back, after + 4, 64);
-        return State {
-            observation: 0,
-            successors: mask::with(moves, pick(s == second, back_state, 64)),
-            fair: false,
-        };
-    }
-    further_state(back, second, after, s - after)
-}
-
-// How many states a machine has.
-fn ring_states(abstraction: bool, back: bool, rings: Rings) -> usize
-    ensures { result ≡ ring_states abstraction back rings }
-{
-    let end = rings.first as usize + rings.second as usize;
-    if !abstraction {
-        return end + 2;
-    }
-    if back { end + 7 } else { end + 4 }
-}
-
-// State s of a machine; past its states everything is zero.
-fn ring_state(abstraction: bool, back: bool, entry: u32, rings: Rings, s: usize) -> State
-    requires { s < 64 }
-    ensures { result ≡ ring_state abstraction back entry rings s }
-{
-    if ring_states(abstraction, back, rings) <= s {
-        return State {
-            observation: 0,
-            successors: 0,
-            fair: false,
-        };
-    }
-    if abstraction {
-        abstract_state(back, entry, rings, s)
-    } else {
-        concrete_state(back, rings, s)
-    }
-}
-
-// Fills `out` with n times v, and 0 after these.
-fn put_copies(v: u64, n: usize, out: &mut [u64])
-    ensures { out.new ≡ table (length out.old) (λ k. cond (ltb k n) v 0) }
-{
-    for k in 0..out.len() {
-        let x = if k < n { v } else { 0 };
-        out[k] = x;
-    }
-}
-
-// A machine of two rings. Start states are those of both rings, of an abstract machine those of the second, so that a play has to follow the
-// ranks along a chain.
-fn ring_machine(abstraction: bool, back: bool, entry: u32, rings: Rings) -> Machine
-    ensures { result ≡ ring_machine abstraction back entry rings }
-{
-    let mut observations = [0u8; 64];
-    let mut successors = [0u64; 64];
-    let mut fair: u64 = 0;
-    for s in 0..64usize {
-        let state = ring_state(abstraction, back, entry, rings, s);
-        observations[s] = state.observation;
-        successors[s] = state.successors;
-        if state.fair {
-            fair = mask::with(fair, s);
+impl Family {
+    // The state beside its ring to which the first state of an abstract machine leads; `after` is the first state after the rings.
+    #[tactic(auto, unfolding(crate::specs::Rings::side_state))]
+    fn side_state(self, second: usize, after: usize) -> usize
+        requires { (second ≤ 4294967296) × (after ≤ 8589934592) }
+        ensures { result ≡ side_state self second after }
+    {
+        match self {
+            Family::Staying { entry } => second + entry as usize,
+            Family::LeadingBack => after + 5,
         }
     }
-    let mut fairness = [0u64; 8];
-    put_copies(fair, rings.sets, &mut fairness);
-    let second = rings.first as usize;
-    Machine {
-        states: ring_states(abstraction, back, rings),
-        sets: rings.sets,
-        start: mask::full(second + rings.second as usize)
-            ^ mask::full(pick(abstraction, second, 0)),
-        observations: observations,
-        successors: successors,
-        fairness: fairness,
+
+    // State number i after the rings of an abstract machine, of which `after` is the first: the one that leads to the universal state, the
+    // universal state, ends of observation 1 and 2; in the second family one that leads back into the second ring, one that leads to the last,
+    // and the last, which never shows 1 again.
+    #[tactic(auto, unfolding(crate::specs::Rings::further_states))]
+    fn further_state(self, second: usize, after: usize, i: usize) -> State
+        requires { (second ≤ 4294967296) × (after ≤ 8589934592) }
+        ensures { result ≡ get_or (further_states self second after) i (last_state after) }
+    {
+        match i {
+            0 => State {
+                successors: mask_of(&[after + 1]),
+                ..State::default()
+            },
+            1 => State {
+                successors: mask_of(&[after + 1, after + 2, after + 3]),
+                fair: true,
+                ..State::default()
+            },
+            2 => State {
+                observation: 1,
+                successors: match self {
+                    Family::Staying { .. } => mask_of(&[after + 2]),
+                    Family::LeadingBack => mask_of(&[after + 1]),
+                },
+                fair: true,
+            },
+            3 => State {
+                observation: 2,
+                successors: mask_of(&[after + 3]),
+                fair: true,
+            },
+            4 => State {
+                observation: 1,
+                successors: mask_of(&[second + 1]),
+                fair: false,
+            },
+            5 => State {
+                observation: 1,
+                successors: mask_of(&[after + 6]),
+                fair: false,
+            },
+            _ => State {
+                successors: mask_of(&[after + 6, after + 3]),
+                ..State::default()
+            },
+        }
     }
 }
 
-// A pair of such machines, of the second family where `back` says so, with no bit hidden. In the first the first state of the abstract machine
-// leads into its second ring too, to state number `entry` there.
-pub fn ring_pair(back: bool, entry: u32, concrete: Rings, abstraction: Rings) -> Pair
-    ensures { result ≡ ring_pair back entry concrete abstraction }
+// A machine to be made: which of a pair, of which family, and its rings.
+#[derive(Clone, Copy)]
+struct Plan {
+    kind: Kind,
+    family: Family,
+    rings: Rings,
+}
+
+impl Plan {
+    // State s of a concrete machine; `end` is the one of observation 1.
+    #[tactic(auto, unfolding(crate::specs::Rings::concrete_state))]
+    fn concrete_state(self, s: usize) -> State
+        requires { s < 64 }
+        ensures { result ≡ concrete_state self.family self.rings s }
+    {
+        let second = self.rings.first as usize;
+        let end = second + self.rings.second as usize;
+        if s < second {
+            let next = ring_next(0, second, s);
+            let successors = if s == 0 {
+                mask_of(&[next, end + 1, end])
+            } else {
+                mask_of(&[next, end + 1])
+            };
+            return State {
+                successors,
+                ..State::default()
+            };
+        }
+        if s < end {
+            let next = ring_next(second, end, s);
+            let successors = if s == second + 1 {
+                mask_of(&[next])
+            } else {
+                mask_of(&[next, end + 1])
+            };
+            return State {
+                successors,
+                fair: true,
+                ..State::default()
+            };
+        }
+        if s != end {
+            return State {
+                observation: 2,
+                successors: mask_of(&[end + 1]),
+                fair: false,
+            };
+        }
+        match self.family {
+            Family::Staying { .. } => State {
+                observation: 1,
+                successors: mask_of(&[end]),
+                fair: false,
+            },
+            Family::LeadingBack => State {
+                observation: 1,
+                successors: mask_of(&[second + 1]),
+                fair: true,
+            },
+        }
+    }
+
+    // State s of an abstract machine.
+    #[tactic(auto, unfolding(crate::specs::Rings::abstract_state))]
+    fn abstract_state(self, s: usize) -> State
+        requires { s < 64 }
+        ensures { result ≡ abstract_state self.family self.rings s }
+    {
+        let second = self.rings.first as usize;
+        let after = second + self.rings.second as usize;
+        if s < second {
+            let next = ring_next(0, second, s);
+            let side = if s == 0 {
+                self.family.side_state(second, after)
+            } else {
+                after + 2
+            };
+            return State {
+                successors: mask_of(&[next, after + 3, side]),
+                fair: true,
+                ..State::default()
+            };
+        }
+        if s < after {
+            let next = ring_next(second, after, s);
+            let successors = if s != second {
+                mask_of(&[next, after + 3, after + 2])
+            } else {
+                match self.family {
+                    Family::Staying { .. } => mask_of(&[next, after + 3, after]),
+                    Family::LeadingBack => mask_of(&[next, after + 3, after, after + 4]),
+                }
+            };
+            return State {
+                successors,
+                ..State::default()
+            };
+        }
+        self.family.further_state(second, after, s - after)
+    }
+
+    // How many states a machine has.
+    #[tactic(auto, unfolding(crate::specs::Rings::ring_states, crate::specs::Rings::states_after))]
+    fn states(self) -> usize
+        ensures { result ≡ ring_states self.kind self.family self.rings }
+    {
+        let end = self.rings.first as usize + self.rings.second as usize;
+        match self.kind {
+            Kind::Concrete => end + 2,
+            Kind::Abstract => match self.family {
+                Family::Staying { .. } => end + 4,
+                Family::LeadingBack => end + 7,
+            },
+        }
+    }
+
+    // State s of a machine; past its states everything is zero.
+    #[tactic(auto, unfolding(crate::specs::Rings::ring_state, crate::specs::Rings::own_state))]
+    fn state(self, s: usize) -> State
+        requires { s < 64 }
+        ensures { result ≡ ring_state self.kind self.family self.rings s }
+    {
+        if self.states() <= s {
+            return State::default();
+        }
+        match self.kind {
+            Kind::Concrete => self.concrete_state(s),
+            Kind::Abstract => self.abstract_state(s),
+        }
+    }
+
+    // The start states: those of both rings, of an abstract machine those of the second, so that a play has to follow the ranks along a chain.
+    #[tactic(auto, unfolding(crate::specs::Rings::start_states))]
+    fn start_states(self) -> u64
+        ensures { result ≡ start_states self.kind self.rings }
+    {
+        let second = self.rings.first as usize;
+        let whole = mask::full(second + self.rings.second as usize);
+        match self.kind {
+            Kind::Concrete => whole,
+            Kind::Abstract => whole ^ mask::full(second),
+        }
+    }
+
+    // The mask of the fair states.
+    fn fair_states(self) -> u64
+        ensures { result ≡ mask_of 64 (λ s. (ring_state self.kind self.family self.rings s).fair) }
+    {
+        let mut fair = 0;
+        for s in 0..64 {
+            if self.state(s).fair {
+                fair = mask::with(fair, s);
+            }
+        }
+        fair
+    }
+
+    // A machine of two rings.
+    fn machine(self) -> Machine
+        ensures { result ≡ ring_machine self.kind self.family self.rings }
+    {
+        let fair = self.fair_states();
+        Machine {
+            states: self.states(),
+            sets: self.rings.sets,
+            start: self.start_states(),
+            observations: array::from_fn(|s| self.state(s).observation),
+            successors: array::from_fn(|s| self.state(s).successors),
+            fairness: array::from_fn(|k| if k < self.rings.sets { fair } else { 0 }),
+        }
+    }
+}
+
+// A pair of such machines, with no bit hidden.
+#[tactic(auto, unfolding(crate::specs::Rings::ring_pair))]
+pub fn ring_pair(family: Family, concrete: Rings, abstraction: Rings) -> Pair
+    ensures { result ≡ ring_pair family concrete abstraction }
 {
+    let concrete = Plan {
+        kind: Kind::Concrete,
+        family,
+        rings: concrete,
+    };
+    let abstraction = Plan {
+        kind: Kind::Abstract,
+        family,
+        rings: abstraction,
+    };
     Pair {
-        concrete: ring_machine(false, back, entry, concrete),
-        abstraction: ring_machine(true, back, entry, abstraction),
+        concrete: concrete.machine(),
+        abstraction: abstraction.machine(),
         hidden: 0,
     }
 }

@@ -1,34 +1,5 @@
--- Each call has its part of the definition as its contract.
-use Rattle.std.proofs.Common.{arith}
-use Rattle.machine.specs.WellFormedLaws.{WellPair, well_pair, pairs_small, ranks_small, entries_small}
-use Rattle.comparison.specs.Pairs.{formed_tally, tables_tally}
+use Rattle.comparison.proofs.SizeLaws.{concretes_fit}
 use Rattle.comparison.proofs.pairs.compare_formed.Goals as goal
-use Rattle.comparison.proofs.pairs.compare_formed.Goals.{Start, then-solved, else-solved}
 
-well : (c : Start) → WellPair c.args.p
-well c = well_pair c.args.p c.requires
-
-pub overflow_mul-pairs : goal.overflow_mul-pairs
-overflow_mul-pairs c = omega (arith, pairs_small _ (well (goal.at.overflow_mul-pairs c).Start))
-
-pub overflow_mul-n : goal.overflow_mul-n
-overflow_mul-n c = omega (arith, entries_small _ (well (goal.at.overflow_mul-n c).Start))
-
-pub overflow_mul-top : goal.overflow_mul-top
-overflow_mul-top c = omega (arith, ranks_small _ (well (goal.at.overflow_mul-top c).Start))
-
-pub overflow_add-top : goal.overflow_add-top
-overflow_add-top c = omega (arith, ranks_small _ (well (goal.at.overflow_add-top c).Start))
-
-pub overflow_cast-top : goal.overflow_cast-top
-overflow_cast-top c = omega (arith, ranks_small _ (well (goal.at.overflow_cast-top c).Start))
-
-pub overflow_cast-concrete : goal.overflow_cast-concrete
-overflow_cast-concrete c = omega (arith, (well (goal.at.overflow_cast-concrete c).Start).concrete.states_high)
-
-pub returns : goal.returns
-unfolding formed_tally tables_tally
-returns c = elim c.if-solved.branch [
-  | then-solved w ↦ rw (c.add-2.ensures, c.add.ensures, c.compare_lassos.ensures, w.solution-is, w.compare_solution-solution.ensures, c.compare_tables-tables.ensures, w.if-solved.true)
-  | else-solved w ↦ rw (c.add-2.ensures, c.add.ensures, c.compare_lassos.ensures, w.solution-is, w.of_unsolved-solution.ensures, c.compare_tables-tables.ensures, w.if-solved.false)
-]
+pub overflow_cast-p : goal.overflow_cast-p
+overflow_cast-p c = concretes_fit c.args.formed

@@ -14,8 +14,8 @@ returns-then-is_err c = rw (well_unless _ _ c.validity.ensures c.is_err.ensures.
 well : (c : Else-is_err) → well_formed c.args.p ≡ true
 well c = well_unless _ _ c.validity.ensures c.is_err.ensures.negation ∙ ap not c.if-is_err.false
 
-pub compare_formed-requires : goal.compare_formed-requires
-compare_formed-requires c = well (goal.at.compare_formed-requires c).Else-is_err
+pub invariant_of-formed : goal.invariant_of-formed
+invariant_of-formed c = record { well = well (goal.at.invariant_of-formed c).Else-is_err }
 
 pub returns : goal.returns
 unfolding unsolved_tally

@@ -1,5 +1,5 @@
 -- The invariant: the sum of the first x calls, whatever function they are known to follow.
-use Rattle.std.proofs.Common.{◌≡◌, arith, rules, add-one}
+use Rattle.std.proofs.Common.{arith, rules, add-one}
 use Rattle.comparison.specs.Tallies.{nothing, total}
 use Rattle.comparison.proofs.tally.total.Goals as goal
 
@@ -10,6 +10,3 @@ loop-x-init g c = (search rules, λ h k. search rules)
 pub loop-x-preserved : goal.loop-x-preserved
 unfolding total
 loop-x-preserved g c = (omega arith, λ h k. rw (add-one, c.add-sum.ensures, c.loop-x.invariant.1 h k, k _ _ c.loop-x-test.true c.f.ensures))
-
-pub returns : goal.returns
-returns g c = λ h k. let e : c.loop-x.x ≡ c.args.n = omega (arith, c.loop-x.invariant.0) in rw (← e) (c.loop-x.invariant.1 h k)

@@ -1,6 +1,5 @@
 -- The invariant: what is counted from here in the turns that are left is the answer.
 use Rattle.std.proofs.Common.{◌≡◌, ◌+◌, ◌-◌, ◌∙◌, arith, rules}
-use native.Mathlib.Nat.{sub-zero}
 use Rattle.comparison.specs.Tallies.{nothing}
 use Rattle.comparison.specs.Turns.{walk_tally, walked, walked_from}
 use Rattle.comparison.specs.TurnsLaws.{walk_last, walk_next, walk_none, walk_start}
@@ -10,9 +9,6 @@ use Rattle.comparison.proofs.turns.Known.compare_walk.Goals.{At-loop}
 pub returns-in_default : goal.returns-in_default
 unfolding walk_tally walked_from
 returns-in_default c = rw (← c.first_family.ensures, c.in_default.is) c.of_test.ensures
-
-pub loop-init : goal.loop-init
-loop-init c = (search rules, rw sub-zero)
 
 -- what is left to count
 left : (c : At-loop) → let k = c.args.self.now in walked k c.args.solved.now (k.entries + 1 - c.loop.counter) c.loop.family c.loop.sum ≡ walk_tally k c.args.solved.now

@@ -1,6 +1,0 @@
-use Rattle.rings.specs.Rings.{ring_pair}
-use Rattle.rings.proofs.ring_pair.Goals as goal
-
-pub returns : goal.returns
-unfolding ring_pair
-returns c = rw (c.ring_machine.ensures, c.ring_machine-2.ensures)
