@@ -22,7 +22,9 @@ pub fn read_full<R: Read>(reader: &mut R, buffer: &mut [u8]) -> usize
 }
 
 // The same, and gives the part of the buffer that is filled.
-pub fn filled<'a, R: Read>(reader: &mut R, buffer: &'a mut [u8]) -> &'a [u8] {
+pub fn filled<'a, R: Read>(reader: &mut R, buffer: &'a mut [u8]) -> &'a [u8]
+    ensures { length result.now ≤ length buffer.old }
+{
     let count = read_full(reader, buffer);
     &buffer[..count]
 }
