@@ -1,3 +1,2 @@
 pub mod EqualLaws
-pub mod FromLaws
 pub mod SizeLaws

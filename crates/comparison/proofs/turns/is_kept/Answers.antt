@@ -1,5 +1,5 @@
 use Rattle.std.proofs.Common.{rules, tests}
-use Rattle.comparison.proofs.FromLaws.{all_from}
+use Rattle.mask.proofs.RangeLaws.{all_from}
 use Rattle.comparison.specs.Turns.{kept_from}
 use Rattle.comparison.proofs.turns.is_kept.Goals as goal
 
