@@ -8,7 +8,7 @@ use Rattle.mask.specs.Tables.{table}
 use Rattle.mask.specs.TablesLaws.{fill_done}
 use Rattle.machine.specs.declared.Pair.{Pair}
 use Rattle.machine.specs.Refusals.{buffer_after, Answer}
-use Rattle.machine.specs.RefusalsLaws.{then_refused, buffer_kept, state_kept}
+use Rattle.machine.specs.RefusalsLaws.{then_refused, buffer_kept}
 use Rattle.machine.specs.Machines.{n_c, n_a, sets_a}
 use Rattle.machine.specs.WellFormed.{well_formed, nonempty_sets}
 use Rattle.machine.specs.WellFormedLaws.{well_pair}
@@ -32,8 +32,7 @@ use Rattle.codec.proofs.PlacesLaws.{blocks_told, first_told, lowest_told, damage
 use Rattle.solver.specs.Solver.{solve_validity, solved_table}
 use Rattle.solver.specs.SolverLaws.{solve_long, solved_refused}
 use Rattle.solver.specs.SolvedLaws.{solve_takes, solved_same, solved_room}
-use Rattle.progress.specs.Turns.{first_given, look_up_answer}
-use Rattle.progress.specs.TurnsLaws.{first_refused, turn_refused}
+use Rattle.progress.specs.TurnsLaws.{first_given_zeros, first_refused, turn_refused, looked_stopped}
 use Rattle.hanoi.proofs.Theorems.{text_tells_machine, text_fits, longest_text}
 use Rattle.progress.specs.Theorems.{turns_finish, only_finished_writes, finished_settles, struck_out_is_final, finished_tells, first_is_matched, solver_is_turns}
 use Rattle.restore.specs.Restoring.{restored, restore_buffer}
@@ -124,11 +123,10 @@ file_solver_refuses_empty f first p note e empty buffer room =
     (told.0, told.2, both.0, both.1)
 
 turns_refuse_empty : TurnsRefuseEmpty
-unfolding look_up_answer first_given
 turns_refuse_empty p F T j c a well empty room =
     let told = empty_set_told_lem p well empty in
     let turn = turn_refused p F T (solve_long p (length T) room ∙ told.1) in
-    (told.0, told.2, (first_refused p told.1, told.1, state_kept _ _ _ told.1), turn, then_refused _ _ _ told.1)
+    (told.0, told.2, (first_refused p told.1, told.1, first_given_zeros p told.1), turn, looked_stopped p j c a F told.1)
 
 pub empty_sets_are_refused : EmptySetsAreRefused
 empty_sets_are_refused = (solver_refuses_empty, writer_refuses_empty, file_solver_refuses_empty, turns_refuse_empty)
