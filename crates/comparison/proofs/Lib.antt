@@ -1,3 +1,3 @@
 pub mod EqualLaws
-pub mod FromLaws
+pub mod RearLaws
 pub mod SizeLaws
