@@ -1,2 +1,3 @@
 pub mod EqualLaws
+pub mod RearLaws
 pub mod SizeLaws

@@ -35,11 +35,19 @@ struct Step {
 
 // ---- A turn
 
+// A table as it is lent.
+fn full() -> [u16; 28672]
+    ensures { result ≡ marks }
+{
+    [MARK; machine::TABLE_ROOM]
+}
+
 // Whether each entry from a number on is as it was lent.
 fn is_kept(from: usize, table: &[u16; 28672]) -> bool
     ensures { result ≡ kept_from from table.now }
 {
-    (from..machine::TABLE_ROOM).all(|e| table[e] == MARK)
+    let from = from.min(machine::TABLE_ROOM);
+    table[from..] == full()[from..]
 }
 
 // Whether the next family has the pairs with a rank over the given one, and no stray bits.
