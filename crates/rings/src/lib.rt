@@ -274,13 +274,7 @@ impl Plan {
     fn fair_states(self) -> u64
         ensures { result ≡ mask_of 64 (λ s. (ring_state self.kind self.family self.rings s).fair) }
     {
-        let mut fair = 0;
-        for s in 0..64 {
-            if self.state(s).fair {
-                fair = mask::with(fair, s);
-            }
-        }
-        fair
+        mask::those(64, |s| self.state(s).fair)
     }
 
     // A machine of two rings.

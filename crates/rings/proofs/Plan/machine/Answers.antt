@@ -2,7 +2,7 @@
 use Rattle.std.proofs.Common.{◌≡◌, cond, ltb, rules, tests}
 use Rattle.mask.specs.Tables.{table}
 use Rattle.rings.specs.Rings.{ring_machine, ring_state}
-use Rattle.rings.proofs.MadeLaws.{made_table}
+use Rattle.mask.proofs.MadeLaws.{made_table}
 use Rattle.rings.proofs.Plan.machine.Goals as goal
 
 pub returns : goal.returns
