@@ -31,7 +31,7 @@ pub struct Tabled<'a> {
     pub ghost well: { well_formed pair.now ≡ true },
 }
 
-// An entry's l and k, k counted from 0.
+// An entry's l and k, k counted from 0. The line check has the same struct; brute force shares no code with it.
 #[derive(Clone, Copy)]
 struct Level {
     level: usize,

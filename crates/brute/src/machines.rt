@@ -114,8 +114,8 @@ fn first_empty(room: usize, count: usize, masks: &[u64]) -> Option<usize>
     (0..room).find(|i| *i < count && !has_state(element_or(masks, *i, 0)))
 }
 
-// 9, 10 and 11 of machine number i of a pair. The number goes into the spot as it is, and a machine alone has number 0 whichever kind it is: an enum of
-// the two kinds would say too much.
+// 9, 10 and 11 of machine number i of a pair. The number goes into the spot as it is, here, in `sets_nonempty` and in `content_and_sets`, and a machine
+// alone has number 0 whichever kind it is: an enum of the two kinds would say too much.
 fn content(i: usize, m: &Machine) -> Result<(), Refusal>
     ensures { result ≡ content_validity i m.now }
 {
@@ -159,7 +159,8 @@ fn sets_nonempty(i: usize, m: &Machine) -> Result<(), Refusal>
 }
 
 // What is asked of the fairness sets: nothing, or that each has a state. One function makes both rows of tests, as the definition `pair_tests` takes
-// this as data; a closure that tests or does not would have to promise that once more.
+// this as data; a closure that tests or does not would have to promise that once more. The product's enum of this kind is `validity`'s, with which brute
+// force shares no code.
 #[derive(Clone, Copy, Debug, PartialEq, Eq)]
 enum Sets {
     Any,

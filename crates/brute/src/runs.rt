@@ -25,7 +25,7 @@ struct Spot {
     section: usize,
 }
 
-// Twice the entry e of a state, and one more unless it is the present state.
+// Twice the entry e of a state, and one more unless it is the present state: a number and no tuple, as the definition `staying` orders states by it.
 fn staying_key(present: Option<usize>, a: usize, e: u16) -> u32
     requires { a < 64 }
     ensures { result ≡ staying (present_of present) (λ _. e) a }

@@ -16,12 +16,12 @@ use text::{append, append_byte, append_number};
 // The least length of a lent buffer; every text is shorter.
 pub const TEXT_ROOM: usize = 20000;
 
-// A text; what there is no room for is left out. `prove!` tells the proof of its room where it may be that nothing is put.
+// A text; what there is no room for is left out. Words are put one behind the other, and not by `write!`, for the reason that `report::Line` gives. `prove!` tells the proof of its room where it may be that nothing is put.
 type Text = ArrayVec<u8, TEXT_ROOM>;
 
 // ---- Numbers and lists of numbers
 
-// Puts a word, and a number behind it.
+// Puts a word, and a number behind it: two calls of `text`, as `append_count` of `turnline` has for a text of another room.
 fn append_numbered(text: &mut Text, word: &[u8], n: usize)
     ensures { text.new.items ≡ take text_room (text.old.items ++ (word.now ++ decimal n)) }
 {

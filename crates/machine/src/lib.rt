@@ -255,7 +255,8 @@ fn least_within(moves: u64, matched: u64, row: &[u16], bound: u16) -> Option<usi
 
 // The single step, in the abstract state `present`, or before the first state, into a set that is given by its entries beside c' and a bound: of
 // the moves that are matched with c' and whose entry is at most the bound, those of least entry; of these the present state if it is among them,
-// else the lowest. Moves, row and bound come one by one: they are from a machine, its pair's masks and a table.
+// else the lowest. Moves, row and bound come one by one: they are from a machine, its pair's masks and a table. The present state is compared once
+// behind the walk: with a key of entry and state the walk would compare it for each state.
 pub fn partner_within(
     present: Option<usize>,
     moves: u64,

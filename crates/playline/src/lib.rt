@@ -24,7 +24,8 @@ type Numbers = ArrayVec<u8, 65>;
 
 // ---- Reading a lasso
 
-// The number with one digit more, 255 for any over it.
+// The number with one digit more, 255 for any over it. Digit by digit, since `parse` refuses a number over 255 and an empty text, where any text has
+// numbers here.
 fn grown(n: u8, b: u8) -> u8
     requires { is_digit b ≡ true }
     ensures { result ≡ grown n b }
@@ -89,7 +90,7 @@ pub fn is_lasso(text: &[u8]) -> bool
     parts(text).is_some()
 }
 
-// ---- Writing the line
+// ---- Writing the line. Words are put one behind the other, for the reason that `report::Line` gives.
 
 // Puts the states, a blank before each.
 fn append_states(line: &mut Line, states: &[u8])

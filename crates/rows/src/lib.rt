@@ -215,7 +215,7 @@ fn write_row(row: u64, v: u16, part: &mut [u16])
 }
 
 // Writes the entry v for each pair of x that is not in y; nothing where the entries are no section of nc by na, of at most
-// 64 by 64.
+// 64 by 64. A loop over the rows, for the reason in `upto`.
 pub fn write_entry(nc: usize, na: usize, x: &[u64; 64], y: &[u64; 64], v: u16, part: &mut [u16])
     ensures { part.new ≡ write_of nc na x.now y.now v part.old }
 {

@@ -22,7 +22,7 @@ fn section_count(matched: &[u64; 64], family: &[u64; 448], j: usize) -> usize
     n
 }
 
-// Puts a blank and a number behind the line so far, as much of them as there is room for.
+// Puts a blank and a number behind the line so far, as much of them as there is room for: two calls of `text`, as `append_numbered` of `hanoi` has.
 fn append_count(line: &mut Line, n: usize)
     ensures { line.new.items ≡ take 128 (line.old.items ++ (32 ∷ decimal n)) }
 {

@@ -94,8 +94,8 @@ fn beyond_counts(m: Machine) -> bool
     masks_beyond(m.states, m.sets, &m.fairness)
 }
 
-// Refusals 9, 10 and 11 of one machine, which is number `index` of a pair. The number goes into the spot as it is, and a machine by itself is number
-// 0 of either kind, so that a type with two kinds would say more than is so.
+// Refusals 9, 10 and 11 of one machine, which is number `index` of a pair. The number goes into the spot as it is, here, in
+// `sets_validity` and in `content_tests`, and a machine by itself is number 0 of either kind, so that a type with two kinds would say more than is so.
 fn content_validity(index: usize, m: Machine) -> Result<(), Refusal>
     ensures { result ≡ content_validity index m }
 {
