@@ -53,7 +53,7 @@ fn sweep(p: Formed, table: &mut [u16])
     }
 }
 
-// Puts 0 into the first n entries.
+// Puts 0 into the first n entries; the table has room for the largest machines.
 fn put_zeros(n: usize, table: &mut [u16])
     requires { n ≤ length table.old }
     ensures { table.new ≡ replicate n 0 ++ drop n table.old }

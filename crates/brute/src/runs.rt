@@ -18,7 +18,7 @@ use crate::lists::element_or;
 use crate::machines::{is_matched, successors_of, validity};
 use machine::{Pair, Refusal, Run};
 
-// The abstract state a and the section j.
+// The abstract state a and the section j. (The definitions have places of a type of their own: `as_place` says which one a spot is.)
 #[derive(Clone, Copy, PartialEq, Eq)]
 struct Spot {
     state: usize,

@@ -1,4 +1,5 @@
-// Reading a file, and its length from the first block alone.
+// Reading a file, and its length from the first block alone. A machine's counts are asked for where they are used, as they are bytes of a header here,
+// before there is a pair; so is the room of the lent table, which is tested once, in `read_file`.
 ghost use Rattle.std.specs.Prelude.{true, ◌++◌, ◌≡◌, ◌+◌, ◌*◌, ◌/◌, ◌^◌, ◌≤◌, ◌<◌, length, get_or, drop, replicate, eqb, Err, Ok};
 ghost use Rattle.mask.specs.Logic.{and};
 ghost use Rattle.mask.specs.Bounded.{every};

@@ -1,4 +1,6 @@
 // Writing a file: the payload is put together in an array of its own, then cut into blocks. Each part fills its own part of a buffer.
+// The file's buffer is lent, as C lends it, and its length comes back; machines and table come apart, as the reader gives them. What is known of counts
+// and of the table's room is said where it is used, since `Formed` holds a pair alone.
 ghost use Rattle.std.specs.Prelude.{◌≡◌, ◌++◌, ◌+◌, ◌*◌, ◌/◌, ◌%◌, ◌≤◌, length, get_or, drop};
 ghost use Rattle.mask.specs.Tables.{front};
 ghost use Rattle.machine.specs.Machines.{n_c, n_a, sets_c, sets_a};

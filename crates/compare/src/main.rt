@@ -72,7 +72,8 @@ fn numbered(states: usize, sets: usize, twos: u64, count: u32, step: u32) -> Mac
 }
 
 // All tables of a tiny pair, lassos with a stem of at most two states, and all families: each row is any set of abstract states and of one number past
-// them, a digit from 0 to `row`. After these come a few with a bit in every row past the sections and concrete states.
+// them, a digit from 0 to `row`. After these come a few with a bit in every row past the sections and concrete states. (This and the next each name the
+// fields in which their series differ; one function for both would take all five.)
 fn every_table(tables: u64, families: u64, row: u32) -> Trial
     ensures { result ≡ record { which = Every; tables = tables; stem = 2; families = families; row = row } }
 {

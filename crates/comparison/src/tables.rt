@@ -41,7 +41,7 @@ pub fn compare_table(p: Pair, n: usize, table: &[u16], solved: &[u16]) -> Tally
     }
 }
 
-// Which numbered tables are tried.
+// Which numbered tables are tried: an enum and no closure, as the definition `tried_table` takes it as data.
 #[derive(Clone, Copy, Debug, PartialEq, Eq)]
 pub enum Tables {
     // all tables

@@ -9,7 +9,7 @@ ghost use Rattle.export.specs.Exporting.{export_answer, export_buffer};
 use machine::Refusal;
 
 // Writes the text of one machine of a file into a lent buffer of 20,000 bytes or more: of the concrete machine for 0, of the abstract one for 1. It
-// gives the text's length, or where the call was stopped. Any `which` has an answer, 20 for another number; an enum would ask more of callers.
+// gives the text's length, or where the call was stopped. The buffer is lent, as C lends it. Any `which` has an answer, 20 for another number; an enum would ask more of callers.
 // Each caller of the reader lends a table of its own and passes a refusal on directly: document 01 names this form.
 pub fn text_bytes(bytes: &[u8], which: usize, out: &mut [u8]) -> Result<usize, Refusal>
     ensures answer { result ≡ export_answer bytes.now which (length out.old) }

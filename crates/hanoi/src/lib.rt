@@ -1,4 +1,5 @@
 // The text of a machine in the Hanoi Omega-Automata format, HOA v1 (document 02, No. 1). Each function puts a part of the text behind what is there.
+// That the counts of a machine are in range is asked where it is needed: `validity` tells it of one machine, and `machine::Formed` holds a pair.
 #![tactic(auto)]
 
 ghost use Rattle.std.specs.Prelude.{cond, [], ◌++◌, ◌≡◌, ◌≤◌, ◌<◌, length, take};

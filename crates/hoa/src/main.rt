@@ -1,5 +1,6 @@
 // Reads a show from standard input and writes its two machines as one stream of the Hanoi Omega-Automata format to standard output, the concrete
 // machine first; or the line of a refusal. A read that fails ends the input.
+// A call that is lent a buffer tells how much of it is filled, so that the two stand side by side here.
 #![tactic(auto)]
 
 use std::io;

@@ -2,6 +2,8 @@
 // Cost: for each non-blank entry and each successor of its concrete state, one search among the successors of its abstract state, which stops
 // at the first that serves: at most n x nC x nA x nC x nA looks at an entry, and on passing tables far fewer. Nothing divides but by fixed powers
 // of two. A table is one buffer of entries, as document 01 and the files have it; `entry_index` tells where an entry or a row lies.
+// Machines and table come apart, as the reader gives and C lends them; that the table has its room, and that a section, a state, an entry or a count is
+// in range, is said where it is used: numbers have no types for that, and `Formed` holds a pair alone.
 #![tactic(auto)]
 
 ghost use Rattle.std.specs.Prelude.{◌≡◌, ◌+◌, ◌<◌, ◌≤◌, length, get_or, eqb, Ok};

@@ -1,5 +1,6 @@
 // Plays a lasso of the concrete machine, written in the arguments as `0 1 / 2 3`, by the table of the show on standard input, and writes the
 // abstract machine's run as one line. A read that fails ends the input.
+// A call that is lent a buffer tells how much of it is filled, so that the two stand side by side here.
 #![tactic(auto)]
 
 ghost use Rattle.std.specs.Prelude.{◌≤◌, length, IfSome};

@@ -8,7 +8,7 @@ ghost use Rattle.playback.specs.Playing.{file_run, file_run_buffer, run_number, 
 use machine::{Refusal, Run};
 
 // Plays a lasso of the concrete machine by the table of a file: the abstract run goes to the lent buffer `run`, and its stem length and loop length
-// come back, or that the file has no table; or where the call was stopped.
+// come back, or that the file has no table; or where the call was stopped. Stem, loop and buffer are lent apart, as C lends them.
 // Each caller of the reader lends a table of its own and passes a refusal on directly: document 01 names this form.
 pub fn play_bytes(
     bytes: &[u8],

@@ -1,5 +1,7 @@
 // The player of lassos: document 01, "Player", with the single step of document 02, No. 10.
 // Cost: the line check, and then at most 28,672 steps, each one search among the successors of an abstract state.
+// C lends machines, table, stem and loop apart, so that `play` takes them so. A `Lasso` may also be one that 13 refuses: its length is asked for
+// where it is needed, and so is that a section or a state, which comes by number, is in range.
 #![tactic(auto)]
 
 ghost use Rattle.std.specs.Prelude.{true, cond, ◌≡◌, ℕ, ◌+◌, ◌<◌, ◌≤◌, eqb, length};
@@ -183,7 +185,7 @@ impl<'a> TabledPair<'a> {
     {
         let start = lasso.stem.len();
         let period = lasso.cycle.len();
-        // the round at which a and j were seen at a loop start
+        // the round at which a and j were seen at a loop start: an array, as document 01 has it and memory is fixed
         let mut marks = [None::<u16>; 448];
         let mut place = Place::new(first);
         let mut t = 0;

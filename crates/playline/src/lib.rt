@@ -115,7 +115,7 @@ fn append_run(line: &mut Line, stem: &[u8], cycle: &[u8])
     append_byte(line, b'\n');
 }
 
-// The line of what is said, where the run stands in a buffer.
+// The line of what is said, where the run stands in the buffer that the player was lent; the player tells its lengths.
 fn outcome_line(said: Result<Option<Run>, Refusal>, run: &[u8]) -> Line
     requires { (length run.now ≤ run_room) × ((r : Run) → said ≡ Ok (Some r) → r.stem + r.cycle ≤ length run.now) }
     ensures { result.items ≡ run_outcome_line said run.now }

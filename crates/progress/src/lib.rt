@@ -1,6 +1,6 @@
 // The solver by turns, for a caller who wants to go on between turns. A family of sets of pairs is 448 masks, 7 x 64 rows, row j x 64 + c
 // for section j, counted from 0, and concrete state c: the abstract states beside c that are still in. Any content has a meaning: turn and look-up
-// see only the matched pairs of the machines.
+// see only the matched pairs of the machines. It is one flat list, apart from the machines and the table, as C lends it.
 #![tactic(auto)]
 
 ghost use Rattle.std.specs.Prelude.{◌≡◌, ◌<◌, length};

@@ -9,7 +9,7 @@ ghost use Rattle.restore.specs.Restoring.{restore_answer, restore_buffer};
 use machine::Refusal;
 
 // Writes the show of a file with the solver's table into the buffer, and gives the new file's length, or where it was stopped: by the reader, or
-// by the solver, which refuses an empty set.
+// by the solver, which refuses an empty set. The buffer is lent, as C lends it.
 // Each caller of the reader lends a table of its own and passes a refusal on directly: document 01 names this form.
 pub fn solve_bytes(bytes: &[u8], out: &mut [u8]) -> Result<usize, Refusal>
     ensures answer { result ≡ restore_answer bytes.now out.old }

@@ -32,7 +32,8 @@ pub enum Family {
     LeadingBack,
 }
 
-// Which machine of a pair.
+// Which machine of a pair: an enum and no closure, as the definitions take the kind as data. (A state's number is below 64 in what follows, as
+// `array::from_fn` hands it in; a number has no type for that.)
 #[derive(Clone, Copy, Debug, PartialEq, Eq)]
 enum Kind {
     Concrete,

@@ -2,6 +2,7 @@
 // all pairs at once. Every public call takes any content: a count of states over 64 means 64, but for entries, which are then no section; any
 // masks have a meaning; and `largest`, which leaves its result open for some, says for which.
 // Cost: the partners of a row are the union of the predecessors of its states, and a pair's step meets one row for each concrete move.
+// A count comes beside 64 rows or entries, as in `machine::Machine`, whose memory is fixed, and two counts come by themselves: any are taken.
 #![tactic(auto)]
 
 ghost use Rattle.std.specs.Prelude.{◌≡◌, cond, ℕ, ◌^◌, ◌<◌, ◌≤◌, length};
@@ -119,7 +120,8 @@ fn rule_row(moves: u64, reached: &[u64; 64], base: u64, inside: bool) -> u64
 
 // The largest set within the start that meets the rule of X. Rows are due while the rule may lower them: at first all, and then those that
 // move to a row that was lowered. The predecessors of concrete states and the partner rows of the start are handed in, since many calls share
-// them; of others than these, and of a count over 64, the result is left open. Masks and rows come one by one, since each is shared by other calls.
+// them; of others than these, and of a count over 64, the result is left open. Masks and rows come one by one, here and in `step_rows`,
+// since each is shared by other calls.
 pub fn largest(
     nc: usize,
     moves: &[u64; 64],

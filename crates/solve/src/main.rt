@@ -1,5 +1,6 @@
 // Reads a show from standard input and writes it with the solver's table to standard output. A refusal is one line on standard error, and
 // nothing on standard output. A read that fails ends the input.
+// A call that is lent a buffer tells how much of it is filled, so that the two stand side by side here.
 #![tactic(auto)]
 
 use std::io;

@@ -2,6 +2,8 @@
 // A set of pairs is 64 rows, for each concrete state the mask of the abstract states beside it (crate `rows`).
 // `solve` makes the table in place. The entries of matched pairs begin at 0, and none is ever above its pair's rank; a section's ranks are made from its entries so far,
 // and a section is made again while the set of the next one changes. `turn_family` makes every section afresh from a family that it is handed.
+// Machines, table and family come apart, as C lends them. That a section's number is in range, that a lent slice has its room, and what is known of the
+// goals and levels of one section is said where it is used: numbers have no type for it, no struct holds a slice between two writes, and `Game` is of all sections.
 #![tactic(auto)]
 
 ghost use Rattle.std.specs.Prelude.{◌≡◌, ◌++◌, ◌+◌, ◌-◌, ◌*◌, ◌<◌, ◌≤◌, length, take, drop, replicate};

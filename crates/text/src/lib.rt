@@ -6,7 +6,7 @@ ghost use Rattle.text.specs.Decimal.{decimal};
 
 use arrayvec::ArrayVec;
 
-// Puts a word behind a text, as much of it as there is room for.
+// Puts a word behind a text, as much of it as there is room for. Each caller says in this form what it puts: `take N (before ++ part)`.
 pub fn append<const N: usize>(text: &mut ArrayVec<u8, N>, word: &[u8])
     ensures { text.new.items ≡ take N (text.old.items ++ word.now) }
 {

@@ -143,8 +143,8 @@ fn sets_validity(index: usize, m: Machine) -> Result<(), Refusal>
     }
 }
 
-// Refusals 9 to 11 of machine number `index`, and 21 behind them where its sets shall be nonempty: one row of tests for both, which a
-// function handed in for the last of them would not make plainer.
+// Refusals 9 to 11 of machine number `index`, and 21 behind them where its sets shall be nonempty: one row of tests for both, here
+// and in `pair_validity`, which a function handed in for the last of them would not make plainer.
 fn content_tests(sets: Sets, index: usize, m: Machine) -> Result<(), Refusal>
     ensures { result ≡ content_tests (asks_states sets) index m }
 {

@@ -1,4 +1,5 @@
 // The solver by turns on a file's bytes, for a drawing program that goes on between turns: it keeps the family and the table and lends them to each call.
+// Section and states come one by one, as `progress::look_up` takes them.
 #![tactic(auto)]
 
 ghost use Rattle.std.specs.Prelude.{◌≡◌, length};
