@@ -1,5 +1,5 @@
 -- After i turns the payloads of the first i blocks stand at the front, and the rest of the file is what stands behind these blocks.
-use Rattle.std.proofs.Common.{◌≡◌, ◌+◌, ◌-◌, ◌*◌, ◌/◌, ℕ, drop, length, refl, sym, ap, ◌∙◌, arith, length-drop}
+use Rattle.std.proofs.Common.{◌≡◌, ◌+◌, ◌-◌, ◌*◌, ℕ, drop, length, refl, sym, ap, ◌∙◌, arith}
 use borrow.Rule.Slice.PartMut.{put_mid}
 use Rattle.mask.specs.FrontLaws.{front_none}
 use Rattle.mask.specs.Tables.{front}
@@ -30,12 +30,3 @@ loop-i-preserved c =
           ∙ join_turn f c.args.payload.now l.payload c.copy_from_slice.new.self c.in-Some.block.now i 508 k h.3 c.copy_from_slice.ensures.after t.0 long (omega arith) (omega arith)
           ∙ ap (λ (n : ℕ). front (508 * n) (payload_byte f) c.args.payload.now) (sym s.2),
     )
-
-pub returns : goal.returns
-returns c =
-    let f = c.args.bytes.now in
-    let l = c.loop-i in
-    let h = l.invariant in
-    let all : l.i-iterator.count ≡ length f / 512 =
-    omega (arith, c.in-None.ensures.steps.0.1.0, h.0, ap length h.1, length-drop (512 * l.i-iterator.count) f, h.2) in
-    h.3 ∙ ap (λ (n : ℕ). front (508 * n) (payload_byte f) c.args.payload.now) all

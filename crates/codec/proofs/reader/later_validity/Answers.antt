@@ -1,14 +1,10 @@
 -- The length is the one demanded, so the later blocks and the padding are left, in this order.
 use mathlib.Core.Path.{sym, ◌∙◌}
-use native.Mathlib.Omega.{arith}
 use Rattle.mask.specs.LogicLaws.{not_i, not_f}
 use Rattle.machine.specs.RefusalsLaws.{then_of, then_refused}
 use Rattle.machine.proofs.Passing.{passed_on}
-use Rattle.codec.proofs.ReaderLaws.{fitting, blocks_then}
+use Rattle.codec.proofs.ReaderLaws.{blocks_then}
 use Rattle.codec.proofs.reader.later_validity.Goals as goal
-
-pub later_blocks-requires : goal.later_blocks-requires
-later_blocks-requires c = let w = fitting _ c.requires in omega arith
 
 pub returns-in_err-later_blocks : goal.returns-in_err-later_blocks
 returns-in_err-later_blocks c =

@@ -26,12 +26,6 @@ placed c = c.payload_length-at.ensures.value ∙ ap (λ (k : Counts). payload_le
 room : (c : After-entries-entries) → c.entries-entries.result ≤ length c.args.table.now
 room c = omega (arith, counted c, entries_fit c.args.head.now.bytes.now c.requires.loaded.counts, c.requires.table_room_in_bounds)
 
-pub slice_bounds-read_numbers-count : goal.slice_bounds-read_numbers-count
-slice_bounds-read_numbers-count c = omega (arith, placed c, entries_end c.args.head.now.bytes.now c.requires.note, c.requires.loaded)
-
-pub slice_bounds-read_numbers-start : goal.slice_bounds-read_numbers-start
-slice_bounds-read_numbers-start c = omega (arith, placed c, entries_end c.args.head.now.bytes.now c.requires.note, c.requires.loaded)
-
 pub slice_bounds-read_numbers-end : goal.slice_bounds-read_numbers-end
 slice_bounds-read_numbers-end c = omega (arith, counted c, placed c, entries_end c.args.head.now.bytes.now c.requires.note, c.requires.loaded)
 
@@ -40,12 +34,6 @@ slice_bounds-read_numbers-end-2 c = room (goal.at.slice_bounds-read_numbers-end-
 
 pub slice_bounds-read_numbers-end-3 : goal.slice_bounds-read_numbers-end-3
 slice_bounds-read_numbers-end-3 c = sym (length-take-le _ c.args.table.now (room (goal.at.slice_bounds-read_numbers-end-3 c).After-entries-entries))
-
-pub read_numbers-requires : goal.read_numbers-requires
-read_numbers-requires c =
-    let f = c.args.head.now.bytes.now in
-    let p = (goal.at.read_numbers-requires c).After-entries-entries in
-    omega (arith, length-take-le _ c.args.table.now (room p), counted p, placed p, entries_end f c.requires.note, c.requires.loaded)
 
 pub returns : goal.returns
 returns c =

@@ -1,8 +1,6 @@
 -- After i turns the first i numbers are stored.
-use Rattle.std.proofs.Common.{ℕ, ◌*◌, ◌+◌, ◌-◌, ◌≡◌, ◌++◌, length, drop, get_or, refl, ap, ◌∙◌, arith}
+use Rattle.std.proofs.Common.{ℕ, ◌*◌, ◌+◌, ◌-◌, get_or, refl, ap, ◌∙◌, arith}
 use Rattle.std.proofs.lemmas.List.{get_or_read_under}
-use Rattle.codec.specs.Format.{numbers}
-use Rattle.codec.specs.ListLaws.{part_last}
 use Rattle.codec.specs.WriterLaws.{numbers_none, store_next}
 use Rattle.codec.proofs.writer.put_numbers.Goals as goal
 
@@ -18,13 +16,3 @@ loop-i-preserved g c =
     let at = c.BYTES.result * l.i in
     store_next t.BYTES a.out.now l.out c.write.new.bytes l.i (λ k. t.value (get_or a.values.now k (t.of 0))) at (at + c.BYTES-in-loop-i.result - at)
     g.met.T.Stored.some l.invariant (c.write.ensures ∙ rw here refl) (ap (λ (n : ℕ). n * l.i) c.BYTES.ensures) (omega (arith, c.BYTES-in-loop-i.ensures))
-
-pub returns : goal.returns
-returns g c =
-    let t = g.T.Stored in
-    let a = c.args in
-    let l = c.loop-i in
-    let f = λ (k : ℕ). t.value (get_or a.values.now k (t.of 0)) in
-    let all : l.i ≡ length a.values.now = omega arith in
-    l.invariant ∙ ap (λ (n : ℕ). numbers t.BYTES n f ++ drop (t.BYTES * n) a.out.now) all
-    ∙ part_last (numbers t.BYTES (length a.values.now) f) a.out.now (t.BYTES * length a.values.now) (omega (arith, c.requires))

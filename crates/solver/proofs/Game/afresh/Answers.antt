@@ -4,9 +4,6 @@ use Rattle.solver.specs.SweepLaws.{first_bounded, first_covered}
 use Rattle.solver.proofs.Game.afresh.Goals as goal
 use Rattle.solver.proofs.Game.afresh.Goals.{Start}
 
-pub first_entries-requires : goal.first_entries-requires
-first_entries-requires c = c.requires.1
-
 pub section-requires : goal.section-requires
 section-requires c =
     let e = c.first_entries.ensures in

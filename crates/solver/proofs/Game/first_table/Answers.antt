@@ -1,13 +1,11 @@
 -- At the loop's head all earlier sections have their first entries.
-use mathlib.Core.Path.{◌≡◌, refl, ◌∙◌}
+use mathlib.Core.Path.{◌≡◌, refl}
 use Prim.Native.Nat.{◌+◌, ◌-◌, ◌*◌, ◌≤◌}
 use native.Mathlib.Omega.{arith}
-use lib.ListN.{length}
 use Rattle.machine.specs.Machines.{pairs}
 use Rattle.machine.specs.Table.{table_room}
 use Rattle.machine.specs.WellFormedLaws.{well_pair, pairs_small, section_fits}
-use Rattle.rows.specs.WriteLaws.{cut_long}
-use Rattle.solver.specs.SweepLaws.{begun_start, begun_turn}
+use Rattle.solver.specs.SweepLaws.{begun_turn}
 use Rattle.solver.proofs.Game.first_table.Goals as goal
 use Rattle.solver.proofs.Game.first_table.Goals.{In-loop-j, Start}
 
@@ -19,9 +17,6 @@ fits c = section_fits c.args.self.now.pair (well_pair c.args.self.now.pair c.arg
 
 pub overflow_mul-pairs : goal.overflow_mul-pairs
 overflow_mul-pairs c = omega (arith, pairs_small c.args.self.now.pair (well_pair c.args.self.now.pair c.args.self.now.prepared.well))
-
-pub loop-j-init : goal.loop-j-init
-loop-j-init c = (omega arith, begun_start)
 
 pub overflow_mul-from : goal.overflow_mul-from
 overflow_mul-from c = omega (arith, fits (goal.at.overflow_mul-from c).In-loop-j)
@@ -35,20 +30,6 @@ offset_bounds-table-from c = omega (arith, fits (goal.at.offset_bounds-table-fro
 pub slice_bounds-first_entries-end : goal.slice_bounds-first_entries-end
 slice_bounds-first_entries-end c = omega (arith, fits (goal.at.slice_bounds-first_entries-end c).In-loop-j, c.loop-j.invariant.1.long, c.requires)
 
-pub first_entries-requires : goal.first_entries-requires
-first_entries-requires c =
-    let P = pairs c.args.self.now.pair in
-    let a = c.loop-j.j * P in
-    let k = a + P - a in
-    let room : a + k ≤ length c.loop-j.table = omega (arith, fits (goal.at.first_entries-requires c).In-loop-j, c.loop-j.invariant.1.long, c.requires) in
-    cut_long k a c.loop-j.table room ∙ omega arith
-
-pub overflow_step-j : goal.overflow_step-j
-overflow_step-j c = omega (arith, c.loop-j-test.true, (well_pair c.args.self.now.pair c.args.self.now.prepared.well).abstraction.sets_high)
-
-pub loop-j-smaller : goal.loop-j-smaller
-loop-j-smaller c = omega (arith, c.loop-j-test.true)
-
 pub loop-j-preserved : goal.loop-j-preserved
 loop-j-preserved c =
     let P = pairs c.args.self.now.pair in
@@ -57,11 +38,3 @@ loop-j-preserved c =
       omega (arith, c.loop-j-test.true),
       begun_turn (omega (arith, fits (goal.at.loop-j-preserved c).In-loop-j, c.requires)) refl e c.first_entries.ensures c.loop-j.invariant.1,
     )
-
-pub shape_of-table : goal.shape_of-table
-shape_of-table c = c.loop-j.invariant.1.long
-
-pub returns : goal.returns
-returns c =
-    let e : c.loop-j.j ≡ c.args.self.now.pair.abstraction.sets = omega (arith, c.loop-j.invariant.0, c.loop-j-test.false) in
-    rw (← e) c.loop-j.invariant.1

@@ -6,9 +6,6 @@ use Rattle.solver.specs.LevelLaws.{section_done}
 use Rattle.solver.proofs.Game.section.Goals as goal
 use Rattle.solver.proofs.Game.section.Goals.{Start}
 
-pub levels-y-requires : goal.levels-y-requires
-levels-y-requires c = (c.requires.0, c.requires.1.0)
-
 pub returns : goal.returns
 returns c =
     let w = well_pair c.args.self.now.pair c.args.self.now.prepared.well in

@@ -2,11 +2,9 @@
 use mathlib.Core.Path.{◌≡◌, refl, ◌∙◌}
 use Prim.Native.Nat.{◌+◌, ◌-◌, ◌*◌, ◌≤◌}
 use native.Mathlib.Omega.{arith}
-use lib.ListN.{length}
 use Rattle.machine.specs.Machines.{sets_a, pairs}
 use Rattle.machine.specs.Table.{table_room}
 use Rattle.machine.specs.WellFormedLaws.{well_pair, pairs_small, section_fits}
-use Rattle.rows.specs.WriteLaws.{cut_long}
 use Rattle.solver.specs.FamilyRowsLaws.{flat_none, turn_more, turn_all}
 use Rattle.solver.specs.SweepLaws.{ranked_start, ranked_more, ranked_done}
 use Rattle.solver.proofs.Game.turn.Goals as goal
@@ -36,20 +34,6 @@ offset_bounds-table-from c = omega (arith, fits (goal.at.offset_bounds-table-fro
 pub slice_bounds-turn_section-end : goal.slice_bounds-turn_section-end
 slice_bounds-turn_section-end c = omega (arith, fits (goal.at.slice_bounds-turn_section-end c).In-loop-j, c.loop-j.invariant.0.1.long, c.requires)
 
-pub turn_section-requires : goal.turn_section-requires
-turn_section-requires c =
-    let P = pairs c.args.self.now.pair in
-    let a = c.loop-j.j * P in
-    let k = a + P - a in
-    let room : a + k ≤ length c.loop-j.table = omega (arith, fits (goal.at.turn_section-requires c).In-loop-j, c.loop-j.invariant.0.1.long, c.requires) in
-    (c.loop-j-test.true, cut_long k a c.loop-j.table room ∙ omega arith)
-
-pub overflow_step-j : goal.overflow_step-j
-overflow_step-j c = omega (arith, c.loop-j-test.true, (well_pair c.args.self.now.pair c.args.self.now.prepared.well).abstraction.sets_high)
-
-pub loop-j-smaller : goal.loop-j-smaller
-loop-j-smaller c = omega (arith, c.loop-j-test.true)
-
 pub loop-j-preserved : goal.loop-j-preserved
 loop-j-preserved c =
     let x = c.args in
@@ -61,9 +45,6 @@ loop-j-preserved c =
       (omega (arith, c.loop-j-test.true), ranked_more x.self.now.pair w c.requires c.loop-j-test.true refl e made.1 c.loop-j.invariant.0.1),
       made.0 ∙ turn_more x.self.now.pair w x.family.now c.loop-j.j c.loop-j-test.true c.loop-j.invariant.1,
     )
-
-pub shape_of-table : goal.shape_of-table
-shape_of-table c = c.loop-j.invariant.0.1.long
 
 pub returns : goal.returns
 returns c =
