@@ -53,6 +53,7 @@ trait Stored: Copy {
     ghost some: { 0 < BYTES };
 }
 
+// Each of the two spells the conversion of its own type, since std has no trait for it.
 impl Stored for u16 {
     ghost value = { λ x. x };
 
