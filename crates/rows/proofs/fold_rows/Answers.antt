@@ -1,12 +1,9 @@
 -- The invariant: folding what is left onto what is joined gives the whole fold, whatever function the calls are known to follow.
-use Rattle.std.proofs.Common.{◌≡◌, ◌∙◌, ℕ, ap, ap₂, sym, refl, arith, rules, get_or}
+use Rattle.std.proofs.Common.{◌≡◌, ◌∙◌, ℕ, ap, ap₂, sym, arith, rules, get_or}
 use Rattle.mask.specs.BitsLaws.{rest_lt}
 use Rattle.rows.specs.Folds.{fold_rows, fold_none, fold_turn}
 use Rattle.rows.specs.RowsLaws.{walk_index}
 use Rattle.rows.proofs.fold_rows.Goals as goal
-
-pub loop-left-init : goal.loop-left-init
-loop-left-init g c = (omega arith, omega arith, λ h k. refl)
 
 pub offset_bounds-rows-lowest : goal.offset_bounds-rows-lowest
 offset_bounds-rows-lowest g c = omega (arith, walk_index c.lowest.result c.lowest.ensures c.loop-left-test.true c.loop-left.invariant.0)

@@ -47,12 +47,6 @@ offset_bounds-out-c c = omega (arith, known (goal.at.offset_bounds-out-c c).In-l
 pub bounds-out-c : goal.bounds-out-c
 bounds-out-c c = (known (goal.at.bounds-out-c c).In-loop-c).1.1.1
 
-pub overflow_step-c : goal.overflow_step-c
-overflow_step-c c = omega (arith, known (goal.at.overflow_step-c c).In-loop-c)
-
-pub loop-c-smaller : goal.loop-c-smaller
-loop-c-smaller c = omega (arith, c.loop-c-test.true)
-
 pub loop-c-preserved : goal.loop-c-preserved
 loop-c-preserved c =
     let x = c.args in

@@ -4,12 +4,9 @@ use Prim.Native.Nat.{ℕ, ◌+◌, ◌*◌, ◌-◌, ◌≤◌, ◌<◌}
 use native.Mathlib.Omega.{arith}
 use lib.ListN.{length, take, drop}
 use Rattle.rows.specs.Entries.{write_row}
-use Rattle.rows.specs.WriteLaws.{written_start, written_turn, written_whole, row_fits, section_some}
+use Rattle.rows.specs.WriteLaws.{written_turn, written_whole, row_fits, section_some}
 use Rattle.rows.proofs.write_entry.Goals as goal
 use Rattle.rows.proofs.write_entry.Goals.{In-loop-c}
-
-pub loop-c-init : goal.loop-c-init
-loop-c-init c = (omega arith, c.row_count-end.ensures, written_start _ _ _ _ _)
 
 -- there is a row, so that the entries are a section, and the row lies within it
 known : (c : In-loop-c) →
@@ -45,12 +42,6 @@ offset_bounds-part-from c = omega (arith, known (goal.at.offset_bounds-part-from
 pub slice_bounds-write_row-end : goal.slice_bounds-write_row-end
 slice_bounds-write_row-end c = omega (arith, known (goal.at.slice_bounds-write_row-end c).In-loop-c, c.loop-c.invariant.2.long)
 
-pub overflow_step-c : goal.overflow_step-c
-overflow_step-c c = omega (arith, known (goal.at.overflow_step-c c).In-loop-c)
-
-pub loop-c-smaller : goal.loop-c-smaller
-loop-c-smaller c = omega (arith, c.loop-c-test.true)
-
 pub loop-c-preserved : goal.loop-c-preserved
 loop-c-preserved c =
     let x = c.args in
@@ -62,9 +53,6 @@ loop-c-preserved c =
       written_turn x.na x.x.now x.y.now x.v x.part.now refl e (known (goal.at.loop-c-preserved c).In-loop-c).0
           (c.write_row.ensures ∙ ap (λ (m : ℕ). write_row m x.v (take k (drop a c.loop-c.part))) c.without.ensures) c.loop-c.invariant.2,
     )
-
-pub shape_of-part : goal.shape_of-part
-shape_of-part c = c.loop-c.invariant.2.long
 
 pub returns : goal.returns
 returns c =

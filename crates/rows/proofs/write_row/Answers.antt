@@ -1,18 +1,12 @@
 -- At the loop's head all states of the row but those left have the entry, where there is one; each turn takes the lowest.
 use native.Mathlib.Omega.{arith}
-use Rattle.mask.specs.BitsLaws.{lowest_le, rest_lt}
+use Rattle.mask.specs.BitsLaws.{rest_lt}
 use Rattle.rows.specs.WriteLaws.{writing_start, writing_skip, writing_turn, writing_done}
 use Rattle.rows.proofs.write_row.Goals as goal
 use Rattle.rows.proofs.write_row.Goals.{else-a-part, then-a-part}
 
 pub loop-left-init : goal.loop-left-init
 loop-left-init c = writing_start (omega arith)
-
-pub offset_bounds-part-a : goal.offset_bounds-part-a
-offset_bounds-part-a c = omega (arith, c.lowest-a.ensures, lowest_le 64 c.loop-left.left)
-
-pub bounds-part-a : goal.bounds-part-a
-bounds-part-a c = omega (arith, c.if-a-part.true)
 
 pub loop-left-smaller : goal.loop-left-smaller
 loop-left-smaller c = omega (arith, c.rest-left.ensures, rest_lt c.loop-left.left (omega (arith, c.loop-left-test.true)))
@@ -25,9 +19,6 @@ loop-left-preserved c =
       | then-a-part w ↦ rw w.part-is (writing_turn e z c.loop-left.invariant (omega (arith, w.if-a-part.true)))
       | else-a-part w ↦ rw w.part-is (writing_skip e z c.loop-left.invariant (omega (arith, w.if-a-part.false, c.loop-left.invariant.long)))
     ])
-
-pub shape_of-part : goal.shape_of-part
-shape_of-part c = c.loop-left.invariant.long
 
 pub returns : goal.returns
 returns c = writing_done c.loop-left-test.false c.loop-left.invariant
