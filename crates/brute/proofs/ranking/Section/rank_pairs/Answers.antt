@@ -37,8 +37,3 @@ loop-i-preserved c =
       c.mark.auto.ranks ∙ l.invariant.1,
       ranked_step x.self.now.lifted.pair.now x.self.now.lifted.table.now x.self.now.j x.ranks.now l.i l.invariant.2 c.put_largest.ensures (rw c.pairs-pairs.ensures at c.mark.ensures),
     )
-
-pub returns : goal.returns
-returns c =
-    let p = c.args.self.now.lifted.pair.now in
-    let e : c.loop-i.i ≡ sets_c p * pairs p = omega (arith, most (goal.at.returns c).After-pairs-pairs) in rw (← e) c.loop-i.invariant.2
