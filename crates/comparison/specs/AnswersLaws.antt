@@ -9,7 +9,7 @@ use Rattle.mask.specs.Logic.{and}
 use Rattle.mask.specs.LogicLaws.{and_i, and_l, and_r, clash}
 use Rattle.machine.specs.declared.Pair.{Pair}
 use Rattle.machine.specs.declared.Refusal.{Refusal}
-use Rattle.machine.specs.declared.Refusal.TheVariants.{ShortBuffer, BadLength, BadFirstBlock, BadHeader, BadCounts, WrongLength, BadBlock, BadPadding, BeyondCounts, NoStart, NoSuccessor, FailingEntry, BadLassoLength, BadLassoStep, UnfairLasso, NoStartPartner, Misplaced, OutOfRange, EmptySet}
+use Rattle.machine.specs.declared.Refusal.TheVariants.{ShortBuffer, BadLength, BadFirstBlock, BadHeader, BadCounts, WrongLength, BadBlock, BadPadding, BeyondCounts, NoStart, NoSuccessor, FailingEntry, BadLassoLength, BadLassoStep, UnfairLasso, NoStartPartner, Misplaced, OutOfRange, EmptySet, UnlikeLast, TooManyFiles}
 use Rattle.machine.specs.declared.Verdict.{Verdict}
 use Rattle.machine.specs.declared.Verdict.TheVariants.{Carried, NotCarried}
 use Rattle.machine.specs.declared.Checked.{Checked}
@@ -39,7 +39,9 @@ told_by n x y z =
     cond (n == 15) (UnfairLasso x) (
     cond (n == 16) NoStartPartner (
     cond (n == 19) (Misplaced x y) (
-    cond (n == 20) OutOfRange (EmptySet x y))))))))))))))))))
+    cond (n == 20) OutOfRange (
+    cond (n == 21) (EmptySet x y) (
+    cond (n == 25) UnlikeLast TooManyFiles)))))))))))))))))))
 
 told_of : List ℕ → Refusal
 told_of (n ∷ x ∷ y ∷ z ∷ []) = told_by n x y z
@@ -66,6 +68,8 @@ told_back NoStartPartner = refl
 told_back (Misplaced block found) = refl
 told_back OutOfRange = refl
 told_back (EmptySet machine set) = refl
+told_back UnlikeLast = refl
+told_back TooManyFiles = refl
 
 pub refusals_same : (r s : Refusal) → Decides (same_refusal r s) (r ≡ s)
 unfolding same_refusal

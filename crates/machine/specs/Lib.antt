@@ -15,6 +15,7 @@ pub mod Lines
 pub mod Verdict
 pub mod Player
 -- laws
+pub mod SameMachineLaws
 pub mod HiddenLaws
 pub mod StepLaws
 pub mod RefusalsLaws

@@ -1,7 +1,7 @@
 -- Document 01, "Machines" and the head of "The game".
 -- The rig is the concrete machine of a pair, the score its abstraction. States, fairness sets and sections are numbered from 0 here:
 -- document 01's set k and section j are number k - 1 and j - 1.
-use Rattle.std.specs.Prelude.{Bool, cond, ℕ, suc, ◌*◌, get_or, eqb, ltb}
+use Rattle.std.specs.Prelude.{Bool, cond, ℕ, suc, ◌*◌, get_or, eqb, ltb, bytes_eq, ◌&&◌}
 use Rattle.std.specs.Int.Bits.{bit_or}
 use Rattle.mask.specs.Bits.{has_bit}
 use Rattle.machine.specs.declared.Machine.{Machine}
@@ -63,3 +63,9 @@ matched p c a = same_observation p.hidden (observation p.concrete c) (observatio
 -- "Sections run 1 to n, and after n comes 1."
 unfoldable pub next : ℕ → ℕ → ℕ
 next n j = cond (ltb (suc j) n) (suc j) 0
+
+-- Document 02, No. 9: "equals .. in every field". With the library's `&&`, as a derived `==` has it.
+unfoldable pub same_machine : Machine → Machine → Bool
+same_machine x y =
+    eqb x.states y.states && (eqb x.sets y.sets && (eqb x.start y.start
+    && (bytes_eq x.observations y.observations && (bytes_eq x.successors y.successors && bytes_eq x.fairness y.fairness))))

@@ -3,7 +3,7 @@
 use Rattle.std.specs.Prelude.{cond, List, [], ◌∷◌, ◌++◌, ℕ, zero, suc, length, drop, ltb, Result, Ok, Err, Option, Some, None}
 use Rattle.std.proofs.lemmas.List.Edits.{sets}
 use Rattle.machine.specs.declared.Refusal.{Refusal}
-use Rattle.machine.specs.declared.Refusal.TheVariants.{ShortBuffer, BadLength, BadFirstBlock, BadHeader, BadCounts, WrongLength, BadBlock, BadPadding, BeyondCounts, NoStart, NoSuccessor, FailingEntry, BadLassoLength, BadLassoStep, UnfairLasso, NoStartPartner, Misplaced, OutOfRange, EmptySet}
+use Rattle.machine.specs.declared.Refusal.TheVariants.{ShortBuffer, BadLength, BadFirstBlock, BadHeader, BadCounts, WrongLength, BadBlock, BadPadding, BeyondCounts, NoStart, NoSuccessor, FailingEntry, BadLassoLength, BadLassoStep, UnfairLasso, NoStartPartner, Misplaced, OutOfRange, EmptySet, UnlikeLast, TooManyFiles}
 
 -- what a call says: an answer, or where it was stopped
 abbrev pub Answer : Type 0 → Type 0
@@ -43,7 +43,9 @@ state_after (Err r) made given = given
 -- ---- document 01's table
 -- "No.", by the condition. Document 02, No. 5: "It refuses with 19 a block whose check holds and whose number isn't its place"; No. 6: "It refuses
 -- with 20, after all else, a look-up whose section or state is out of range." A machine of a file that is asked for by another number than 0 and 1
--- has it too; No. 7: "It refuses with 21, after 11 of the same machine, a set without a state".
+-- has it too; No. 7: "It refuses with 21, after 11 of the same machine, a set without a state"; No. 9: "It refuses with 25, after 11 and before its
+-- table is missed or checked, a rig that isn't the score before it or a hidden mask unlike the last, and with 26, before all else, an unended walk's
+-- seventeenth file."
 abbrev pub number_of : Refusal → ℕ
 number_of ShortBuffer = 1
 number_of BadLength = 2
@@ -64,6 +66,8 @@ number_of NoStartPartner = 16
 number_of (Misplaced block found) = 19
 number_of OutOfRange = 20
 number_of (EmptySet machine set) = 21
+number_of UnlikeLast = 25
+number_of TooManyFiles = 26
 
 -- "Three numbers tell the spot, 0 where unused"; "a later number without a stated spot has three zeros"
 abbrev pub spot_of : Refusal → List ℕ
@@ -86,6 +90,8 @@ spot_of NoStartPartner = 0 ∷ 0 ∷ 0 ∷ []
 spot_of (Misplaced block found) = block ∷ found ∷ 0 ∷ []
 spot_of OutOfRange = 0 ∷ 0 ∷ 0 ∷ []
 spot_of (EmptySet machine set) = machine ∷ set ∷ 0 ∷ []
+spot_of UnlikeLast = 0 ∷ 0 ∷ 0 ∷ []
+spot_of TooManyFiles = 0 ∷ 0 ∷ 0 ∷ []
 
 -- its four numbers, as C gets them
 unfoldable pub four_numbers : Refusal → List ℕ

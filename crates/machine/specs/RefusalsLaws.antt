@@ -9,7 +9,7 @@ use Rattle.std.proofs.Math.ListN.{length-append, length-drop}
 use Rattle.std.proofs.lemmas.List.Edits.{sets}
 use Rattle.machine.specs.declared.Refusal.{Refusal}
 use Rattle.machine.specs.Refusals.{spot_of, Tested, valid, and_then, pass_on, each, buffer_after, state_after, four_numbers, spot_after, buffer_validity, Answer}
-use Rattle.machine.specs.declared.Refusal.TheVariants.{ShortBuffer, BadLength, BadFirstBlock, BadHeader, BadCounts, WrongLength, BadBlock, BadPadding, BeyondCounts, NoStart, NoSuccessor, FailingEntry, BadLassoLength, BadLassoStep, UnfairLasso, NoStartPartner, Misplaced, OutOfRange, EmptySet}
+use Rattle.machine.specs.declared.Refusal.TheVariants.{ShortBuffer, BadLength, BadFirstBlock, BadHeader, BadCounts, WrongLength, BadBlock, BadPadding, BeyondCounts, NoStart, NoSuccessor, FailingEntry, BadLassoLength, BadLassoStep, UnfairLasso, NoStartPartner, Misplaced, OutOfRange, EmptySet, UnlikeLast, TooManyFiles}
 
 -- ---- answers and refusals
 module _ {A : Type 0} where
@@ -196,6 +196,8 @@ spot_three NoStartPartner = refl
 spot_three (Misplaced block found) = refl
 spot_three OutOfRange = refl
 spot_three (EmptySet machine set) = refl
+spot_three UnlikeLast = refl
+spot_three TooManyFiles = refl
 
 module _ {A : Type 0} where
   pub spot_kept : {v : Answer A} {a : A} (spot : List ℕ) → v ≡ Ok a → spot_after v spot ≡ spot

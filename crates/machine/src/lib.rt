@@ -17,7 +17,7 @@ use std::array;
 // A finite machine with fairness sets. Document 01: the rig is the concrete machine, the score the abstract one.
 // Counts stand beside arrays of the largest size, and what a state has in two arrays, as document 01 files them: memory is fixed, and entries past
 // the counts are tested.
-#[derive(Clone, Copy)]
+#[derive(Clone, Copy, PartialEq, Eq)]
 pub struct Machine {
     pub states: usize,
     pub sets: usize,
@@ -75,6 +75,8 @@ pub enum Refusal {
     Misplaced { block: usize, found: usize },
     OutOfRange,
     EmptySet { machine: usize, set: usize },
+    UnlikeLast,
+    TooManyFiles,
 }
 
 // What the check says of a table that passes each line.
@@ -127,6 +129,8 @@ impl Refusal {
             Refusal::Misplaced { .. } => 19,
             Refusal::OutOfRange => 20,
             Refusal::EmptySet { .. } => 21,
+            Refusal::UnlikeLast => 25,
+            Refusal::TooManyFiles => 26,
         }
     }
 
@@ -153,7 +157,9 @@ impl Refusal {
             | Refusal::BadPadding
             | Refusal::BadLassoLength
             | Refusal::NoStartPartner
-            | Refusal::OutOfRange => [0, 0, 0],
+            | Refusal::OutOfRange
+            | Refusal::UnlikeLast
+            | Refusal::TooManyFiles => [0, 0, 0],
         }
     }
 }
