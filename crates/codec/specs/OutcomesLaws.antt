@@ -10,6 +10,18 @@ use Rattle.machine.specs.Table.{table_room}
 use Rattle.codec.specs.Reader.{Taken, taken, read_answer}
 use Rattle.codec.specs.Outcomes.{table_in, outcome_after, outcome_by}
 
+-- ---- after reading
+module _ {A : Type 0} (call : Pair → List ℕ → Answer A) (T : List ℕ) (p : Pair) where
+  pub after_bare : outcome_after call T (taken p false) ≡ Ok None
+  unfolding outcome_after
+  after_bare = refl
+
+  -- v is what the call says of machines and table
+  pub after_taken : {v : Answer A} → v ≡ call p T → outcome_after call T (taken p true) ≡ pass_on v (λ a. Ok (Some a))
+  unfolding outcome_after
+  after_taken said = ap (λ (v : Answer A). pass_on v (λ a. Ok (Some a))) (sym said)
+
+-- ---- of a file
 module _ {A : Type 0} (call : Pair → List ℕ → Answer A) (f : List ℕ) where
   -- what the reader says
   abbrev read : Answer Taken
@@ -19,18 +31,21 @@ module _ {A : Type 0} (call : Pair → List ℕ → Answer A) (f : List ℕ) whe
   unfolding outcome_by
   outcome_refused e = pass_refused _ _ e
 
-  pub outcome_bare : {p : Pair} → read ≡ Ok (taken p false) → outcome_by call f ≡ Ok None
-  unfolding outcome_by outcome_after
-  outcome_bare e = pass_of _ _ e
+  -- T is the table that was left
+  pub outcome_read : {t : Taken} {T : List ℕ} → read ≡ Ok t → T ≡ table_in f → outcome_by call f ≡ outcome_after call T t
+  unfolding outcome_by
+  outcome_read {t} e left = pass_of _ _ e ∙ ap (λ (U : List ℕ). outcome_after call U t) (sym left)
 
-  -- T is the table that was left, and v what the call says of it
+  pub outcome_bare : {p : Pair} → read ≡ Ok (taken p false) → outcome_by call f ≡ Ok None
+  outcome_bare {p} e = outcome_read e refl ∙ after_bare call _ p
+
+  -- and v what the call says of it
   pub outcome_taken : {p : Pair} {T : List ℕ} {v : Answer A} → read ≡ Ok (taken p true) → T ≡ table_in f → v ≡ call p T
       → outcome_by call f ≡ pass_on v (λ a. Ok (Some a))
-  unfolding outcome_by outcome_after
-  outcome_taken {p} e left said = pass_of _ _ e ∙ ap (λ (v : Answer A). pass_on v (λ a. Ok (Some a))) (sym (said ∙ ap (call p) left))
+  outcome_taken {p} {T} e left said = outcome_read e left ∙ after_taken call T p said
 
   -- ---- back: what is said is what the call says of the machines and the table that were read
-  said_after : (t : Taken) {a : A} → outcome_after call (table_in f) t ≡ Ok (Some a) → (p : Pair) × (t ≡ taken p true) × (call p (table_in f) ≡ Ok a)
+  pub said_after : (t : Taken) {a : A} → outcome_after call (table_in f) t ≡ Ok (Some a) → (p : Pair) × (t ≡ taken p true) × (call p (table_in f) ≡ Ok a)
   unfolding outcome_after
   said_after (taken p true) {a} e =
       let q = pass_answer (call p (table_in f)) _ e in

@@ -344,7 +344,7 @@ fn table_at(head: &Head, q: &[u8], table: &mut [u16])
 // ---- The reader
 
 // A machine of zeros, field by field: what a derived Default says of arrays of 64 was not proved (tried).
-fn zero_machine() -> Machine
+pub fn zero_machine() -> Machine
     ensures { result ≡ zero_machine }
 {
     Machine {

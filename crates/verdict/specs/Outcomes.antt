@@ -4,7 +4,6 @@ use Rattle.machine.specs.Refusals.{Answer, number_of}
 use Rattle.machine.specs.Verdict.{no_table, verdict_number, check_verdict}
 use Rattle.codec.specs.Outcomes.{outcome_by}
 use Rattle.machine.specs.declared.Verdict.{Verdict}
-use Rattle.machine.specs.declared.Verdict.TheVariants.{Carried, NotCarried}
 
 -- the reader's refusals, what the check says of the table, or that there is none
 abbrev pub file_outcome : List ℕ → Answer (Option Verdict)
