@@ -1,16 +1,16 @@
 #!/bin/sh
 # Builds the programs in C over the archive. Holds `console` to the number of each sample and of damaged copies, `restore` to the samples whose
 # table is the solver's and to what `shelf` says of a hard show and of altered ones, `play` to runs and refusals, `watch` and the program `turns` to
-# each other and to stored turns, `export` and the program `hoa` to each other and to a reader of the Hanoi format, which is tried on its own too,
-# and all of them and the programs for the shell to the refusals of badly joined copies and to shows with an empty set. Looks for divide instructions
-# in the archive.
+# each other and to stored turns, the program `walk` to chains of shows, `export` and the program `hoa` to each other and to a reader of the Hanoi
+# format, which is tried on its own too, and all of them and the programs for the shell to the refusals of badly joined copies and to shows with an
+# empty set. Looks for divide instructions in the archive.
 set -eu
 cd "$(dirname "$0")/.."
 work=$(mktemp -d)
 trap 'rm -rf "$work"' EXIT
 # with the argument `built` what `rt ci` has just made is taken as it is, and only what is missing is made
 clients/archives.sh "$@" >"$work/log" 2>&1 || { tail -n 20 "$work/log"; exit 1; }
-for name in shelf solve turns play hoa; do
+for name in shelf solve turns play hoa walk; do
     if [ "${1-}" != built ] || [ ! -e "crates/$name/out/$name" ]; then
         (cd "crates/$name" && rt run </dev/null) >"$work/log" 2>&1 || { tail -n 20 "$work/log"; exit 1; }
     fi
@@ -107,7 +107,7 @@ divides 0 target/staticlib/libplayback.a play_file
 for n in 01 03 05 06 10 12; do expect 100 "samples/case-$n.dom"; done
 for n in 02 04 09 11; do expect 200 "samples/case-$n.dom"; done
 for n in 07 08; do expect 12 "samples/case-$n.dom"; done
-for name in large lamp choice stay; do expect 100 "samples/$name.dom"; done
+for name in large lamp choice stay chain-1 chain-2 chain-3 chain-2-bit chain-3-mask; do expect 100 "samples/$name.dom"; done
 for name in lost hard falling; do expect 101 "samples/$name.dom"; done
 
 # each refusal of the reader
@@ -144,6 +144,7 @@ stopped() {
     watches "$line" "$file" 28672
     same "hoa $file" "$line" "$(crates/hoa/out/hoa <"$file")"
     exports "$line" "$file" 0
+    same "walk $file" "1 $line" "$(crates/walk/out/walk "$file")"
 }
 from exchanged large; block 2 large 5; block 5 large 2; stopped 19 2 5
 from first-last large; block 0 large 115; block 115 large 0; stopped 19 0 115
@@ -190,7 +191,7 @@ from lacking large; byte 82 8; seal; expect 203 "$file"
 for name in lost case-06 case-07 case-08 case-09; do restores "samples/$name.dom" 100 samples/case-05.dom; done
 for n in 01 05 10 12; do restores "samples/case-$n.dom" 100 "samples/case-$n.dom"; done
 for n in 04 11; do restores "samples/case-$n.dom" 200 "samples/case-$n.dom"; done
-for name in large lamp choice stay; do restores "samples/$name.dom" 100 "samples/$name.dom"; done
+for name in large lamp choice stay chain-1 chain-2 chain-3 chain-2-bit chain-3-mask; do restores "samples/$name.dom" 100 "samples/$name.dom"; done
 # restored NUMBER LINE NAME: the copy is restored with this number, and then gets this line
 restored() {
     same "restore $3" "$1" "$("$work/restore" "$work/$3" "$work/$3.new")"
@@ -218,6 +219,7 @@ unsolved() {
     same "shelf $4" "$2" "$(crates/shelf/out/shelf <"$4")"
     plays "$3" "$4" / 0
     same "turns $4" "$1" "$(crates/turns/out/turns <"$4")"
+    same "walk $4" "1 $2" "$(crates/walk/out/walk "$4")"
     watches "$1" "$4"
     watches "$1" "$4" 28672
     watches "$1" "$4" 9 0 0
@@ -299,6 +301,78 @@ for spot in '0 0 0' '3 0 0' '1 3 0' '2 0 4' '18446744073709551615 0 0' '1 184467
 done
 same 'turns longer' 'refused 6 0 0 0' "$(crates/turns/out/turns <"$work/longer")"
 same 'turns empty' 'refused 2 0 0 0' "$(crates/turns/out/turns <"$work/empty")"
+
+# a walk along a chain of files: a line for each, and the line of the end again for those after it
+# walks LINES FILE..
+walks() {
+    lines=$1
+    shift
+    same "walk $*" "$lines" "$(crates/walk/out/walk "$@")"
+}
+one=samples/chain-1.dom two=samples/chain-2.dom three=samples/chain-3.dom
+for n in 1 2 3; do same "walk's chain-$n" '' "$(cmp "crates/walk/data/chain-$n.dom" "samples/chain-$n.dom" 2>&1)"; done
+walks '1 carried 3
+2 carried 3
+3 carried 4' $one $two $three
+walks 'usage: walk first.dom second.dom ..'
+# a score that differs in one bit from the next rig, another hidden mask, files out of order; the first file has nothing before it
+walks '1 carried 3
+2 refused 25 0 0 0
+2 refused 25 0 0 0' $one samples/chain-2-bit.dom $three
+walks '1 carried 3
+2 carried 3
+3 refused 25 0 0 0' $one $two samples/chain-3-mask.dom
+walks '1 carried 3
+2 refused 25 0 0 0
+2 refused 25 0 0 0' $one $three $two
+walks '1 carried 4' samples/chain-3-mask.dom
+# each field of the rig is compared: the number of sets, an observation in a hidden bit alone, start states, successors, a set; the number of states
+# cannot be all that differs
+file=$work/walk-sets
+{ head -c 61 $two; head -c 8 /dev/zero; tail -c +62 $two | head -c 443; } >"$file"; byte 8 2; seal
+same "shelf $file" 'carried 3' "$(crates/shelf/out/shelf <"$file")"
+walks '1 carried 3
+2 refused 25 0 0 0' $one "$file"
+for field in 'observation 20 0' 'starts 21 3' 'successors 29 3' 'set 53 6'; do
+    set -- $field
+    from "walk-$1" chain-2; byte "$2" "$3"; seal
+    walks '1 carried 3
+2 refused 25 0 0 0' $one "$file"
+done
+# the reader's refusals come before 25, and 25 before a missing table and before the check; 3, 11, a missing table, 12 and NotCarried end the walk
+from walk-damaged chain-2-bit; byte 100 1; walks '1 carried 3
+2 refused 3 0 0 0
+2 refused 3 0 0 0' $one "$file" $two
+from walk-stuck chain-2-bit; byte 45 0; seal; walks '1 carried 3
+2 refused 11 0 2 0' $one "$file"
+from walk-bare chain-2; byte 11 0; bytes 95 12 0; seal; walks '1 carried 3
+2 no table
+2 no table' $one "$file" $three
+from walk-bare-bit chain-2-bit; byte 11 0; bytes 95 12 0; seal; walks '1 carried 3
+2 refused 25 0 0 0' $one "$file"
+from walk-entry chain-2; byte 95 9; seal; walks '1 carried 3
+2 refused 12 1 0 0
+2 refused 12 1 0 0' $one "$file" $two
+from walk-entry-bit chain-2-bit; byte 95 9; seal; walks '1 carried 3
+2 refused 25 0 0 0' $one "$file"
+from walk-blank chain-2; bytes 95 12 255; seal; walks '1 carried 3
+2 not carried 0 0
+2 not carried 0 0' $one "$file" $three
+walks '1 not carried 0 2
+1 not carried 0 2' samples/case-11.dom samples/lost.dom
+# sixteen files and no more, whatever the seventeenth is; a file that cannot be opened, also for the length of its name, is an empty one; of a longer
+# file the first 59,904 bytes are taken
+sixteen=$(for i in $(seq 16); do echo samples/case-01.dom; done)
+carried=$(for i in $(seq 16); do echo "$i carried 1"; done)
+walks "$carried" $sixteen
+for last in samples/case-01.dom "$work/walk-damaged" "$work/absent"; do walks "$carried
+17 refused 26 0 0 0
+17 refused 26 0 0 0" $sixteen "$last" samples/case-01.dom; done
+walks '1 refused 2 0 0 0
+1 refused 2 0 0 0' "$work/absent" $one
+walks '1 refused 2 0 0 0' "$work/empty"
+walks '1 refused 6 0 0 0' "$work/longer"
+walks '1 refused 2 0 0 0' "$(head -c 5000 /dev/zero | tr '\000' a)"
 
 # the Hanoi format: the program's text is read back as the machines of the show, and is that of the two calls, one after the other
 # exported FILE

@@ -1,4 +1,4 @@
--- Demands 2 and 3 of the tender, what change requests 4 and 5 add to files, what request 1 says of texts, request 6 of turns, and request 7 of empty sets, over the very definitions that the contracts of reader, writer, check, solver, solver by turns and Hanoi text cite. Each statement is a type with
+-- Demands 2 and 3 of the tender, what change requests 4 and 5 add to files, what request 1 says of texts, request 6 of turns, request 7 of empty sets, and request 9 of chains of files, over the very definitions that the contracts of reader, writer, check, solver, solver by turns, Hanoi text and walk cite. Each statement is a type with
 -- its hypotheses in it, and Theorems.antt gives a proof of each: what is shown of well-formed machines, of machines whose sets all have a state, or of
 -- a lent table with room only has `well_formed p ≡ true`, `nonempty_sets p ≡ true`, or `table_room ≤ length T`. `read_answer` and `read_table` are what the reader says and leaves in the lent table, `file_of`
 -- is the format's bytes of a show, `write_answer` and `write_buffer` what the writer says and leaves in the lent buffer, `check_verdict` what the check says, `solve_validity` and `solved_table` what the solver says and leaves in the lent table, `restore_answer` and
@@ -26,6 +26,7 @@ use Rattle.solver.specs.Solver.{solve_validity, solved_table}
 use Rattle.hanoi.specs.Statements.{TextTellsMachine, TextFits, LongestText}
 use Rattle.progress.specs.Turns.{first_answer, first_given, turn_answer, turn_family, turn_table, look_up_answer}
 use Rattle.progress.specs.Statements.{TurnsFinish, OnlyFinishedWrites, FinishedSettles, StruckOutIsFinal, FinishedTells, FirstIsMatched, SolverIsTurns}
+use Rattle.chain.specs.Statements.{ChainIsMatched, CarriedIsChain, ChainIsCarried, WalkIsMatched, EndedStays, EndIsTold}
 use Rattle.machine.specs.declared.Verdict.TheVariants.{Carried}
 
 -- ---- demand 2, files
@@ -130,6 +131,10 @@ TextsOfMachines = TextTellsMachine × TextFits × LongestText
 -- ---- Document 02, No. 6: what is said of every list of turns from the first over the same machines, and that the solver is turns until one is finished
 abbrev pub TurnsAreSolver : Type 0
 TurnsAreSolver = (p : Pair) → TurnsFinish p × OnlyFinishedWrites p × FinishedSettles p × StruckOutIsFinal p × FinishedTells p × FirstIsMatched p × SolverIsTurns p
+
+-- ---- Document 02, No. 9: what is said of every list of files, that a walk tells chains of at most sixteen, and that an ended walk's answer stays
+abbrev pub ChainsAreMatched : Type 0
+ChainsAreMatched = ChainIsMatched × CarriedIsChain × ChainIsCarried × WalkIsMatched × EndedStays × EndIsTold
 
 -- ---- demand 3, second part: "any two well-formed machines, from a file or not", by document 02, No. 7, "machines whose sets all have a state", and any
 -- lent table that has room

@@ -37,7 +37,8 @@ use Rattle.hanoi.proofs.Theorems.{text_tells_machine, text_fits, longest_text}
 use Rattle.progress.specs.Theorems.{turns_finish, only_finished_writes, finished_settles, struck_out_is_final, finished_tells, first_is_matched, solver_is_turns}
 use Rattle.restore.specs.Restoring.{restored, restore_buffer}
 use Rattle.restore.specs.RestoringLaws.{restore_valid, restore_made, restore_empty}
-use Rattle.assurance.specs.Statements.{FilesReadBack, FilesAreWritten, FirstBlockIsEnough, TakenIsNotCut, EntriesAreUnread, FilesAreSound, StoredFilesAreSound, StoredFilesKeepMeaning, BlocksAreTold, BadCopiesAreTold, LostTableIsReplaced, SolverRefusesEmpty, WriterRefusesEmpty, FileSolverRefusesEmpty, TurnsRefuseEmpty, EmptySetsAreRefused, EmptySetMeans, TurnsAreSolver, TextsOfMachines}
+use Rattle.chain.specs.Theorems.{chain_is_matched, carried_is_chain, chain_is_carried, walk_is_matched, ended_stays, end_is_told}
+use Rattle.assurance.specs.Statements.{ChainsAreMatched, FilesReadBack, FilesAreWritten, FirstBlockIsEnough, TakenIsNotCut, EntriesAreUnread, FilesAreSound, StoredFilesAreSound, StoredFilesKeepMeaning, BlocksAreTold, BadCopiesAreTold, LostTableIsReplaced, SolverRefusesEmpty, WriterRefusesEmpty, FileSolverRefusesEmpty, TurnsRefuseEmpty, EmptySetsAreRefused, EmptySetMeans, TurnsAreSolver, TextsOfMachines}
 use Rattle.assurance.specs.Statements.{SolverTakesMachines, SolvedPasses, SolvedCovers, SolvedIsCarried, SolvedIsFigure2, SolvedGoals, SolvedRanks, SolvedRest}
 use Rattle.machine.specs.declared.Verdict.TheVariants.{Carried}
 
@@ -139,6 +140,10 @@ texts_of_machines = (text_tells_machine, text_fits, longest_text)
 pub turns_are_solver : TurnsAreSolver
 turns_are_solver p =
     (turns_finish p, only_finished_writes p, finished_settles p, struck_out_is_final p, finished_tells p, first_is_matched p, solver_is_turns p)
+
+-- ---- chains of files
+pub chains_are_matched : ChainsAreMatched
+chains_are_matched = (chain_is_matched, carried_is_chain, chain_is_carried, walk_is_matched, ended_stays, end_is_told)
 
 pub empty_set_means : EmptySetMeans
 empty_set_means = (empty_set_is_unfair, nonempty_has_state)

@@ -1,4 +1,4 @@
-// Standard input into a lent buffer, for the programs.
+// Standard input or a file into a lent buffer, for the programs.
 #![tactic(auto)]
 
 ghost use Rattle.std.specs.Prelude.{◌≤◌, length};

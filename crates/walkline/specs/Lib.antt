@@ -1,0 +1,4 @@
+-- definitions
+pub mod Lines
+-- laws
+pub mod LinesLaws
