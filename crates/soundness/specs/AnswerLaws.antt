@@ -1,5 +1,5 @@
 -- The player's rule answers each move of the concrete machine: the lines give a partner, and entries never rise until a goal is met.
-use Rattle.std.specs.Prelude.{Bool, true, List, ◌≢◌, ◌≡◌, ℕ, ◌-◌, ◌*◌, ◌≤◌, ◌<◌}
+use Rattle.std.specs.Prelude.{Bool, true, List, ◌≢◌, ◌≡◌, refl, ℕ, ◌-◌, ◌*◌, ◌≤◌, ◌<◌}
 use Rattle.std.proofs.Common.{⊎_elim, ◌∙◌, arith, eq-eqb, ne_eqb}
 use Rattle.std.proofs.Math.Logic.{by_cases}
 use Rattle.std.proofs.Math.Decide.{ℕ_discrete}
@@ -11,7 +11,7 @@ use Rattle.machine.specs.Machines.{n_c, n_a, sets_c, sets_a, successors, moves, 
 use Rattle.machine.specs.Step.{partner, found, state_of}
 use Rattle.machine.specs.StepLaws.{Steps}
 use Rattle.machine.specs.PartnerLaws.{partner_found, partner_at, found_state}
-use Rattle.machine.specs.SingleStep.{Best, Chosen}
+use Rattle.machine.specs.SingleStep.{Candidate, Best, Chosen}
 use Rattle.machine.specs.SingleStepLaws.{single_found, chosen_named}
 use Rattle.machine.specs.Table.{entry}
 use Rattle.machine.specs.Ranks.{level_of, set_of}
@@ -38,28 +38,28 @@ module _ (p : Pair) (T : List ℕ) where
   abbrev pub entry_at : ℕ → Place → ℕ
   entry_at c at = entry p T at.section c at.state
 
-  -- what the rule's answer `to`, at the place `at`, to a move from c to d has: entries never rise while they are not 0, and fall in rig set k
+  -- what an answer `to`, at the place `at`, to a move from c to d has: entries never rise while they are not 0, and fall in rig set k
   pub record Answer (c d : ℕ) (at to : Place) : Type 0 where
     pub again : Covered d to
     pub moved : moves p.abstraction at.state to.state ≡ true
     pub stays : entry_at c at ≢ 0 → entry_at d to ≤ entry_at c at
     pub falls : entry_at c at ≢ 0 → in_fair_set p.concrete (set_of (sets_c p) (entry_at c at)) c ≡ true → entry_at d to < entry_at c at
 
-  -- b is a partner of least entry beside d, whatever the rule for ties
-  pub record LeastPartner (c d : ℕ) (at : Place) (b : ℕ) : Type 0 where
-    pub low : b < n_a p
-    pub moved : moves p.abstraction at.state b ≡ true
-    pub covered : non_blank p T (section_after p T c at) d b ≡ true
-    pub least : (i : ℕ) → i < n_a p → moves p.abstraction at.state i ≡ true → non_blank p T (section_after p T c at) d i ≡ true
-        → entry p T (section_after p T c at) d b ≤ entry p T (section_after p T c at) d i
+  -- b is a successor that is not blank beside d, in the section after the place `at`
+  abbrev Partner : (c d : ℕ) → Place → ℕ → Type 0
+  Partner c d at = Candidate (successors p.abstraction at.state) (non_blank p T (section_after p T c at) d)
 
   section_goal : (c : ℕ) (at : Place) → entry_at c at ≡ 0 → section_after p T c at ≡ next (sets_a p) at.section
   unfolding section_after
   section_goal c at e = rw (eq-eqb _ _ e)
 
-  section_stays : (c : ℕ) (at : Place) → entry_at c at ≢ 0 → section_after p T c at ≡ at.section
+  pub section_stays : (c : ℕ) (at : Place) → entry_at c at ≢ 0 → section_after p T c at ≡ at.section
   unfolding section_after
   section_stays c at e = rw (ne_eqb _ _ e)
+
+  pub step_section : (c d : ℕ) (at : Place) → (step_to p T c at d).section ≡ section_after p T c at
+  unfolding step_to
+  step_section c d at = refl
 
   -- the partner that the pair's line gives
   record LinePartner (c d : ℕ) (at : Place) : Type 0 where
@@ -132,48 +132,34 @@ module _ (p : Pair) (T : List ℕ) where
             let b = line.inside z i d hd m in
             (b.0, b.1, b.2, rw (lower_at_most p T at.section (level_of (sets_c p) r) d b.0 w.concrete.sets_low (level_low (sets_c p) r)) at b.3)
 
-    -- any partner of least entry is an answer
-    pub answer_of : (c d : ℕ) (at : Place) → c < n_c p → Covered c at → d < n_c p → moves p.concrete c d ≡ true → (b : ℕ) → LeastPartner c d at b
+    -- any partner of least entry is an answer, whatever the rule for ties
+    pub answer_of : (c d : ℕ) (at : Place) → c < n_c p → Covered c at → d < n_c p → moves p.concrete c d ≡ true → (b : ℕ) → Partner c d at b
+        → ((i : ℕ) → Partner c d at i → entry p T (section_after p T c at) d b ≤ entry p T (section_after p T c at) d i)
         → Answer c d at (record { state = b; section = section_after p T c at })
-    answer_of c d at hc h hd m b x =
-        let k = line_partner c d at hc h hd m in
-        let least = x.least k.who k.low k.moved k.covered in
-        record {
-          again = record { bound = x.low; section_bound = section_lt p T c at h.section_bound; covered = x.covered };
-          moved = x.moved;
-          stays = λ z. omega (arith, k.stays z, least);
-          falls = λ z i. omega (arith, k.falls z i, least);
-        }
-
-    -- the rule's is the one that the single step chooses
-    follow_chosen : (c d : ℕ) (at : Place) → LinePartner c d at → let j = section_after p T c at in
-        Chosen at.state (successors p.abstraction at.state) (non_blank p T j d) (entry p T j d) (state_of (follow p T j at d))
-    unfolding follow moves
-    follow_chosen c d at k = chosen_named at.state (entry p T (section_after p T c at) d) _ _
-        (single_found at.state _ _ _ ∙ some_in_of 64 _ _ k.who (small k.low) k.moved k.covered)
-
-    -- and so of least entry
-    follow_least : (c d : ℕ) (at : Place) → at.state < n_a p → LinePartner c d at → LeastPartner c d at (state_of (follow p T (section_after p T c at) at d))
     unfolding moves
-    follow_least c d at h k =
-        let x = follow_chosen c d at k in
-        let y = x.candidate in
+    answer_of c d at hc h hd m b x least =
+        let k = line_partner c d at hc h hd m in
+        let most = least k.who (record { below = small k.low; moved = k.moved; inside = k.covered }) in
         record {
-          low = w.abstraction.move_bits at.state _ h y.below y.moved;
-          moved = y.moved;
-          covered = y.inside;
-          least = λ i l u v. x.least i (record { below = small l; moved = u; inside = v });
+          again = record { bound = w.abstraction.move_bits at.state b h.bound x.below x.moved; section_bound = section_lt p T c at h.section_bound; covered = x.inside };
+          moved = x.moved;
+          stays = λ z. omega (arith, k.stays z, most);
+          falls = λ z i. omega (arith, k.falls z i, most);
         }
 
     module _ (c d : ℕ) (at : Place) (hc : c < n_c p) (h : Covered c at) (hd : d < n_c p) (m : moves p.concrete c d ≡ true) where
-      pub step_answers : Answer c d at (step_to p T c at d)
-      unfolding step_to
-      step_answers = answer_of c d at hc h hd m _ (follow_least c d at h.bound (line_partner c d at hc h hd m))
-
+      -- the rule's answer is the partner that the single step chooses
       pub step_chosen : let to = step_to p T c at d in
           Chosen at.state (successors p.abstraction at.state) (non_blank p T to.section d) (entry p T to.section d) to.state
+      unfolding step_to follow moves
+      step_chosen =
+          let k = line_partner c d at hc h hd m in
+          chosen_named at.state (entry p T (section_after p T c at) d) _ _
+          (single_found at.state _ _ _ ∙ some_in_of 64 _ _ k.who (small k.low) k.moved k.covered)
+
+      pub step_answers : Answer c d at (step_to p T c at d)
       unfolding step_to
-      step_chosen = follow_chosen c d at (line_partner c d at hc h hd m)
+      step_answers = let x = step_chosen in answer_of c d at hc h hd m _ x.candidate x.least
 
     -- the rule's start, where there is a partner, is the lowest start state of least entry
     pub start_best : (c : ℕ) → found (start_partner p T c) ≡ true → Best p.abstraction.start (non_blank p T 0 c) (entry p T 0 c) (state_of (start_partner p T c))

@@ -1,7 +1,8 @@
--- A sequence of entries that ends where it began; a walk around the cycle of sections.
+-- Sequences of entries: one that falls, and one that ends where it began; a walk around the cycle of sections.
 use Rattle.std.specs.Prelude.{Bool, true, false, cond, ◌≢◌, ◌≡◌, refl, ℕ, zero, suc, ◌+◌, ◌≤◌, ◌<◌, eqb, leb}
 use Rattle.std.proofs.Common.{⊎_elim, ap, arith, eqb-true, eq-eqb, le-leb}
-use Rattle.std.proofs.Math.Decide.{dec_le, dec_lt}
+use Rattle.std.proofs.Math.Logic.{by_cases}
+use Rattle.std.proofs.Math.Decide.{dec_le, dec_lt, ℕ_discrete}
 use Rattle.std.proofs.lemmas.Bool.{eqb-false, lt-leb}
 use Rattle.mask.specs.Logic.{and}
 use Rattle.mask.specs.LogicLaws.{dec, clash, and_l, and_r, and_i}
@@ -19,17 +20,21 @@ chain R r t n h i (suc j) l m = go (dec_le i j) (chain R r t n h i j)
     go (yes p) ih = t i j (suc j) (ih p (omega arith)) (h j m)
     go (no p) ih = let q : i ≡ suc j = omega arith in rw q (r (suc j))
 
--- a sequence that never rises, or never falls, and ends where it began never moves
-module _ (e : ℕ → ℕ) (n : ℕ) (ends : e 0 ≡ e n) where
-  pub still_down : ((i : ℕ) → i < n → e (suc i) ≤ e i) → (i : ℕ) → i ≤ n → e i ≡ e 0
-  still_down h i l =
-      let c = chain (λ x y. e y ≤ e x) (λ x. omega arith) (λ x y z p q. omega arith) n h in
-      omega (arith, c 0 i (omega arith) l, c i n l (omega arith))
+-- a sequence that never falls and ends where it began never moves
+still_up : (e : ℕ → ℕ) (n : ℕ) → e 0 ≡ e n → ((i : ℕ) → i < n → e i ≤ e (suc i)) → (i : ℕ) → i ≤ n → e i ≡ e 0
+still_up e n ends h i l =
+    let c = chain (λ x y. e x ≤ e y) (λ x. omega arith) (λ x y z p q. omega arith) n h in
+    omega (arith, c 0 i (omega arith) l, c i n l (omega arith))
 
-  pub still_up : ((i : ℕ) → i < n → e i ≤ e (suc i)) → (i : ℕ) → i ≤ n → e i ≡ e 0
-  still_up h i l =
-      let c = chain (λ x y. e x ≤ e y) (λ x. omega arith) (λ x y z p q. omega arith) n h in
-      omega (arith, c 0 i (omega arith) l, c i n l (omega arith))
+-- entries that never rise, and fall at some moments, are lower at the end if there is a moment at which the first of them would fall
+pub lower_after : (e : ℕ → ℕ) (falls : ℕ → ℕ → Bool) (n : ℕ) → ((i : ℕ) → i < n → e (suc i) ≤ e i)
+    → ((i : ℕ) → i < n → falls (e i) i ≡ true → e (suc i) < e i) → ((i : ℕ) × (i < n) × (falls (e 0) i ≡ true)) → e n < e 0
+lower_after e falls n le lt q =
+    let i = q.0 in
+    let c = chain (λ x y. e y ≤ e x) (λ x. omega arith) (λ x y z p q. omega arith) n le in
+    let before : e i ≤ e 0 = c 0 i (omega arith) (omega (arith, q.1)) in
+    let after : e n ≤ e (suc i) = c (suc i) n q.1 (omega arith) in
+    by_cases (ℕ_discrete (e i) (e 0)) (λ s. let now : falls (e i) i ≡ true = rw s q.2 in omega (arith, lt i q.1 now)) (λ d. omega (arith, le i q.1))
 
 -- entries that never rise while they are not 0, that fall at some moments, and that end where they began, are 0 at some moment, if each
 -- entry has a moment at which it falls
@@ -40,9 +45,7 @@ zero_met e falls n le lt ends q = ⊎_elim
     (λ z. (z.0, z.1, eqb-true _ _ z.2))
     (λ none.
     let ne : (i : ℕ) → i < n → e i ≢ 0 = λ i l. eqb-false _ _ (none i l) in
-    let s = still_down e n ends (λ i l. le i l (ne i l)) in
-    let now : e q.0 ≡ e 0 = s q.0 (omega (arith, q.1)) in
-    absurd (omega (arith, s (suc q.0) q.1, lt q.0 q.1 (ne q.0 q.1) (rw now q.2))))
+    absurd (omega (arith, ends, lower_after e falls n (λ i l. le i l (ne i l)) (λ i l. lt i l (ne i l)) q)))
     (find n (λ i. eqb (e i) 0))
 
 -- sections numbered from the one after s on, so that next adds one except at s

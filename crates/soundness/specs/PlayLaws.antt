@@ -14,7 +14,7 @@ use Rattle.machine.specs.Machines.{observation, moves, starts, in_fair_set}
 use Rattle.machine.specs.Lassos.{Lasso, moment, is_lasso, is_fair, from_start, is_play, SameObservations}
 use Rattle.machine.specs.LassosLaws.{moment_stem, moment_round, moment_loop, Goes, lasso_loop, lasso_goes, lasso_of_lem}
 use Rattle.machine.specs.HiddenLaws.{HidesMore, same_zero, same_refl, same_sym, same_trans, same_more}
-use Rattle.soundness.specs.Plays.{Again, lasso_of, unrolled, SamePlay, Play}
+use Rattle.soundness.specs.Plays.{Again, lasso_of, unrolled, SamePlay, FairLoop, Play}
 
 -- ---- sequences that come again
 -- a whole number of times
@@ -116,13 +116,13 @@ module _ (m : Machine) (l : Lasso) where
           let e : moment l (suc (t + length l.loop)) ≡ moment l (suc t) = ap (moment l) (omega arith) ∙ moment_again l (suc t) (omega arith) in
           rw (moment_again l t b, e) x
 
-  pub fair_at : is_fair m l ≡ true → (k : ℕ) → k < m.sets → (i : ℕ) × (i < length l.loop) × (in_fair_set m k (moment l (length l.stem + i)) ≡ true)
+  pub fair_at : is_fair m l ≡ true → FairLoop m l
   unfolding is_fair
   fair_at h k b =
       let x = some_at _ _ (every_at _ _ h k b) in
       (x.0, x.1, ap (in_fair_set m k) (moment_loop l x.0 x.1) ∙ x.2)
 
-  pub fair_of : ((k : ℕ) → k < m.sets → (i : ℕ) × (i < length l.loop) × (in_fair_set m k (moment l (length l.stem + i)) ≡ true)) → is_fair m l ≡ true
+  pub fair_of : FairLoop m l → is_fair m l ≡ true
   unfolding is_fair
   fair_of h = every_of _ _ (λ k b. let x = h k b in some_of _ _ x.0 x.1 (ap (in_fair_set m k) (sym (moment_loop l x.0 x.1)) ∙ x.2))
 
@@ -175,12 +175,12 @@ module _ (m : Machine) (l : Lasso) where
   play_of y = play_parts (lasso_of_lem m l y.some_loop (λ t b. (y.bound t, y.step t))) (fair_of y.fair) (start_of y.start)
 
   -- each set is met in each round
-  pub fair_round : Play m l → (x k : ℕ) → k < m.sets
+  pub fair_round : FairLoop m l → (x k : ℕ) → k < m.sets
       → (i : ℕ) × (i < length l.loop) × (in_fair_set m k (moment l (length l.stem + x * length l.loop + i)) ≡ true)
-  fair_round y x k h =
+  fair_round fair x k h =
       let p = length l.stem in
       let q = length l.loop in
-      let f = y.fair k h in
+      let f = fair k h in
       let e : p + x * q + f.0 ≡ p + f.0 + x * q = omega arith in
       (f.0, f.1, ap (in_fair_set m k) (ap (moment l) e ∙ again_times p q (moment l) (moment_again l) x (p + f.0) (omega arith)) ∙ f.2)
 

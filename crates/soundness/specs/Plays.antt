@@ -23,12 +23,16 @@ unrolled l d n = lasso_of (length l.stem + d) (n * length l.loop) (moment l)
 abbrev pub SamePlay : Lasso → Lasso → Type 0
 SamePlay l k = (t : ℕ) → moment l t ≡ moment k t
 
+-- each set has a state in the loop
+abbrev pub FairLoop : Machine → Lasso → Type 0
+FairLoop m l = (k : ℕ) → k < m.sets → (i : ℕ) × (i < length l.loop) × (in_fair_set m k (moment l (length l.stem + i)) ≡ true)
+
 -- what makes a lasso a fair lasso from a start state, as facts about its endless play
 pub record Play (m : Machine) (l : Lasso) : Type 0 where
   pub some_loop : 0 < length l.loop
   pub bound : (t : ℕ) → moment l t < m.states
   pub step : (t : ℕ) → moves m (moment l t) (moment l (suc t)) ≡ true
-  pub fair : (k : ℕ) → k < m.sets → (i : ℕ) × (i < length l.loop) × (in_fair_set m k (moment l (length l.stem + i)) ≡ true)
+  pub fair : FairLoop m l
   pub start : starts m (moment l 0) ≡ true
 
 -- the player's run along the lasso l, with its stem before the loop start after x rounds and its loop up to the one after z rounds

@@ -117,7 +117,7 @@ module _ (p : Pair) (T : List ℕ) (w : WellPair p) (passing : passes_each p T �
     met_between : (k : ℕ) → k < sets_c p
         → (i : ℕ) × (i < (z - x) * length l.loop) × (in_fair_set p.concrete k (moment l (loop_start p T l x + i)) ≡ true)
     met_between k h =
-        let f = fair_round p.concrete l y x k h in
+        let f = fair_round p.concrete l y.fair x k h in
         let some_round : z - x ≡ suc (z - suc x) = omega arith in
         (f.0, omega (arith, f.1, ap (λ n. n * length l.loop) some_round), f.2)
 
