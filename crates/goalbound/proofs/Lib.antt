@@ -1,0 +1,3 @@
+pub mod StretchLaws
+pub mod FollowingLaws
+pub mod Theorems
