@@ -1,4 +1,4 @@
--- Demands 2 and 3 of the tender, what change requests 4 and 5 add to files, what request 1 says of texts, request 6 of turns, request 7 of empty sets, and request 9 of chains of files, over the very definitions that the contracts of reader, writer, check, solver, solver by turns, Hanoi text and walk cite. Each statement is a type with
+-- Demands 2 and 3 of the tender, what change requests 4 and 5 add to files, what request 1 says of texts, request 6 of turns, request 7 of empty sets, and request 9 of chains of files, over the very definitions that the contracts of reader, writer, check, solver, solver by turns, Hanoi text and walk cite; and request 11 of following a table, over `passes_each` and the definitions of `goalbound`. Each statement is a type with
 -- its hypotheses in it, and Theorems.antt gives a proof of each: what is shown of well-formed machines, of machines whose sets all have a state, or of
 -- a lent table with room only has `well_formed p ≡ true`, `nonempty_sets p ≡ true`, or `table_room ≤ length T`. `read_answer` and `read_table` are what the reader says and leaves in the lent table, `file_of`
 -- is the format's bytes of a show, `write_answer` and `write_buffer` what the writer says and leaves in the lent buffer, `check_verdict` what the check says, `solve_validity` and `solved_table` what the solver says and leaves in the lent table, `restore_answer` and
@@ -21,6 +21,7 @@ use Rattle.codec.specs.Reader.{taken, header_byte, read_answer, read_table}
 use Rattle.codec.specs.Writer.{file_room, write_answer, write_buffer}
 use Rattle.codec.specs.Statements.{AreBytes, WriteRead, ReadWrite, WrittenReads, ReadWrites, FirstBlockTellsSize, TakenFits, TakenHidden, StoredTest, StoredMatched, EntriesUnread, BlocksTold, FirstTold, LowestTold, FirstBlock, DamagedTold, MisplacedTold, JoinedTold, ExchangedTold, OverwrittenTold}
 use Rattle.soundness.specs.Statements.{CheckUnread, PlayerUnread}
+use Rattle.goalbound.specs.Statements.{GoalIsMet, GoalByEntry, EntriesFall, ZeroIsGoal, PartnerIsThere, CanBeFollowed, FairLassoHasStretches, FairLassoMeetsGoal}
 use Rattle.restore.specs.Restoring.{restore_answer, restore_buffer}
 use Rattle.solver.specs.Solver.{solve_validity, solved_table}
 use Rattle.hanoi.specs.Statements.{TextTellsMachine, TextFits, LongestText}
@@ -135,6 +136,11 @@ TurnsAreSolver = (p : Pair) → TurnsFinish p × OnlyFinishedWrites p × Finishe
 -- ---- Document 02, No. 9: what is said of every list of files, that a walk tells chains of at most sixteen, and that an ended walk's answer stays
 abbrev pub ChainsAreMatched : Type 0
 ChainsAreMatched = ChainIsMatched × CarriedIsChain × ChainIsCarried × WalkIsMatched × EndedStays × EndIsTold
+
+-- ---- Document 02, No. 11: how soon a goal is met by moves that follow a table that passes each line, whoever made it; that such moves exist, and that fair
+-- lassos have the stretches
+abbrev pub GoalsAreMet : Type 0
+GoalsAreMet = GoalIsMet × GoalByEntry × EntriesFall × ZeroIsGoal × PartnerIsThere × CanBeFollowed × FairLassoHasStretches × FairLassoMeetsGoal
 
 -- ---- demand 3, second part: "any two well-formed machines, from a file or not", by document 02, No. 7, "machines whose sets all have a state", and any
 -- lent table that has room

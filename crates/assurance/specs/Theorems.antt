@@ -24,6 +24,7 @@ use Rattle.theory.proofs.RankTheorems.{rank_is_goal, rank_is_figure2, rank_is_le
 use Rattle.machine.specs.Lassos.{SameObservations}
 use Rattle.soundness.specs.PlayLaws.{observations_zero}
 use Rattle.soundness.specs.Theorems.{carried_is_sound, check_unread, player_unread}
+use Rattle.goalbound.proofs.Theorems.{goal_is_met, goal_by_entry, entries_fall, zero_is_goal, partner_is_there, can_be_followed, fair_lasso_has_stretches, fair_lasso_meets_goal}
 use Rattle.codec.specs.Format.{file_of}
 use Rattle.codec.specs.Writer.{write_answer, write_buffer}
 use Rattle.codec.specs.WriterLaws.{with_room}
@@ -38,7 +39,7 @@ use Rattle.progress.specs.Theorems.{turns_finish, only_finished_writes, finished
 use Rattle.restore.specs.Restoring.{restored, restore_buffer}
 use Rattle.restore.specs.RestoringLaws.{restore_valid, restore_made, restore_empty}
 use Rattle.chain.specs.Theorems.{chain_is_matched, carried_is_chain, chain_is_carried, walk_is_matched, ended_stays, end_is_told}
-use Rattle.assurance.specs.Statements.{ChainsAreMatched, FilesReadBack, FilesAreWritten, FirstBlockIsEnough, TakenIsNotCut, EntriesAreUnread, FilesAreSound, StoredFilesAreSound, StoredFilesKeepMeaning, BlocksAreTold, BadCopiesAreTold, LostTableIsReplaced, SolverRefusesEmpty, WriterRefusesEmpty, FileSolverRefusesEmpty, TurnsRefuseEmpty, EmptySetsAreRefused, EmptySetMeans, TurnsAreSolver, TextsOfMachines}
+use Rattle.assurance.specs.Statements.{ChainsAreMatched, GoalsAreMet, FilesReadBack, FilesAreWritten, FirstBlockIsEnough, TakenIsNotCut, EntriesAreUnread, FilesAreSound, StoredFilesAreSound, StoredFilesKeepMeaning, BlocksAreTold, BadCopiesAreTold, LostTableIsReplaced, SolverRefusesEmpty, WriterRefusesEmpty, FileSolverRefusesEmpty, TurnsRefuseEmpty, EmptySetsAreRefused, EmptySetMeans, TurnsAreSolver, TextsOfMachines}
 use Rattle.assurance.specs.Statements.{SolverTakesMachines, SolvedPasses, SolvedCovers, SolvedIsCarried, SolvedIsFigure2, SolvedGoals, SolvedRanks, SolvedRest}
 use Rattle.machine.specs.declared.Verdict.TheVariants.{Carried}
 
@@ -144,6 +145,10 @@ turns_are_solver p =
 -- ---- chains of files
 pub chains_are_matched : ChainsAreMatched
 chains_are_matched = (chain_is_matched, carried_is_chain, chain_is_carried, walk_is_matched, ended_stays, end_is_told)
+
+-- ---- how soon a goal is met
+pub goals_are_met : GoalsAreMet
+goals_are_met = (goal_is_met, goal_by_entry, entries_fall, zero_is_goal, partner_is_there, can_be_followed, fair_lasso_has_stretches, fair_lasso_meets_goal)
 
 pub empty_set_means : EmptySetMeans
 empty_set_means = (empty_set_is_unfair, nonempty_has_state)
