@@ -27,13 +27,8 @@ use Rattle.soundness.specs.AnswerLaws.{Covered, Answer, section_stays, step_sect
 use Rattle.theory.specs.FamilyLaws.{goals_of}
 use Rattle.theory.specs.RankLaws.{rank_covered, table_rank}
 use Rattle.theory.specs.CoverLaws.{table_covers}
-use Rattle.goalbound.proofs.StretchLaws.{stretch_at, cut_last}
+use Rattle.goalbound.proofs.StretchLaws.{stretch_at, cut_last, lower_by}
 use Rattle.goalbound.specs.Following.{state_at, IsMoves, is_stretch, IsCut, LeastPartner, NoneBefore, Follows, IsGoal, MeetsGoal}
-
--- what falls over each of n stretches falls by at least n
-lower_by : (e cut : ℕ → ℕ) → cut 0 ≡ 0 → (n : ℕ) → ((i : ℕ) → i < n → e (cut (suc i)) < e (cut i)) → e (cut n) + n ≤ e 0
-lower_by e cut z zero h = rw z (omega arith)
-lower_by e cut z (suc n) h = omega (arith, h n (omega arith), lower_by e cut z n (λ i l. h i (omega arith)))
 
 -- ---- a passing table
 module _ (p : Pair) (T : List ℕ) (w : WellPair p) (passing : passes_each p T ≡ true) (j : ℕ) (hj : j < sets_a p) where

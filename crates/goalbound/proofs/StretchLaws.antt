@@ -1,4 +1,5 @@
--- Stretches: what one is, as a sentence; that each has a move; and those of a fair lasso, whose rounds of the loop meet each set.
+-- Stretches: what one is, as a sentence; that each has a move; what falls over each of them; and those of a fair lasso, whose rounds of the loop meet each
+-- set.
 use Rattle.std.specs.Prelude.{true, List, ◌≡◌, refl, ℕ, zero, suc, ◌+◌, ◌-◌, ◌*◌, ◌≤◌, ◌<◌, length}
 use Rattle.std.proofs.Common.{mul-le-mul_right, arith}
 use Rattle.mask.specs.BoundedLaws.{every_at, every_of, some_at, some_of}
@@ -34,6 +35,11 @@ module _ (m : Machine) (states : List ℕ) where
 
     pub cut_last : (i : ℕ) → i ≤ n → cut i ≤ cut n
     cut_last i l = chain (λ x y. cut x ≤ cut y) (λ x. omega arith) (λ x y z p q. omega arith) n (λ i l. omega (arith, cut_up i l)) i n l (omega arith)
+
+-- what falls over each of n stretches falls by at least n
+pub lower_by : (e cut : ℕ → ℕ) → cut 0 ≡ 0 → (n : ℕ) → ((i : ℕ) → i < n → e (cut (suc i)) < e (cut i)) → e (cut n) + n ≤ e 0
+lower_by e cut z zero h = rw z (omega arith)
+lower_by e cut z (suc n) h = omega (arith, h n (omega arith), lower_by e cut z n (λ i l. h i (omega arith)))
 
 -- ---- along a lasso: stretch 1 is the stem with one round of the loop, and each further one a round
 module _ (l : Lasso) where

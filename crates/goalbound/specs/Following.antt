@@ -62,7 +62,7 @@ module _ (p : Pair) (T : List ℕ) (j : ℕ) where
     -- of document 01's game: "a pair with a in score set j that steps into Z of the next section"
     pub goal : mem p (goals p (family p) j) c a ≡ true
 
-  -- "a goal of that section has been met" by moment last: at a moment before which no pair had entry 0
+  -- "a goal of that section has been met" by moment last: at a moment of the list, before which no pair had entry 0
   pub record MeetsGoal (rig score : List ℕ) (last : ℕ) : Type 0 where
     pub when : ℕ
     pub listed : when < length rig
