@@ -1,4 +1,6 @@
 -- definitions
 pub mod Text
+pub mod Answers
 -- laws
 pub mod TextLaws
+pub mod LineLaws

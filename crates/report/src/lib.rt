@@ -1,20 +1,39 @@
 // The lines that the programs write: document 01, "Console and program".
 #![tactic(auto)]
 
-ghost use Rattle.std.specs.Prelude.{◌≡◌, [], ◌∷◌, ◌++◌, take};
+ghost use Rattle.std.specs.Prelude.{◌≡◌, ◌≤◌, [], ◌∷◌, ◌++◌, take};
 ghost use Rattle.text.specs.Decimal.{decimal};
 ghost use Rattle.report.specs.Text.{no_table_text, refusal_line, verdict_line, outcome_line, shelf_line};
+ghost use Rattle.report.specs.Answers.{line_of};
 
 use arrayvec::ArrayVec;
 use machine::{Refusal, Verdict};
 use text::{append, append_byte, append_number};
 
-// A line of text with its line feed. Words are put one behind the other: `write!` promises what it writes only where it gives Ok, and never that it
-// does, so that the proof of its `unwrap` does not close (tried on digits).
-pub type Line = ArrayVec<u8, 128>;
+// A line of text with its line feed: the first `length` bytes of `text`, and zeros after them.
+#[derive(Clone, Copy)]
+pub struct Line {
+    pub text: [u8; 128],
+    pub length: usize,
+}
+
+// A line that is being put together, word behind word: `write!` promises what it writes only where it gives Ok, and never that it does, so that the
+// proof of its `unwrap` does not close (tried on digits).
+type Growing = ArrayVec<u8, 128>;
+
+// The line whose text was put together.
+pub fn line_of(grown: &ArrayVec<u8, 128>) -> Line
+    ensures value { result ≡ line_of grown.now.items }
+    ensures room { result.length ≤ 128 }
+{
+    let mut text = [0u8; 128];
+    let length = grown.len();
+    text[..length].copy_from_slice(grown);
+    Line { text, length }
+}
 
 // Puts a number and one byte more behind the line so far, as much of them as there is room for.
-fn append_field(line: &mut Line, n: usize, after: u8)
+fn append_field(line: &mut Growing, n: usize, after: u8)
     ensures { line.new.items ≡ take 128 (line.old.items ++ (decimal n ++ (after ∷ []))) }
 {
     append_number(line, n);
@@ -23,23 +42,25 @@ fn append_field(line: &mut Line, n: usize, after: u8)
 
 // The line of a refusal.
 pub fn refusal_line(r: Refusal) -> Line
-    ensures { result.items ≡ refusal_line r }
+    ensures value { result ≡ line_of (refusal_line r) }
+    ensures text { take result.length result.text ≡ refusal_line r }
+    ensures room { result.length ≤ 128 }
 {
     let spot = r.spot();
-    let mut line = Line::new();
+    let mut line = Growing::new();
     append(&mut line, b"refused ");
     append_field(&mut line, r.number() as usize, b' ');
     append_field(&mut line, spot[0], b' ');
     append_field(&mut line, spot[1], b' ');
     append_field(&mut line, spot[2], b'\n');
-    line
+    line_of(&line)
 }
 
 // The line of what the check says.
-fn checked_line(verdict: Verdict) -> Line
+fn checked_line(verdict: Verdict) -> Growing
     ensures { result.items ≡ verdict_line verdict }
 {
-    let mut line = Line::new();
+    let mut line = Growing::new();
     match verdict {
         Verdict::Carried { covered } => {
             append(&mut line, b"carried ");
@@ -55,22 +76,24 @@ fn checked_line(verdict: Verdict) -> Line
 }
 
 // The line of a file without a table.
-fn bare_line() -> Line
+fn bare_line() -> Growing
     ensures { result.items ≡ no_table_text }
 {
-    let mut line = Line::new();
+    let mut line = Growing::new();
     append(&mut line, b"no table\n");
     line
 }
 
 // The line of what is said of a file.
 pub fn verdict_line(said: Result<Option<Verdict>, Refusal>) -> Line
-    ensures { result.items ≡ outcome_line said }
+    ensures value { result ≡ line_of (outcome_line said) }
+    ensures text { take result.length result.text ≡ outcome_line said }
+    ensures room { result.length ≤ 128 }
 {
     match said {
         Ok(given) => match given {
-            Some(verdict) => checked_line(verdict),
-            None => bare_line(),
+            Some(verdict) => line_of(&checked_line(verdict)),
+            None => line_of(&bare_line()),
         },
         Err(refusal) => refusal_line(refusal),
     }
@@ -78,7 +101,9 @@ pub fn verdict_line(said: Result<Option<Verdict>, Refusal>) -> Line
 
 // The line of the file whose bytes are the input, or the first 59,904 bytes of longer input.
 pub fn shelf_line(bytes: &[u8]) -> Line
-    ensures { result.items ≡ shelf_line bytes.now }
+    ensures value { result ≡ line_of (shelf_line bytes.now) }
+    ensures text { take result.length result.text ≡ shelf_line bytes.now }
+    ensures room { result.length ≤ 128 }
 {
     let end = bytes.len().min(codec::INPUT_ROOM);
     verdict_line(verdict::file_verdict(&bytes[..end]))
