@@ -48,5 +48,7 @@ fn main(rt: HostRuntime) -> io::Result<()> {
     let wanted = playline::is_lasso(&text[..length]);
     let mut buffer = [0u8; codec::INPUT_ROOM];
     let count = shown(wanted, &mut rt.stdin(), &mut buffer);
-    rt.write_all(&playline::play_line(&buffer[..count], &text[..length]))
+    let mut line = playline::Line::new();
+    playline::append_play_line(&mut line, &buffer[..count], &text[..length]);
+    rt.write_all(&line)
 }

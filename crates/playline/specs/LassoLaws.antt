@@ -120,7 +120,7 @@ module _ {text list : List ℕ} {begun : Option ℕ} {i : ℕ} (r : Read text li
 
 -- ---- the stroke
 module _ (t : List ℕ) where
-  stroke_is : (i : ℕ) → i < length t → get_or t i 0 ≡ 47 → ((k : ℕ) → k < i → get_or t k 0 ≡ 47 → ⊥) → i ≡ stroke_at t
+  pub stroke_is : (i : ℕ) → i < length t → get_or t i 0 ≡ 47 → ((k : ℕ) → k < i → get_or t k 0 ≡ 47 → ⊥) → i ≡ stroke_at t
   unfolding stroke_at
   stroke_is i h e b = sym (first_is (length t) _ i h (eq-eqb _ _ e) (λ k l. ne_eqb _ _ (b k l)))
 

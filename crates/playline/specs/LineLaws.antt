@@ -118,6 +118,10 @@ outcome_most (Ok (Some r)) run s h k =
 outcome_most (Ok None) run s h k = omega arith
 outcome_most (Err r) run s h k = omega (arith, refusal_most r)
 
+-- what is put, by its text
+pub put_as : (x : List ℕ) {w line y : List ℕ} → w ≡ line → y ≡ take line_room (x ++ w) → y ≡ take line_room (x ++ line)
+put_as x e f = f ∙ ap (λ (v : List ℕ). take line_room (x ++ v)) e
+
 -- a line that is put behind nothing
 pub alone : (line : List ℕ) {x y : List ℕ} → x ≡ [] → y ≡ take line_room (x ++ line) → length line ≤ line_room → y ≡ line
 alone line e f h = f ∙ ap (λ (v : List ℕ). take line_room (v ++ line)) e ∙ take_all line_room line h

@@ -1,13 +1,13 @@
 // A lasso read from text, and the line that `play` writes.
 #![tactic(auto)]
 
-ghost use Rattle.std.specs.Prelude.{true, false, ◌++◌, ◌≡◌, suc, ◌+◌, ◌≤◌, length, get_or, take, drop, MatchOption};
+ghost use Rattle.std.specs.Prelude.{true, false, [], ◌++◌, ◌≡◌, suc, ◌+◌, ◌≤◌, length, get_or, take, drop, MatchOption};
 ghost use Rattle.mask.specs.Bounded.{every};
 ghost use Rattle.text.specs.Decimal.{is_digit};
 ghost use Rattle.machine.specs.Player.{run_room};
 ghost use Rattle.machine.specs.declared.Run.{Run};
 ghost use Rattle.playline.specs.Lasso.{grown, is_plain, numbers_in, stroke_at, readable, states_text};
-ghost use Rattle.playline.specs.Line.{line_room, run_line, run_outcome_line, usage_line, play_line};
+ghost use Rattle.playline.specs.Line.{line_room, run_line, run_outcome_line, play_line};
 
 use arrayvec::ArrayVec;
 use machine::{Refusal, Run};
@@ -90,7 +90,8 @@ pub fn is_lasso(text: &[u8]) -> bool
     parts(text).is_some()
 }
 
-// ---- Writing the line. Words are put one behind the other, for the reason that `report::Line` gives.
+// ---- Writing the line. Words are put one behind the other, for the reason that `report` gives, all in the one line that is lent: a line that is
+// handed out takes a place of its own, of its whole room, in each call that it passes.
 
 // Puts the states, a blank before each.
 fn append_states(line: &mut Line, states: &[u8])
@@ -115,44 +116,49 @@ fn append_run(line: &mut Line, stem: &[u8], cycle: &[u8])
     append_byte(line, b'\n');
 }
 
-// The line of what is said, where the run stands in the buffer that the player was lent; the player tells its lengths.
-fn outcome_line(said: Result<Option<Run>, Refusal>, run: &[u8]) -> Line
+// Puts the line of what is said, where the run stands in the buffer that the player was lent; the player tells its lengths.
+fn append_outcome(line: &mut Line, said: Result<Option<Run>, Refusal>, run: &[u8])
     requires { (length run.now ≤ run_room) × ((r : Run) → said ≡ Ok (Some r) → r.stem + r.cycle ≤ length run.now) }
-    ensures { result.items ≡ run_outcome_line said run.now }
+    ensures behind { line.new.items ≡ take line_room (line.old.items ++ run_outcome_line said run.now) }
+    ensures alone { line.old.items ≡ [] → line.new.items ≡ run_outcome_line said run.now }
 {
-    let mut line = Line::new();
     match said {
         Ok(given) => match given {
             Some(lengths) => {
                 let end = lengths.stem + lengths.cycle;
-                append_run(&mut line, &run[..lengths.stem], &run[lengths.stem..end]);
+                append_run(line, &run[..lengths.stem], &run[lengths.stem..end]);
             }
-            None => append(&mut line, b"no table\n"),
+            None => append(line, b"no table\n"),
         },
-        Err(refusal) => append(&mut line, &report::refusal_line(refusal)),
+        Err(refusal) => {
+            let told = report::refusal_line(refusal);
+            let words = told.text;
+            append(line, &words[..told.length]);
+        }
     }
-    line
 }
 
-// How to call the program.
-fn usage_line() -> Line
-    ensures { result.items ≡ usage_line }
+// Puts the line of a file and of the lasso that the arguments' text writes behind a line; behind an empty one there is room for all of it.
+pub fn append_play_line(line: &mut Line, bytes: &[u8], text: &[u8])
+    ensures behind { line.new.items ≡ take line_room (line.old.items ++ play_line bytes.now text.now) }
+    ensures alone { line.old.items ≡ [] → line.new.items ≡ play_line bytes.now text.now }
 {
-    let mut line = Line::new();
-    append(&mut line, b"usage: play 0 1 / 2 3 < show.dom\n");
-    line
+    match parts(text) {
+        Some((stem, cycle)) => {
+            let mut run = [0u8; player::RUN_ROOM];
+            let said = playback::play_bytes(bytes, &numbers_in(stem), &numbers_in(cycle), &mut run);
+            append_outcome(line, said, &run);
+        }
+        // how to call the program
+        None => append(line, b"usage: play 0 1 / 2 3 < show.dom\n"),
+    }
 }
 
 // The line of a file and of the lasso that the arguments' text writes.
 pub fn play_line(bytes: &[u8], text: &[u8]) -> Line
     ensures { result.items ≡ play_line bytes.now text.now }
 {
-    match parts(text) {
-        Some((stem, cycle)) => {
-            let mut run = [0u8; player::RUN_ROOM];
-            let said = playback::play_bytes(bytes, &numbers_in(stem), &numbers_in(cycle), &mut run);
-            outcome_line(said, &run)
-        }
-        None => usage_line(),
-    }
+    let mut line = Line::new();
+    append_play_line(&mut line, bytes, text);
+    line
 }
