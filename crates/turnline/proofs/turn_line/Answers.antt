@@ -6,7 +6,9 @@ use mir.Syntax.{w64}
 use Rattle.std.proofs.Common.{[], ◌∷◌, take, ap, arith, rules, ◌∙◌}
 use Rattle.text.specs.Decimal.{decimal}
 use Rattle.text.specs.AppendLaws.{behind, appended_new, last, next}
-use Rattle.turnline.specs.Lines.{turn_text}
+use Rattle.report.specs.Answers.{line_of}
+use Rattle.report.specs.LineLaws.{text_of}
+use Rattle.turnline.specs.Lines.{turn_text, turn_line}
 use Rattle.turnline.specs.LinesLaws.{told, told_none, told_more, turn_line_lem}
 use Rattle.turnline.proofs.turn_line.Goals as goal
 use Rattle.turnline.proofs.turn_line.Goals.{Start}
@@ -42,5 +44,8 @@ returns c =
     let x = c.args in
     let l = c.loop-j in
     let M = c.matched_masks-matched.result in
+    let text =
     behind 128 (told M x.family x.t l.j) (10 ∷ []) l.invariant.1.1 c.append_byte.ensures
-    ∙ turn_line_lem x.p x.family x.t c.matched_masks-matched.ensures (omega (arith, c.min-n.ensures)) (small (goal.at.returns c).Start)
+    ∙ turn_line_lem x.p x.family x.t c.matched_masks-matched.ensures (omega (arith, c.min-n.ensures)) (small (goal.at.returns c).Start) in
+    let value = c.line_of.ensures.value ∙ ap line_of text in
+    record { value = value; text = text_of (turn_line x.p x.t x.family) value; room = c.line_of.ensures.room }
