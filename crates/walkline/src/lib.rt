@@ -1,13 +1,16 @@
-// The lines of a walk: document 02, No. 9. Their words are put one behind the other, for the reason that `report::Line` gives.
+// The lines of a walk: document 02, No. 9. Their words are put one behind the other, for the reason that `report` gives.
 #![tactic(auto)]
 
 ghost use Rattle.std.specs.Prelude.{◌≡◌};
 ghost use Rattle.walkline.specs.Lines.{reason_outcome, numbered_line, walk_line, usage_text};
 
+use arrayvec::ArrayVec;
 use chain::{Reason, Said};
 use machine::{Refusal, Verdict};
-use report::Line;
 use text::{append, append_byte, append_number};
+
+// A line of text with its line feed.
+pub type Line = ArrayVec<u8, 128>;
 
 // The reason of an end, as what is said of one file.
 #[tactic(auto, unfolding(crate::specs::Lines::reason_outcome))]
@@ -27,10 +30,12 @@ fn reason_outcome(reason: Reason) -> Result<Option<Verdict>, Refusal>
 fn numbered_line(file: usize, said: Result<Option<Verdict>, Refusal>) -> Line
     ensures { result.items ≡ numbered_line file said }
 {
+    let told = report::verdict_line(said);
+    let words = told.text;
     let mut line = Line::new();
     append_number(&mut line, file);
     append_byte(&mut line, b' ');
-    append(&mut line, &report::verdict_line(said));
+    append(&mut line, &words[..told.length]);
     line
 }
 

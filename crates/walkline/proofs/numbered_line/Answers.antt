@@ -8,7 +8,7 @@ use Rattle.walkline.proofs.numbered_line.Goals as goal
 
 pub returns : goal.returns
 returns c =
-    let said = c.deref.ensures.0 ∙ c.verdict_line.ensures in
+    let said = c.verdict_line-told.ensures.text in
     appended_new 128 (decimal c.args.file ∷ blank_space ∷ outcome_line c.args.said ∷ []) c.new-line.ensures
     (next c.append_number.ensures (next c.append_byte.ensures
     (last (c.append.ensures ∙ ap (λ (w : List ℕ). take 128 (c.append_byte.new.text.items ++ w)) said))))
