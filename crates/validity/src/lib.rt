@@ -3,10 +3,9 @@
 #![tactic(auto)]
 
 ghost use Rattle.std.specs.Prelude.{◌≡◌, cond, ltb, eqb, length};
-ghost use Rattle.mask.specs.Logic.{not};
+ghost use Rattle.mask.specs.Logic.{not, or};
 ghost use Rattle.mask.specs.Bounded.{some, below};
 ghost use Rattle.validity.specs.Asked.{asks_states};
-ghost use Rattle.validity.specs.Beyond.{observed_beyond};
 ghost use Rattle.machine.specs.WellFormed.{counts_ok, beyond, state_beyond, set_beyond, is_beyond_counts, first_empty, lowest_empty_set, has_empty_set, content_validity, sets_validity, content_tests, machine_validity, pair_tests};
 
 use machine::{Machine, Pair, Refusal};
@@ -60,18 +59,24 @@ fn masks_beyond(states: usize, count: usize, masks: &[u64]) -> bool
     (0..masks.len()).any(|i| mask_beyond(states, count, masks[i], i))
 }
 
-// Whether a state past the count has an observation.
-fn observed_beyond(states: usize, observations: &[u8; 64]) -> bool
-    ensures { result ≡ observed_beyond states observations.now }
+// Whether the entries of state s, or its successors, lie beyond the count of states.
+fn state_beyond(states: usize, observation: u8, successors: u64, s: usize) -> bool
+    ensures { result ≡ cond (ltb s states) (beyond states successors) (or (not (eqb observation 0)) (not (eqb successors 0))) }
 {
-    (0..64).any(|s| states <= s && observations[s] != 0)
+    if s < states {
+        return has_beyond(states, successors);
+    }
+    if observation != 0 {
+        return true;
+    }
+    successors != 0
 }
 
-// Whether some state's entries lie beyond the count of states.
+// Whether some state's entries lie beyond the count of states, in one walk over the states.
 fn states_beyond(m: &Machine) -> bool
     ensures { result ≡ some 64 (state_beyond m.now.states m.now.observations m.now.successors) }
 {
-    masks_beyond(m.states, m.states, &m.successors) || observed_beyond(m.states, &m.observations)
+    (0..64).any(|s| state_beyond(m.states, m.observations[s], m.successors[s], s))
 }
 
 // The lowest of the first `count` masks that has no state.
