@@ -1,6 +1,7 @@
 -- definitions, in document 01's order
 pub mod Machines
 pub mod Refusals
+pub mod Numbers
 pub mod WellFormed
 pub mod Lassos
 pub mod EmptySets

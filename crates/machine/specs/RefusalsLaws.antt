@@ -175,6 +175,15 @@ module _ {A S : Type 0} where
   state_kept v made given e = rw e
 
 -- ---- C's list of four
+-- a list of four is its four numbers
+pub four_is : (l : List ℕ) → length l ≡ 4 → l ≡ get_or l 0 0 ∷ get_or l 1 0 ∷ get_or l 2 0 ∷ get_or l 3 0 ∷ []
+four_is [] h = absurd (omega (arith, h))
+four_is (a ∷ []) h = absurd (omega (arith, h))
+four_is (a ∷ b ∷ []) h = absurd (omega (arith, h))
+four_is (a ∷ b ∷ c ∷ []) h = absurd (omega (arith, h))
+four_is (a ∷ b ∷ c ∷ d ∷ []) h = refl
+four_is (a ∷ b ∷ c ∷ d ∷ e ∷ l) h = absurd (omega (arith, h))
+
 -- a spot is three numbers
 pub spot_three : (r : Refusal) → spot_of r ≡ get_or (spot_of r) 0 0 ∷ get_or (spot_of r) 1 0 ∷ get_or (spot_of r) 2 0 ∷ []
 spot_three ShortBuffer = refl

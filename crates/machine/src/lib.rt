@@ -2,12 +2,13 @@
 // here too; crate `validity` tests it.
 #![tactic(auto)]
 
-ghost use Rattle.std.specs.Prelude.{true, ◌≡◌, ◌<◌, ℕ, get_or};
+ghost use Rattle.std.specs.Prelude.{true, ◌≡◌, ◌<◌, ℕ, List, get_or};
 ghost use Rattle.std.proofs.lemmas.List.Edits.{sets};
 ghost use Rattle.mask.specs.Bits.{has_bit};
 ghost use Rattle.machine.specs.Machines.{same_observation, next};
 ghost use Rattle.machine.specs.WellFormed.{well_formed};
 ghost use Rattle.machine.specs.Refusals.{number_of, spot_of, four_numbers, answer_in, spot_after};
+ghost use Rattle.machine.specs.Numbers.{numbers, four_of};
 ghost use Rattle.machine.specs.Step.{partner, present_of, single_step, found, alike, in_row};
 ghost use Rattle.machine.specs.Observed.{matched_row, matched_masks};
 ghost use Rattle.machine.specs.Table.{place_of};
@@ -164,15 +165,72 @@ impl Refusal {
     }
 }
 
-// Writes the four numbers of a refusal, as C gets them.
-pub fn put_refusal(spot: &mut [u64; 4], r: Refusal)
-    ensures { spot.new ≡ sets spot.old 0 (four_numbers r) }
+// A number and the three numbers of a spot, 0 where unused: any four, as C gets what stopped a call and what is no refusal, such as `NO_TABLE`.
+#[derive(Clone, Copy)]
+pub struct Numbers {
+    pub number: u32,
+    pub first: usize,
+    pub second: usize,
+    pub third: usize,
+}
+
+// The four with this number and spot.
+pub fn refuse(number: u32, first: usize, second: usize, third: usize) -> Numbers
+    ensures { result ≡ numbers number first second third }
 {
-    let place = r.spot();
-    spot[0] = r.number() as u64;
-    spot[1] = place[0] as u64;
-    spot[2] = place[1] as u64;
-    spot[3] = place[2] as u64;
+    Numbers {
+        number: number,
+        first: first,
+        second: second,
+        third: third,
+    }
+}
+
+// What C is told by four numbers.
+pub trait Numbered: Copy {
+    ghost four: { Self → List ℕ };
+
+    // The number and the spot's three.
+    fn four(self) -> [u64; 4]
+        ensures { result ≡ four self };
+}
+
+impl Numbered for Refusal {
+    ghost four = { four_numbers };
+
+    fn four(self) -> [u64; 4] {
+        let place = self.spot();
+        [
+            self.number() as u64,
+            place[0] as u64,
+            place[1] as u64,
+            place[2] as u64,
+        ]
+    }
+}
+
+impl Numbered for Numbers {
+    ghost four = { four_of };
+
+    fn four(self) -> [u64; 4] {
+        [
+            self.number as u64,
+            self.first as u64,
+            self.second as u64,
+            self.third as u64,
+        ]
+    }
+}
+
+// Writes the four numbers of a refusal, or any four, as C gets them.
+pub fn put_refusal<R: Numbered>(spot: &mut [u64; 4], r: R)
+    ensures { spot.new ≡ sets spot.old 0 (R.four r) }
+{
+    let four = r.four();
+    spot[0] = four[0];
+    spot[1] = four[1];
+    spot[2] = four[2];
+    spot[3] = four[3];
 }
 
 // The answer, for a call from C, if there is one: the four numbers of a refusal go to `spot`, which is unchanged beside an answer.
