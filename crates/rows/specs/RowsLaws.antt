@@ -77,29 +77,36 @@ pub record Joining (rows : List ℕ) (row m left : ℕ) : Type 0 where
   pub low : m < 2 ^ 64
   pub joined : (a : ℕ) → or (has_bit m a) (in_some rows left a) ≡ in_some rows row a
 
-module _ (rows : List ℕ) (row : ℕ) where
-  joining_start : row < 2 ^ 64 → Joining rows row 0 row
+module _ {rows : List ℕ} {row : ℕ} where
+  pub joining_start : row < 2 ^ 64 → Joining rows row 0 row
   joining_start h = record { small = h; low = omega arith; joined = λ a. or_false_l _ (has_none a) }
 
-  module _ (rows_low : (d : ℕ) → get_or rows d 0 < 2 ^ 64) where
-    joining_turn : {m left : ℕ} → (left ≡ 0 → ⊥) → Joining rows row m left → Joining rows row (bit_or m (get_or rows (lowest_of 64 left) 0)) (rest_of left)
-    unfolding in_some
-    joining_turn {m} {left} z q =
-        let p : 0 < left = omega arith in
-        record {
-          small = rest_small 64 left p q.small;
-          low = or_lt 64 m _ q.low (rows_low (lowest_of 64 left));
-          joined = λ a.
-              ap (λ (b : Bool). or b (in_some rows (rest_of left) a)) (has_or a m (get_or rows (lowest_of 64 left) 0))
-              ∙ or_assoc _ _ _ ∙ ap (or (has_bit m a)) (sym (some_in_step 64 left _ p q.small)) ∙ q.joined a;
-        }
+  pub joining_turn : {m left : ℕ} (d : ℕ) → d ≡ lowest_of 64 left → (left ≡ 0 → ⊥) → bit_or m (get_or rows d 0) < 2 ^ 64 → Joining rows row m left
+      → Joining rows row (bit_or m (get_or rows d 0)) (rest_of left)
+  unfolding in_some
+  joining_turn {m} {left} d e z low q =
+      let p : 0 < left = omega arith in
+      record {
+        small = rest_small 64 left p q.small;
+        low = low;
+        joined = λ a.
+            ap (λ (b : Bool). or b (in_some rows (rest_of left) a)) (has_or a m (get_or rows d 0))
+            ∙ or_assoc _ _ _
+            ∙ ap (or (has_bit m a)) (ap (λ (n : ℕ). or (has_bit (get_or rows n 0) a) (in_some rows (rest_of left) a)) e ∙ sym (some_in_step 64 left _ p q.small))
+            ∙ q.joined a;
+      }
 
-    joining_done : {m : ℕ} → Joining rows row m 0 → m ≡ partners_of rows row
-    unfolding partners_of in_some
-    joining_done {m} q = mask_of_is 64 m _ q.low (λ a l. sym (or_false_r (has_bit m a) (some_in_zero 64 _)) ∙ q.joined a)
+  pub joining_done : {m left : ℕ} → left ≡ 0 → Joining rows row m left → m ≡ partners_of rows row
+  unfolding partners_of in_some
+  joining_done {m} {left} z q =
+      mask_of_is 64 m _ q.low
+      (λ a l. sym (or_false_r (has_bit m a) (ap (λ (n : ℕ). in_some rows n a) z ∙ some_in_zero 64 _)) ∙ q.joined a)
 
-    pub joined_is : row < 2 ^ 64 → fold_rows bit_or rows row 0 ≡ partners_of rows row
-    joined_is h = joining_done (fold_keeps bit_or rows (Joining rows row) (λ v m q. q.small) (λ v m. joining_turn) (joining_start h))
+-- rows below 2^64 are joined to the union
+module _ (rows : List ℕ) (row : ℕ) (rows_low : (d : ℕ) → get_or rows d 0 < 2 ^ 64) where
+  pub joined_is : row < 2 ^ 64 → fold_rows bit_or rows row 0 ≡ partners_of rows row
+  joined_is h = joining_done refl
+      (fold_keeps bit_or rows (Joining rows row) (λ v m q. q.small) (λ v m z q. joining_turn (lowest_of 64 m) refl z (or_lt 64 v _ q.low (rows_low (lowest_of 64 m))) q) (joining_start h))
 
 -- ---- a meet
 and_assoc : (a b c : Bool) → and (and a b) c ≡ and a (and b c)
@@ -117,28 +124,40 @@ pub record Meeting (moves : ℕ) (rows : List ℕ) (m left : ℕ) : Type 0 where
   pub low : m < 2 ^ 64
   pub met : (a : ℕ) → a < 64 → and (has_bit m a) (in_all rows left a) ≡ in_all rows moves a
 
-module _ (rows : List ℕ) (moves : ℕ) where
-  meeting_start : moves < 2 ^ 64 → Meeting moves rows (full_mask 64) moves
-  meeting_start k = record { small = k; low = full_lt 64; met = λ a l. and_true_l _ (has_full 64 a ∙ lt-ltb a 64 l) }
+module _ {moves : ℕ} {rows : List ℕ} where
+  pub meeting_start : moves < 2 ^ 64 → Meeting moves rows (full_mask (min 64 64)) moves
+  meeting_start k =
+      let e : min 64 64 ≡ 64 = omega arith in
+      rw e (record { small = k; low = full_lt 64; met = λ a l. and_true_l _ (has_full 64 a ∙ lt-ltb a 64 l) })
 
-  meeting_turn : {m left : ℕ} → (left ≡ 0 → ⊥) → Meeting moves rows m left → Meeting moves rows (bit_and m (get_or rows (lowest_of 64 left) 0)) (rest_of left)
+  pub meeting_turn : {m left : ℕ} (d : ℕ) → d ≡ lowest_of 64 left → (left ≡ 0 → ⊥) → Meeting moves rows m left
+      → Meeting moves rows (bit_and m (get_or rows d 0)) (rest_of left)
   unfolding in_all
-  meeting_turn {m} {left} z q =
+  meeting_turn {m} {left} d e z q =
       let p : 0 < left = omega arith in
       record {
         small = rest_small 64 left p q.small;
-        low = omega (arith, and_le_l m (get_or rows (lowest_of 64 left) 0), q.low);
+        low = omega (arith, and_le_l m (get_or rows d 0), q.low);
         met = λ a l.
-            ap (λ (b : Bool). and b (in_all rows (rest_of left) a)) (has_and a m (get_or rows (lowest_of 64 left) 0))
-            ∙ and_assoc _ _ _ ∙ ap (and (has_bit m a)) (sym (every_in_step 64 left _ p q.small)) ∙ q.met a l;
+            ap (λ (b : Bool). and b (in_all rows (rest_of left) a)) (has_and a m (get_or rows d 0))
+            ∙ and_assoc _ _ _
+            ∙ ap (and (has_bit m a)) (ap (λ (n : ℕ). and (has_bit (get_or rows n 0) a) (in_all rows (rest_of left) a)) e ∙ sym (every_in_step 64 left _ p q.small))
+            ∙ q.met a l;
       }
 
-  meeting_done : {m : ℕ} → Meeting moves rows m 0 → m ≡ meet_of moves rows
+  pub meeting_done : {m left : ℕ} → left ≡ 0 → Meeting moves rows m left → m ≡ meet_of moves rows
   unfolding meet_of in_all
-  meeting_done {m} q = mask_of_is 64 m _ q.low (λ a l. sym (and_true_r (has_bit m a) (every_in_zero 64 _)) ∙ q.met a l)
+  meeting_done {m} {left} z q =
+      mask_of_is 64 m _ q.low
+      (λ a l. sym (and_true_r (has_bit m a) (ap (λ (n : ℕ). in_all rows n a) z ∙ every_in_zero 64 _)) ∙ q.met a l)
 
+-- the moves' rows are met
+module _ (rows : List ℕ) (moves : ℕ) where
   pub met_is : moves < 2 ^ 64 → fold_rows bit_and rows moves (full_mask 64) ≡ meet_of moves rows
-  met_is h = meeting_done (fold_keeps bit_and rows (Meeting moves rows) (λ v m q. q.small) (λ v m. meeting_turn) (meeting_start h))
+  met_is h =
+      let e : min 64 64 ≡ 64 = omega arith in
+      let start : Meeting moves rows (full_mask (min 64 64)) moves = meeting_start h in
+      meeting_done refl (fold_keeps bit_and rows (Meeting moves rows) (λ v m q. q.small) (λ v m z q. meeting_turn (lowest_of 64 m) refl z q) (rw e at start))
 
 -- ---- the same rows
 pub same_yes : (n : ℕ) (x y : List ℕ) → ((c : ℕ) → c < min n 64 → get_or x c 0 ≡ get_or y c 0) → same_rows n x y ≡ true
