@@ -32,7 +32,7 @@ pub numbers_none : (n : ℕ) (l : List ℕ) (f : ℕ → ℕ) → l ≡ numbers 
 unfolding numbers table
 numbers_none n l f = let e : n * 0 ≡ 0 = omega arith in rw e
 
-numbers_more : (n count : ℕ) (f : ℕ → ℕ) → 0 < n → numbers n (count + 1) f ≡ numbers n count f ++ bytes_of n (f count)
+pub numbers_more : (n count : ℕ) (f : ℕ → ℕ) → 0 < n → numbers n (count + 1) f ≡ numbers n count f ++ bytes_of n (f count)
 unfolding numbers bytes_of
 numbers_more n count f h = rows_more n count (λ k. byte_of (f k)) h
 
