@@ -27,7 +27,7 @@ use validity::Sets;
 
 // What is computed once of two machines, and lent to all that makes levels: which states match, and the predecessors of the states of each. These are
 // three arrays side by side, since crate `rows` takes each by itself.
-#[derive(Drop)]
+#[derive(Clone, Copy)]
 struct Game {
     pair: Pair,
     matched: [u64; 64],
