@@ -3,7 +3,7 @@ use Rattle.std.specs.Prelude.{Bool, true, false, cond, ◌⊎◌, ◌≡◌, ℕ
 use mathlib.Core.List.{List, [], ◌++◌}
 use Rattle.std.proofs.Math.Logic.{⊎_elim, by_cases}
 use Rattle.std.proofs.Math.Path.{refl, sym, ap}
-use Rattle.std.specs.Result.{result_and}
+use Rattle.std.specs.Result.{result_and, result_unwrap_or}
 use Rattle.std.proofs.Common.{ap₂, ◌∙◌, arith}
 use Rattle.std.proofs.Math.Decide.{dec_lt}
 use Rattle.std.proofs.Math.Dec.{eqb}
@@ -21,7 +21,7 @@ use Rattle.mask.specs.FrontLaws.{front_none}
 use Rattle.machine.specs.declared.Pair.{Pair}
 use Rattle.machine.specs.declared.Refusal.{Refusal}
 use Rattle.machine.specs.Machines.{observation, same_observation, matched, n_c, n_a, sets_a}
-use Rattle.machine.specs.Refusals.{Tested, valid, and_then, pass_on}
+use Rattle.machine.specs.Refusals.{Tested, valid, and_then, pass_on, state_after}
 use Rattle.machine.specs.RefusalsLaws.{then_of, then_refused, then_then, valid_if, state_made, state_kept}
 use Rattle.machine.specs.WellFormed.{well_formed, nonempty_validity}
 use Rattle.machine.specs.WellFormedLaws.{WellPair, well_pair, valid_is_well, entries_small}
@@ -70,6 +70,15 @@ module _ (p : Pair) where
   pub first_refused : {r : Refusal} → nonempty_validity p ≡ Err r → first_answer p ≡ Err r
   unfolding first_answer
   first_refused e = then_refused _ _ _ e
+
+  -- lists of turns begin with what is given, or with zeros beside a refusal
+  pub given_or_zeros : result_unwrap_or (first_answer p) (replicate 448 0) ≡ first_given p
+  unfolding first_answer first_given and_then pass_on state_after
+  given_or_zeros = go (nonempty_validity p)
+    where
+      go : (v : Tested) → result_unwrap_or (and_then v (Ok (first_rows p))) (replicate 448 0) ≡ state_after v (first_rows p) (replicate 448 0)
+      go (Ok t) = refl
+      go (Err r) = refl
 
 -- ---- two families, row by row
 pub rows_same : (x y : List ℕ) → ((e : ℕ) → e < 448 → get_or x e 0 ≡ get_or y e 0) → every 448 (λ e. eqb (get_or x e 0) (get_or y e 0)) ≡ true

@@ -3,10 +3,11 @@
 // see only the matched pairs of the machines. It is one flat list, apart from the machines and the table, as C lends it.
 #![tactic(auto)]
 
-ghost use Rattle.std.specs.Prelude.{◌≡◌, ◌<◌, length};
+ghost use Rattle.std.specs.Prelude.{◌≡◌, ◌<◌, length, replicate};
+ghost use Rattle.std.specs.Result.{result_unwrap_or};
 ghost use Rattle.machine.specs.Machines.{n_c, n_a, sets_a};
 ghost use Rattle.machine.specs.Table.{entries};
-ghost use Rattle.progress.specs.Turns.{first_rows, first_answer, turn_answer, turn_family, turn_table, still_in, range_validity, look_up_answer};
+ghost use Rattle.progress.specs.Turns.{first_rows, first_answer, first_given, turn_answer, turn_family, turn_table, still_in, range_validity, look_up_answer};
 
 use machine::{Formed, Pair, Refusal};
 use std::array;
@@ -27,9 +28,10 @@ fn first_rows(formed: &Formed) -> [u64; 448]
     })
 }
 
-// The family before the first turn: all matched pairs in every section.
+// The family before the first turn: all matched pairs in every section. What is given, or zeros beside a refusal, is what lists of turns begin with.
 pub fn first_family(p: Pair) -> Result<[u64; 448], Refusal>
-    ensures { result ≡ first_answer p }
+    ensures answer { result ≡ first_answer p }
+    ensures family { result_unwrap_or result (replicate 448 0) ≡ first_given p }
 {
     validity::pair_validity(p, Sets::Nonempty)?;
     let formed = Formed { pair: &p };
