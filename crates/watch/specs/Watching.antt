@@ -1,6 +1,6 @@
 -- The solver by turns on a file's bytes: what is said, and what is left in the lent family and table. The file's machines are read, and a table
 -- that it has is not looked at.
-use Rattle.std.specs.Prelude.{Bool, true, false, List, ℕ, length, Err, Ok}
+use Rattle.std.specs.Prelude.{Bool, true, false, List, ℕ, length, replicate, Err, Ok}
 use Rattle.machine.specs.declared.Pair.{Pair}
 use Rattle.machine.specs.Refusals.{Tested, and_then, state_after, buffer_validity, Answer}
 use Rattle.machine.specs.WellFormed.{nonempty_validity}
@@ -20,6 +20,10 @@ first_file f = and_then (read_validity f table_room) (nonempty_validity (pair_of
 -- what the call says: these, or the family
 unfoldable pub first_file_answer : List ℕ → Answer (List ℕ)
 first_file_answer f = and_then (first_file f) (Ok (first_rows (pair_of f)))
+
+-- what the call gives: zeros beside a refusal
+unfoldable pub first_file_given : List ℕ → List ℕ
+first_file_given f = state_after (first_file f) (first_rows (pair_of f)) (replicate 448 0)
 
 -- for C: the lent family's final content
 unfoldable pub first_file_rows : List ℕ → List ℕ → List ℕ

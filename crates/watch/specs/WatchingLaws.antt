@@ -1,5 +1,6 @@
 -- Laws of the solver by turns on a file's bytes: by what the reader says, what is answered and what is left in the lent arrays.
-use Rattle.std.specs.Prelude.{Bool, List, ◌≡◌, ℕ, ◌≤◌, ◌<◌, length, Err, Ok, Some, None}
+use Rattle.std.specs.Prelude.{Bool, List, ◌≡◌, ℕ, ◌≤◌, ◌<◌, length, replicate, Err, Ok, Some, None}
+use Rattle.std.specs.Result.{result_unwrap_or}
 use Rattle.std.proofs.Math.Path.{refl, sym, ap}
 use Rattle.std.proofs.Common.{◌∙◌}
 use Rattle.std.proofs.lemmas.Option.{none-some, same_Some}
@@ -12,9 +13,9 @@ use Rattle.machine.specs.Table.{table_room}
 use Rattle.codec.specs.Reader.{pair_of, read_validity}
 use Rattle.solver.specs.Families.{turn_rows}
 use Rattle.solver.specs.Solver.{solve_validity}
-use Rattle.progress.specs.Turns.{first_rows, first_answer, finishes, turn_answer, turn_family, turn_table, look_up_answer}
+use Rattle.progress.specs.Turns.{first_rows, first_answer, first_given, finishes, turn_answer, turn_family, turn_table, look_up_answer}
 use Rattle.progress.specs.TurnsLaws.{turn_refused}
-use Rattle.watch.specs.Watching.{machines_read, first_file, first_file_answer, first_file_rows, ready_number, told_number, turn_file, turn_file_rows, turn_file_table, look_up_file}
+use Rattle.watch.specs.Watching.{machines_read, first_file, first_file_answer, first_file_given, first_file_rows, ready_number, told_number, turn_file, turn_file_rows, turn_file_table, look_up_file}
 use Rattle.machine.specs.declared.Refusal.TheVariants.{ShortBuffer}
 
 -- ---- the machines
@@ -46,6 +47,24 @@ module _ (f : List ℕ) where
   unfolding first_file first_file_answer first_answer
   first_read e m =
       ap first_answer m ∙ ap (λ (v : Tested). and_then v (Ok (first_rows (pair_of f)))) (sym (then_of _ (nonempty_validity (pair_of f)) e))
+
+  pub given_unread : {r : Refusal} → read_validity f table_room ≡ Err r → first_file_given f ≡ replicate 448 0
+  unfolding first_file first_file_given
+  given_unread e = state_kept _ _ _ (then_refused _ (nonempty_validity (pair_of f)) _ e)
+
+  pub given_read : {p : Pair} → read_validity f table_room ≡ valid → p ≡ pair_of f → first_given p ≡ first_file_given f
+  unfolding first_file first_file_given first_given
+  given_read e m =
+      ap first_given m ∙ ap (λ (v : Tested). state_after v (first_rows (pair_of f)) (replicate 448 0)) (sym (then_of _ (nonempty_validity (pair_of f)) e))
+
+  -- what is given is in the answer, or zeros beside a refusal
+  pub given_or_zeros : result_unwrap_or (first_file_answer f) (replicate 448 0) ≡ first_file_given f
+  unfolding first_file_answer first_file_given and_then pass_on state_after
+  given_or_zeros = go (first_file f)
+    where
+      go : (v : Tested) → result_unwrap_or (and_then v (Ok (first_rows (pair_of f)))) (replicate 448 0) ≡ state_after v (first_rows (pair_of f)) (replicate 448 0)
+      go (Ok t) = refl
+      go (Err r) = refl
 
 -- for C: what is told beside v, the tests, where the answer is w
 module _ (w F : List ℕ) where

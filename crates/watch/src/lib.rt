@@ -2,9 +2,10 @@
 // Section and states come one by one, as `progress::look_up` takes them.
 #![tactic(auto)]
 
-ghost use Rattle.std.specs.Prelude.{◌≡◌, length};
+ghost use Rattle.std.specs.Prelude.{◌≡◌, length, replicate};
+ghost use Rattle.std.specs.Result.{result_unwrap_or};
 ghost use Rattle.machine.specs.Refusals.{spot_after};
-ghost use Rattle.watch.specs.Watching.{machines_read, first_file, first_file_answer, first_file_rows, turn_file, turn_file_rows, turn_file_table, look_up_file, ready_number, told_number};
+ghost use Rattle.watch.specs.Watching.{machines_read, first_file, first_file_answer, first_file_given, first_file_rows, turn_file, turn_file_rows, turn_file_table, look_up_file, ready_number, told_number};
 
 use machine::{Pair, Refusal};
 
@@ -23,7 +24,8 @@ fn machines_of(bytes: &[u8]) -> Result<Pair, Refusal>
 
 // The first family of a file's machines, or where the call was stopped.
 pub fn first_family_bytes(bytes: &[u8]) -> Result<[u64; 448], Refusal>
-    ensures { result ≡ first_file_answer bytes.now }
+    ensures answer { result ≡ first_file_answer bytes.now }
+    ensures family { result_unwrap_or result (replicate 448 0) ≡ first_file_given bytes.now }
 {
     let pair = machines_of(bytes)?;
     progress::first_family(pair)

@@ -8,7 +8,7 @@ use Rattle.watch.proofs.first_family_file.Goals as goal
 pub returns-in-Some : goal.returns-in-Some
 returns-in-Some c =
     let x = c.args in
-    let made = c.first_family_bytes.ensures in
+    let made = c.first_family_bytes.ensures.answer in
     let given = first_told x.bytes.now x.family.now (ap answer_in (sym made) ∙ sym c.told.ensures.value ∙ c.in-Some.is) in
     record {
       number = sym given.0;
@@ -19,7 +19,7 @@ returns-in-Some c =
 pub returns-in-None : goal.returns-in-None
 returns-in-None c =
     let x = c.args in
-    let made = c.first_family_bytes.ensures in
+    let made = c.first_family_bytes.ensures.answer in
     let none = first_none x.bytes.now x.family.now (ap answer_in (sym made) ∙ sym c.told.ensures.value ∙ c.in-None.is) in
     record {
       number = sym none.0;
