@@ -15,7 +15,9 @@ fn write_machine(rt: &impl Print, bytes: &[u8], which: usize) -> io::Result<bool
             Ok(true)
         }
         Err(refusal) => {
-            rt.write_all(&report::refusal_line(refusal))?;
+            let line = report::refusal_line(refusal);
+            let text = line.text;
+            rt.write_all(&text[..line.length])?;
             Ok(false)
         }
     }

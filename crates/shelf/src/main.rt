@@ -6,5 +6,7 @@ use std::io;
 fn main(rt: HostRuntime) -> io::Result<()> {
     let mut buffer = [0u8; codec::INPUT_ROOM];
     let bytes = stream::filled(&mut rt.stdin(), &mut buffer);
-    rt.write_all(&report::shelf_line(bytes))
+    let line = report::shelf_line(bytes);
+    let text = line.text;
+    rt.write_all(&text[..line.length])
 }

@@ -11,6 +11,10 @@ fn main(rt: HostRuntime) -> io::Result<()> {
     let mut out = [0u8; codec::FILE_ROOM];
     match restore::solve_bytes(bytes, &mut out) {
         Ok(n) => rt.write_all(&out[..n]),
-        Err(refusal) => rt.stderr().write_all(&report::refusal_line(refusal)),
+        Err(refusal) => {
+            let line = report::refusal_line(refusal);
+            let text = line.text;
+            rt.stderr().write_all(&text[..line.length])
+        }
     }
 }

@@ -2,22 +2,32 @@
 // are still in, and last the line of the finish; or the line of a refusal. A read that fails ends the input.
 #![tactic(auto)]
 
+ghost use Rattle.std.specs.Prelude.{◌≤◌};
+
 use machine::Pair;
+use report::Line;
 use std::io;
 
 // The most turns that a finish takes.
 const MOST_TURNS: usize = machine::TABLE_ROOM + 1;
+
+fn write_line(rt: &impl Print, line: Line) -> io::Result<()>
+    requires { line.length ≤ 128 }
+{
+    let text = line.text;
+    rt.write_all(&text[..line.length])
+}
 
 // Takes a turn after the other from the first family on.
 fn take_turns(rt: &impl Print, pair: Pair, first: [u64; 448], table: &mut [u16]) -> io::Result<()> {
     let mut family = first;
     for t in 1..=MOST_TURNS {
         match progress::turn(pair, &mut family, table) {
-            Err(refusal) => return rt.write_all(&report::refusal_line(refusal)),
+            Err(refusal) => return write_line(rt, report::refusal_line(refusal)),
             Ok(finished) => {
-                rt.write_all(&turnline::turn_line(pair, t, family))?;
+                write_line(rt, turnline::turn_line(pair, t, family))?;
                 if finished {
-                    return rt.write_all(&turnline::finished_line(t));
+                    return write_line(rt, turnline::finished_line(t));
                 }
             }
         }
@@ -33,7 +43,7 @@ fn main(rt: HostRuntime) -> io::Result<()> {
     let show = codec::reader::read_file(bytes, &mut table);
     let pair = show.pair;
     match show.reading.and_then(|_| progress::first_family(pair)) {
-        Err(refusal) => rt.write_all(&report::refusal_line(refusal)),
+        Err(refusal) => write_line(&rt, report::refusal_line(refusal)),
         Ok(first) => take_turns(&rt, pair, first, &mut table),
     }
 }
