@@ -3,8 +3,8 @@ use mathlib.Core.List.{List}
 use mathlib.Core.Path.{sym, subst}
 use Prim.Native.Nat.{ℕ, ◌*◌, ◌≤◌, ◌<◌}
 use native.Mathlib.Omega.{arith}
-use Rattle.std.specs.Prelude.{Option, None}
-use lib.ListN.{length, replicate, length-replicate, get_or-replicate}
+use Rattle.std.specs.Prelude.{Option, None, Some}
+use lib.ListN.{length, set, replicate, length-replicate, get_or-replicate}
 use Rattle.player.specs.Given.{lent}
 use Rattle.machine.specs.Player.{run_room}
 use Rattle.player.specs.declared.Place.{Place}
@@ -33,7 +33,7 @@ step-next-requires-clause-round_bound c = round_small (goal.at.step-next-require
 
 -- ---- a loop start: the number of its a and j, and the mark there
 number_small : (c : After-number_of-number) → c.number_of-number.result < 448
-number_small c = let at = c.loop-place.place in omega (arith, c.number_of-number.ensures, number_low at.a at.j)
+number_small c = subst (λ (n : ℕ). n < 448) (sym c.number_of-number.ensures) (number_low _ _)
 
 -- a mark that is met: the rule's end
 pub returns-in-Some : goal.returns-in-Some
@@ -57,7 +57,8 @@ not_ended c =
     let Goes : List (Option ℕ) → Type 0 = λ m. NotEnded x.self.now.pair.now x.self.now.table.now (lent x.lasso.now) m c.loop-place.place in
     elim c.if-place-start.branch [
       | then-place-start+in_default w ↦
-          subst Goes (sym w.marks-is) (marked_on k h w.if-place-start.true w.number_of-number.result w.number_of-number.ensures w.in_default.is)
+          let Marked : ℕ → Type 0 = λ n. Goes (set c.loop-place.marks w.number_of-number.result (Some n)) in
+          subst Goes (sym w.marks-is) (subst Marked (omega arith) (marked_on k h w.if-place-start.true w.number_of-number.result w.number_of-number.ensures w.in_default.is))
       | else-place-start w ↦ subst Goes (sym w.marks-is) (unmarked_on k h w.if-place-start.false)
     ]
 
