@@ -5,4 +5,4 @@ use Rattle.codec.specs.NumberLaws.{read_is}
 use Rattle.codec.proofs.U64Stored.read.Goals as goal
 
 pub returns : goal.returns
-returns c = c.from_le_bytes.ensures ∙ read_is 7 _ ∙ ap (λ (s : List ℕ). number_at 8 s 0) c.copy_from_slice.ensures.after
+returns c = c.from_le_bytes.ensures ∙ read_is 7 c.copy_from_slice.new.self ∙ ap (λ (s : List ℕ). number_at 8 s 0) c.copy_from_slice.ensures.after

@@ -8,6 +8,7 @@ use lib.ListN.{length, length-replicate}
 use Rattle.machine.specs.Refusals.{and_then, valid}
 use Rattle.machine.specs.RefusalsLaws.{then_answer, then_refused, then_of, buffer_kept}
 use Rattle.machine.specs.WellFormed.{pair_validity}
+use Rattle.machine.specs.Table.{table_room}
 use Rattle.codec.specs.Format.{payload_room}
 use Rattle.codec.specs.Reader.{first_validity, blocks_validity, demanded, pair_of}
 use Rattle.codec.specs.Answers.{read_of}
@@ -55,7 +56,7 @@ table_at-requires c =
     record {
       loaded = there (goal.at.table_at-requires c).After-join;
       note = sym c.note-note.ensures ∙ c.if-note.true;
-      table_room_in_bounds = omega arith;
+      table_room_in_bounds = omega (arith, length-replicate {A = ℕ} table_room 0);
     }
 
 pub returns-in-Err : goal.returns-in-Err
