@@ -2,7 +2,7 @@
 use Rattle.std.specs.Prelude.{List, [], ◌∷◌, ◌++◌, ℕ, take, get_or, Err, None, Ok, Option, Some}
 use Rattle.text.specs.Decimal.{decimal}
 use Rattle.machine.specs.declared.Refusal.{Refusal}
-use Rattle.machine.specs.Refusals.{Answer, number_of, spot_of}
+use Rattle.machine.specs.Refusals.{Answer, four_numbers}
 use Rattle.codec.specs.Reader.{input_room}
 use Rattle.verdict.specs.Outcomes.{file_outcome}
 use Rattle.machine.specs.declared.Verdict.{Verdict}
@@ -30,11 +30,15 @@ no_table_text = 110 ∷ 111 ∷ 32 ∷ 116 ∷ 97 ∷ 98 ∷ 108 ∷ 101 ∷ 10 
 abbrev pub refused_text : List ℕ
 refused_text = 114 ∷ 101 ∷ 102 ∷ 117 ∷ 115 ∷ 101 ∷ 100 ∷ 32 ∷ []
 
--- "refused NUMBER P Q R"
+-- "refused NUMBER P Q R", of these four
+unfoldable pub numbers_line : List ℕ → List ℕ
+numbers_line four =
+    let told : ℕ → List ℕ = λ i. decimal (get_or four i 0) in
+    refused_text ++ (told 0 ++ (blank_space ++ (told 1 ++ (blank_space ++ (told 2 ++ (blank_space ++ (told 3 ++ line_feed)))))))
+
+-- a refusal's
 unfoldable pub refusal_line : Refusal → List ℕ
-refusal_line r =
-    let place : ℕ → ℕ = λ i. get_or (spot_of r) i 0 in
-    refused_text ++ (decimal (number_of r) ++ (blank_space ++ (decimal (place 0) ++ (blank_space ++ (decimal (place 1) ++ (blank_space ++ (decimal (place 2) ++ line_feed)))))))
+refusal_line r = numbers_line (four_numbers r)
 
 -- "carried COUNT", "not carried C COUNT"
 unfoldable pub verdict_line : Verdict → List ℕ

@@ -8,23 +8,28 @@ use Rattle.text.specs.Decimal.{decimal}
 use Rattle.text.specs.DecimalLaws.{decimal_most}
 use Rattle.machine.specs.declared.Refusal.{Refusal}
 use Rattle.machine.specs.declared.Verdict.TheVariants.{Carried, NotCarried}
-use Rattle.machine.specs.Refusals.{number_of, spot_of}
+use Rattle.machine.specs.Refusals.{number_of, spot_of, four_numbers}
 use Rattle.codec.specs.Reader.{input_room}
-use Rattle.report.specs.Text.{blank_space, line_feed, carried_text, not_carried_text, refused_text, refusal_line, verdict_line}
+use Rattle.report.specs.Text.{blank_space, line_feed, carried_text, not_carried_text, refused_text, numbers_line, refusal_line, verdict_line}
 
 -- a line has room for each: of n, and of each other number, at most 20 digits
 -- what is put for a refusal, by its numbers
 abbrev pub refusal_parts : ℕ → ℕ → ℕ → ℕ → List (List ℕ)
 refusal_parts n a b c = refused_text ∷ (decimal n ++ blank_space) ∷ (decimal a ++ blank_space) ∷ (decimal b ++ blank_space) ∷ (decimal c ++ line_feed) ∷ []
 
-pub refusal_text : (r : Refusal) (n a b c : ℕ) → n ≡ number_of r → a ≡ get_or (spot_of r) 0 0 → b ≡ get_or (spot_of r) 1 0 → c ≡ get_or (spot_of r) 2 0
-    → take 128 (flatten (refusal_parts n a b c)) ≡ refusal_line r
-unfolding refusal_line flatten
-refusal_text r n a b c en ea eb ec =
+pub numbers_text : (four : List ℕ) (n a b c : ℕ) → n ≡ get_or four 0 0 → a ≡ get_or four 1 0 → b ≡ get_or four 2 0 → c ≡ get_or four 3 0
+    → take 128 (flatten (refusal_parts n a b c)) ≡ numbers_line four
+unfolding numbers_line flatten
+numbers_text four n a b c en ea eb ec =
     let line = flatten (refusal_parts n a b c) in
     let short : length line ≤ 128 = simp length-append (omega (arith, decimal_most n, decimal_most a, decimal_most b, decimal_most c)) in
     let same : line ≡ refused_text ++ (decimal n ++ (blank_space ++ (decimal a ++ (blank_space ++ (decimal b ++ (blank_space ++ (decimal c ++ line_feed))))))) = simp (append_assoc, append-nil) in
     take_all 128 line short ∙ same ∙ rw (en, ea, eb, ec) refl
+
+pub refusal_text : (r : Refusal) (n a b c : ℕ) → n ≡ number_of r → a ≡ get_or (spot_of r) 0 0 → b ≡ get_or (spot_of r) 1 0 → c ≡ get_or (spot_of r) 2 0
+    → take 128 (flatten (refusal_parts n a b c)) ≡ refusal_line r
+unfolding refusal_line four_numbers
+refusal_text r n a b c en ea eb ec = numbers_text (four_numbers r) n a b c en ea eb ec
 
 pub carried_line : (n : ℕ) → take 128 (flatten (carried_text ∷ (decimal n ++ line_feed) ∷ [])) ≡ verdict_line (Carried n)
 unfolding verdict_line flatten

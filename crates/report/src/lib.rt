@@ -3,11 +3,11 @@
 
 ghost use Rattle.std.specs.Prelude.{◌≡◌, ◌≤◌, [], ◌∷◌, ◌++◌, take};
 ghost use Rattle.text.specs.Decimal.{decimal};
-ghost use Rattle.report.specs.Text.{no_table_text, refusal_line, verdict_line, outcome_line, shelf_line};
+ghost use Rattle.report.specs.Text.{no_table_text, numbers_line, verdict_line, outcome_line, shelf_line};
 ghost use Rattle.report.specs.Answers.{line_of};
 
 use arrayvec::ArrayVec;
-use machine::{Refusal, Verdict};
+use machine::{Numbered, Refusal, Verdict};
 use text::{append, append_byte, append_number};
 
 // A line of text with its line feed: the first `length` bytes of `text`, and zeros after them.
@@ -40,20 +40,28 @@ fn append_field(line: &mut Growing, n: usize, after: u8)
     append_byte(line, after);
 }
 
-// The line of a refusal.
-pub fn refusal_line(r: Refusal) -> Line
-    ensures value { result ≡ line_of (refusal_line r) }
-    ensures text { take result.length result.text ≡ refusal_line r }
+// The line of a number and a spot's three.
+fn numbers_line(four: [u64; 4]) -> Line
+    ensures value { result ≡ line_of (numbers_line four) }
+    ensures text { take result.length result.text ≡ numbers_line four }
     ensures room { result.length ≤ 128 }
 {
-    let spot = r.spot();
     let mut line = Growing::new();
     append(&mut line, b"refused ");
-    append_field(&mut line, r.number() as usize, b' ');
-    append_field(&mut line, spot[0], b' ');
-    append_field(&mut line, spot[1], b' ');
-    append_field(&mut line, spot[2], b'\n');
+    append_field(&mut line, four[0] as usize, b' ');
+    append_field(&mut line, four[1] as usize, b' ');
+    append_field(&mut line, four[2] as usize, b' ');
+    append_field(&mut line, four[3] as usize, b'\n');
     line_of(&line)
+}
+
+// The line of a refusal, or of any four numbers that are told as one.
+pub fn refusal_line<R: Numbered>(r: R) -> Line
+    ensures value { result ≡ line_of (numbers_line (R.four r)) }
+    ensures text { take result.length result.text ≡ numbers_line (R.four r) }
+    ensures room { result.length ≤ 128 }
+{
+    numbers_line(r.four())
 }
 
 // The line of what the check says.

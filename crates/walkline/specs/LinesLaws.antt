@@ -4,15 +4,15 @@ use Rattle.std.specs.Prelude.{◌≡◌, ℕ, ◌≤◌, length, take, get_or, E
 use Rattle.std.proofs.Common.{append-nil, length-append, ◌∙◌, arith, take_all}
 use Rattle.text.specs.Decimal.{decimal}
 use Rattle.text.specs.DecimalLaws.{decimal_most}
-use Rattle.machine.specs.Refusals.{Answer, number_of, spot_of}
+use Rattle.machine.specs.Refusals.{Answer, number_of, spot_of, four_numbers}
 use Rattle.machine.specs.declared.Verdict.{Verdict}
-use Rattle.report.specs.Text.{blank_space, outcome_line, refusal_line, verdict_line}
+use Rattle.report.specs.Text.{blank_space, outcome_line, numbers_line, refusal_line, verdict_line}
 use Rattle.walkline.specs.Lines.{numbered_line}
 
 -- what is said of one file: the longest is a refusal, a word and a blank of eight bytes, four numbers of at most twenty digits, three blanks and a line
 -- feed
 outcome_most : (said : Answer (Option Verdict)) → length (outcome_line said) ≤ 92
-unfolding outcome_line verdict_line refusal_line
+unfolding outcome_line verdict_line refusal_line numbers_line four_numbers
 outcome_most (Ok (Some (Verdict.Carried n))) = simp length-append (omega (arith, decimal_most n))
 outcome_most (Ok (Some (Verdict.NotCarried c n))) = simp length-append (omega (arith, decimal_most c, decimal_most n))
 outcome_most (Ok None) = omega arith

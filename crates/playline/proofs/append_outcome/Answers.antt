@@ -4,6 +4,7 @@ use Prim.Native.Nat.{ℕ, ◌+◌, ◌-◌}
 use lib.ListN.{take, drop}
 use native.Mathlib.Omega.{arith}
 use Rattle.std.specs.Prelude.{Ok}
+use Rattle.report.specs.Text.{refusal_line}
 use Rattle.playline.specs.Line.{run_line}
 use Rattle.playline.specs.LineLaws.{put_as, outcome_alone, line_run, line_none, line_refused}
 use Rattle.playline.proofs.append_outcome.Goals as goal
@@ -31,6 +32,7 @@ returns-in-None c =
     }
 
 pub returns-in-Err : goal.returns-in-Err
+unfolding refusal_line
 returns-in-Err c =
     let said = c.args.said in
     let run = c.args.run.now in

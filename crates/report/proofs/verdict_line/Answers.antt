@@ -3,7 +3,7 @@ use Rattle.std.proofs.Common.{sym, ap, ◌∙◌}
 use Rattle.std.specs.Prelude.{Ok}
 use Rattle.report.specs.Answers.{line_of}
 use Rattle.report.specs.LineLaws.{text_of}
-use Rattle.report.specs.Text.{outcome_line}
+use Rattle.report.specs.Text.{outcome_line, refusal_line}
 use Rattle.report.proofs.verdict_line.Goals as goal
 
 pub returns-in-Some : goal.returns-in-Some
@@ -23,7 +23,7 @@ returns-in-None c =
     record { value = value; text = text_of (outcome_line said) value; room = c.line_of-in-None.ensures.room }
 
 pub returns-in-Err : goal.returns-in-Err
-unfolding outcome_line
+unfolding outcome_line refusal_line
 returns-in-Err c =
     let said = c.args.said in
     let value = c.refusal_line.ensures.value ∙ ap line_of (sym (ap outcome_line c.in-Err.is)) in
