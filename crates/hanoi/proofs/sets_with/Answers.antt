@@ -9,4 +9,5 @@ unfolding sets_mask
 returns c =
     let x = c.args in
     let few : min x.k 64 ≡ x.k = omega (arith, c.requires) in
-    c.those.ensures _ (search (rules, tests)) ∙ ap (λ (n : ℕ). mask_of n (λ j. has_bit (get_or x.fairness.now j 0) x.s)) few
+    let made = c.those.ensures _ (search (rules, tests)) ∙ ap (λ (n : ℕ). mask_of n (λ j. has_bit (get_or x.fairness.now j 0) x.s)) few in
+    omega (arith, made)
