@@ -9,7 +9,7 @@ use Rattle.machine.specs.declared.Pair.{Pair}
 use Rattle.machine.specs.declared.Refusal.{Refusal}
 use Rattle.machine.specs.declared.Run.{Run}
 use Rattle.machine.specs.Refusals.{pass_on, buffer_validity, buffer_after, spot_after, answer_in, Answer}
-use Rattle.machine.specs.RefusalsLaws.{then_of, then_refused, then_answer, given_at, buffer_valid, buffer_short, buffer_room, buffer_made, buffer_kept}
+use Rattle.machine.specs.RefusalsLaws.{then_of, then_refused, then_answer, given_at, buffer_valid, buffer_short, buffer_room, buffer_made, buffer_kept, spot_kept}
 use Rattle.machine.specs.Table.{table_room}
 use Rattle.machine.specs.Verdict.{no_table}
 use Rattle.machine.specs.Lassos.{Lasso}
@@ -123,6 +123,10 @@ module _ (v : Answer (Option Run)) (spot : List ℕ) where
   pub told_run : {r : Run} → answer_in v ≡ Some (Some r) → (v ≡ Ok (Some r)) × (r.stem * 65536 + r.cycle ≡ run_number v) × (spot_after v spot ≡ run_spot v spot)
   unfolding run_number run_spot spot_after
   told_run {r} e = let t = told_some v e in (t, sym (ap run_number t), rw t refl)
+
+  -- beside an answer the list of four is as it was lent
+  pub told_kept : {o : Option Run} → answer_in v ≡ Some o → spot_after v spot ≡ spot
+  told_kept e = spot_kept spot (told_some v e)
 
   pub told_bare : {left : List ℕ} → answer_in v ≡ Some None → left ≡ sets spot 0 (no_table ∷ 0 ∷ 0 ∷ 0 ∷ []) → (0 ≡ run_number v) × (left ≡ run_spot v spot)
   unfolding run_number run_spot

@@ -48,7 +48,7 @@ pub fn play_file(
     match machine::told(play_bytes(bytes, stem, cycle, run), spot) {
         Some(Some(lengths)) => lengths.stem as u64 * 65536 + lengths.cycle as u64,
         Some(None) => {
-            *spot = [machine::NO_TABLE as u64, 0, 0, 0];
+            machine::put_refusal(spot, machine::refuse(machine::NO_TABLE, 0, 0, 0));
             0
         }
         None => 0,

@@ -1,9 +1,8 @@
 -- The run's two lengths as one number, or the four numbers of what stands in its place: what the three cases of the definitions say.
-use mathlib.Core.List.{List, [], ◌∷◌, ◌++◌, append-nil}
-use lib.ListN.{length}
-use Rattle.std.proofs.Common.{drop_of_length-le}
-use Rattle.std.proofs.lemmas.List.Edits.{sets, sets-eq}
-use Rattle.machine.specs.Verdict.{no_table}
+use mathlib.Core.List.{List}
+use Rattle.std.proofs.lemmas.List.Edits.{sets}
+use Rattle.machine.specs.declared.Numbers.{Numbers}
+use Rattle.machine.specs.Numbers.{four_of}
 use mathlib.Core.Path.{◌≡◌, sym, ap, ◌∙◌}
 use Prim.Native.Nat.{ℕ, ◌+◌, ◌≤◌}
 use native.Mathlib.Omega.{arith}
@@ -13,9 +12,9 @@ use Rattle.machine.specs.Lassos.{given}
 use Rattle.machine.specs.Player.{run_room}
 use Rattle.machine.specs.Refusals.{Answer, answer_in, spot_after}
 use Rattle.playback.specs.Playing.{file_run}
-use Rattle.playback.specs.PlayingLaws.{run_small, told_run, told_bare, told_stopped}
+use Rattle.playback.specs.PlayingLaws.{run_small, told_run, told_kept, told_bare, told_stopped}
 use Rattle.playback.proofs.play_file.Goals as goal
-use Rattle.playback.proofs.play_file.Goals.{After-told, In-Some-Some}
+use Rattle.playback.proofs.play_file.Goals.{After-told, In-Some-Some-unread}
 
 -- what is told C is what is said of the file
 told : (c : After-told) {o : Option (Option Run)} → c.told.result ≡ o →
@@ -26,7 +25,7 @@ spot : (c : After-told) → let x = c.args in c.told.new.spot ≡ spot_after (fi
 spot c = c.told.ensures.numbers ∙ ap (λ (v : Answer (Option Run)). spot_after v c.args.spot.now) c.play_bytes.ensures.answer
 
 -- the run's lengths are those of a run that fits its buffer
-fits : (c : In-Some-Some) → c.in-Some-Some.lengths.stem + c.in-Some-Some.lengths.cycle ≤ run_room
+fits : (c : In-Some-Some-unread) → c.in-Some-Some.lengths.stem + c.in-Some-Some.lengths.cycle ≤ run_room
 fits c =
     let x = c.args in
     let n = c.in-Some-Some in
@@ -46,18 +45,17 @@ returns-in-Some-Some c =
     let t = told_run _ c.args.spot.now (told a (n.is ∙ ap Some n.field-0-is)) in
     record { value = t.1; content = c.play_bytes.ensures.content; numbers = spot a ∙ t.2 }
 
--- four numbers take the place of four
-four : (l : List ℕ) (a b c d : ℕ) → length l ≡ 4 → a ∷ b ∷ c ∷ d ∷ [] ≡ sets l 0 (a ∷ b ∷ c ∷ d ∷ [])
-four l a b c d h =
-    let vs : List ℕ = a ∷ b ∷ c ∷ d ∷ [] in
-    let short : length l ≤ 4 = omega (arith, h) in
-    sym (sets-eq vs l 0 (omega (arith, h)) ∙ ap (λ (z : List ℕ). vs ++ z) (drop_of_length-le l short) ∙ append-nil vs)
-
+-- the four numbers go to the list as it was lent: beside an answer what is told leaves it
 pub returns-in-Some-None : goal.returns-in-Some-None
+unfolding four_of
 returns-in-Some-None c =
+    let x = c.args in
     let a = (goal.at.returns-in-Some-None c).After-told in
     let n = c.in-Some-None in
-    let t = told_bare _ c.args.spot.now (told a (n.is ∙ ap Some n.field-0-is)) (four c.args.spot.now no_table 0 0 0 c.told-spot) in
+    let said = told a (n.is ∙ ap Some n.field-0-is) in
+    let kept = spot a ∙ told_kept _ x.spot.now said in
+    let put = c.put_refusal.ensures ∙ ap (λ (l : List ℕ). sets l 0 (four_of c.refuse.result)) kept ∙ ap (λ (n : Numbers). sets x.spot.now 0 (four_of n)) c.refuse.ensures in
+    let t = told_bare _ x.spot.now said put in
     record { value = t.0; content = c.play_bytes.ensures.content; numbers = t.1 }
 
 pub returns-in-None : goal.returns-in-None
