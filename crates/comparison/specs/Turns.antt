@@ -9,7 +9,7 @@ use Rattle.machine.specs.declared.Refusal.{Refusal}
 use Rattle.machine.specs.Refusals.{Answer, Tested, and_then}
 use Rattle.machine.specs.Machines.{n_c, n_a, sets_a}
 use Rattle.machine.specs.Table.{blank, entries, place_of, table_room}
-use Rattle.progress.specs.Turns.{first_answer, turn_answer, turn_family, turn_table, look_up_answer}
+use Rattle.progress.specs.Turns.{first_answer, first_given, turn_answer, turn_family, turn_table, look_up_answer}
 use Rattle.brute.specs.Families.{holds_pairs, family_table, numbered_family}
 use Rattle.brute.specs.Ranking.{table_ranked}
 use Rattle.comparison.specs.declared.tally.Tally.{Tally}
@@ -142,13 +142,9 @@ module _ (k : Known) (S : List ℕ) where
       let later = walked n next more in
       cond (says_yes (turn_said k.pair F)) last later
 
-  -- "after at most n × P + 1 turns", S being the solver's table; a first family that is refused fails
-  unfoldable pub walked_from : Answer (List ℕ) → Tally
-  walked_from (Ok F) = walked (k.entries + 1) F nothing
-  walked_from (Err r) = of_test false
-
+  -- "after at most n × P + 1 turns", S being the solver's table; of a pair that is refused, from zeros
   unfoldable pub walk_tally : Tally
-  walk_tally = walked_from (first_answer k.pair)
+  walk_tally = walked (k.entries + 1) (first_given k.pair) nothing
 
 -- what brute force says of a well-formed pair
 unfoldable pub known_of : Pair → Tested → Known

@@ -1,13 +1,12 @@
 -- Laws of the walk from the first family to the finish, case by case.
-use Rattle.std.specs.Prelude.{◌≡◌, ℕ, suc, ◌+◌, Bool, true, false, cond, List, length, Ok}
-use Rattle.std.proofs.Common.{◌∙◌, sym}
-use Rattle.machine.specs.Refusals.{Answer}
-use Rattle.progress.specs.Turns.{first_answer, turn_family}
+use Rattle.std.specs.Prelude.{◌≡◌, ℕ, suc, ◌+◌, Bool, true, false, cond, List, length}
+use Rattle.std.proofs.Common.{◌∙◌}
+use Rattle.progress.specs.Turns.{first_given, turn_family}
 use Rattle.comparison.specs.declared.tally.Tally.{Tally}
 use Rattle.comparison.specs.declared.turns.Known.{Known}
 use Rattle.comparison.specs.Answers.{says_yes}
 use Rattle.comparison.specs.Tallies.{nothing, of_test, plus}
-use Rattle.comparison.specs.Turns.{end_agrees, family_tally, marks, turn_said, walk_tally, walked, walked_from}
+use Rattle.comparison.specs.Turns.{end_agrees, family_tally, marks, turn_said, walk_tally, walked}
 
 module _ (k : Known) where
   -- ---- from the first to the finish: A is what is counted in the end
@@ -28,7 +27,6 @@ module _ (k : Known) where
       pub walk_next : finished ≡ false → walked k S m N more ≡ A
       walk_next t = rw t at walk_at
 
-  pub walk_start : (S : List ℕ) {v : Answer (List ℕ)} {F : List ℕ} {sum : Tally} → v ≡ first_answer k.pair → v ≡ Ok F → sum ≡ nothing
-      → walked k S (k.entries + 1) F sum ≡ walk_tally k S
-  unfolding walk_tally walked_from
-  walk_start S e f es = rw (es, sym e ∙ f)
+  pub walk_start : (S : List ℕ) {F : List ℕ} {sum : Tally} → F ≡ first_given k.pair → sum ≡ nothing → walked k S (k.entries + 1) F sum ≡ walk_tally k S
+  unfolding walk_tally
+  walk_start S ef es = rw (es, ef)

@@ -255,14 +255,13 @@ impl Known {
         said.unwrap_or(false) && same_entries(self.entries, &table, solved)
     }
 
-    // The families from the first to the finish, which comes after at most n x P + 1 turns and with the solver's table.
+    // The families from the first to the finish, which comes after at most n x P + 1 turns and with the solver's table. Where the first is refused, they
+    // begin with zeros, as lists of turns do.
     fn compare_walk(&self, solved: &[u16]) -> Tally
         requires { self.now.entries ≤ table_room }
         ensures { result ≡ walk_tally self.now solved.now }
     {
-        let Ok(mut family) = progress::first_family(self.pair) else {
-            return Tally::of_test(false);
-        };
+        let mut family = progress::first_family(self.pair).unwrap_or([0; 448]);
         let mut sum = Tally::default();
         for _ in 0..self.entries + 1 {
             let step = self.compare_family(&mut family);
