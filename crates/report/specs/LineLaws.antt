@@ -12,12 +12,15 @@ drop_replicate (suc k) zero a = ap (λ (m : ℕ). replicate m a) (sym (zero-sub 
 drop_replicate (suc k) (suc n) a = let e : n - k ≡ suc n - suc k = omega arith in drop_replicate k n a ∙ ap (λ (m : ℕ). replicate m a) e
 
 -- a text that is copied to the front of zeros
-pub copied_line : (s t : List ℕ) (n : ℕ) → n ≡ length s → t ≡ s → ◌≡◌ {A = Line} (record { text = t ++ drop n (replicate 128 0); length = n }) (line_of s)
+pub copied_line : (s t : List ℕ) {n k a : ℕ} → n ≡ length s → k ≡ length s → a ≡ 0 → t ≡ s
+    → ◌≡◌ {A = Line} (record { text = t ++ drop n (replicate 128 a); length = k }) (line_of s)
 unfolding line_of
-copied_line s t n e f =
-    let bytes : t ++ drop n (replicate 128 0) ≡ s ++ replicate (128 - length s) 0 =
-    ap₂ (λ (l : List ℕ) (k : ℕ). l ++ drop k (replicate 128 0)) f e ∙ ap (λ (l : List ℕ). s ++ l) (drop_replicate (length s) 128 0) in
-    λ i. record { text = bytes i; length = e i }
+copied_line s t {n} {a = a} e l z f =
+    let bytes : t ++ drop n (replicate 128 a) ≡ s ++ replicate (128 - length s) 0 =
+    ap₂ (λ (u : List ℕ) (m : ℕ). u ++ drop m (replicate 128 a)) f e
+    ∙ ap (λ (b : ℕ). s ++ drop (length s) (replicate 128 b)) z
+    ∙ ap (λ (u : List ℕ). s ++ u) (drop_replicate (length s) 128 0) in
+    λ i. record { text = bytes i; length = l i }
 
 -- a line lies within its array
 pub line_within : (s : List ℕ) (l : Line) → l ≡ line_of s → l.length ≤ length l.text
