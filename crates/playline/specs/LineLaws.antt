@@ -90,15 +90,17 @@ module _ (f text : List ℕ) where
   unfolding play_line
   play_usage e = rw e
 
-  pub play_said : (said : Answer (Option Run)) (stem loop run : List ℕ) → readable text ≡ true
-      → stem ≡ numbers_in (take (stroke_at text) text) → loop ≡ numbers_in (drop (suc (stroke_at text)) text)
+  -- the text that was read is the whole text
+  pub play_said : {t : List ℕ} → t ≡ text → (said : Answer (Option Run)) (stem loop run : List ℕ) → readable t ≡ true
+      → stem ≡ numbers_in (take (stroke_at t) t) → loop ≡ numbers_in (drop (suc (stroke_at t)) t)
       → said ≡ file_run f (given stem loop) (replicate run_room 0) → run ≡ file_run_buffer f (given stem loop) (replicate run_room 0)
       → run_outcome_line said run ≡ play_line f text
   unfolding play_line lasso_in
-  play_said said stem loop run t b c e g =
+  play_said {t} whole said stem loop run r b c e g =
       let buffer : List ℕ = replicate run_room 0 in
       let line : Lasso → List ℕ = λ l. run_outcome_line (file_run f l buffer) (file_run_buffer f l buffer) in
-      ap₂ run_outcome_line e g ∙ ap line (ap₂ given b c) ∙ ap (λ (o : Bool). cond o (line (lasso_in text)) usage_line) (sym t)
+      ap₂ run_outcome_line e g ∙ ap line (ap₂ given b c) ∙ ap (λ (o : Bool). cond o (line (lasso_in t)) usage_line) (sym r)
+      ∙ ap (λ (l : List ℕ). cond (readable l) (line (lasso_in l)) usage_line) whole
 
 -- ---- the room
 refusal_most : (r : Refusal) → length (refusal_line r) ≤ 128

@@ -3,6 +3,7 @@ use mathlib.Core.Path.{◌≡◌, sym, ap, ◌∙◌}
 use native.Mathlib.Omega.{arith}
 use Prim.Native.Nat.{ℕ}
 use lib.ListN.{length, length-replicate}
+use Rattle.std.proofs.Common.{rules}
 use Rattle.machine.specs.Player.{run_room}
 use Rattle.playback.specs.PlayingLaws.{run_small}
 use Rattle.playline.specs.Lasso.{numbers_in}
@@ -21,7 +22,7 @@ returns-in-Some c =
     let play = c.play_bytes-said in
     let p = c.in-Some.ensures in
     let text =
-    play_said c.args.bytes.now c.args.text.now play.result c.deref.result.now c.deref-in-Some.result.now play.new.run p.0
+    play_said c.args.bytes.now c.args.text.now (search rules) play.result c.deref.result.now c.deref-in-Some.result.now play.new.run p.0
     (c.deref.ensures.0 ∙ c.numbers_in.ensures ∙ ap numbers_in p.1) (c.deref-in-Some.ensures.0 ∙ c.numbers_in-in-Some.ensures ∙ ap numbers_in p.2)
     play.ensures.answer play.ensures.content in
     record { behind = put_as c.args.line.now.items text c.append_outcome.ensures.behind; alone = λ e. c.append_outcome.ensures.alone e ∙ text }
