@@ -90,7 +90,7 @@ pub fn is_lasso(text: &[u8]) -> bool
     parts(text).is_some()
 }
 
-// ---- Writing the line. Words are put one behind the other, for the reason that `report` gives, all in the one line that is lent: a line that is
+// ---- Writing the line. Words are put one behind the other, for the reason that `report::Line` gives, all in the one line that is lent: a line that is
 // handed out takes a place of its own, of its whole room, in each call that it passes.
 
 // Puts the states, a blank before each.

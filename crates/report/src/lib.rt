@@ -10,15 +10,15 @@ use arrayvec::ArrayVec;
 use machine::{Numbered, Refusal, Verdict};
 use text::{append, append_byte, append_number};
 
-// A line of text with its line feed: the first `length` bytes of `text`, and zeros after them.
+// A line of text with its line feed: the first `length` bytes of `text`, and zeros after them. Its words are put one behind the other: `write!` promises
+// what it writes only where it gives Ok, and never that it does, so that the proof of its `unwrap` does not close (tried on digits).
 #[derive(Clone, Copy)]
 pub struct Line {
     pub text: [u8; 128],
     pub length: usize,
 }
 
-// A line that is being put together, word behind word: `write!` promises what it writes only where it gives Ok, and never that it does, so that the
-// proof of its `unwrap` does not close (tried on digits).
+// A line that is being put together.
 type Growing = ArrayVec<u8, 128>;
 
 // The line whose text was put together.

@@ -1,4 +1,4 @@
-// The lines of the solver by turns: document 02, No. 6, for the eye. Their words are put one behind the other, for the reason that `report` gives.
+// The lines of the solver by turns: document 02, No. 6, for the eye. Their words are put one behind the other, for the reason that `report::Line` gives.
 // Machines and family come apart, as C lends them, and a section by its number, from a loop.
 #![tactic(auto)]
 

@@ -1,4 +1,4 @@
-// The lines of a walk: document 02, No. 9. Their words are put one behind the other, for the reason that `report` gives.
+// The lines of a walk: document 02, No. 9. Their words are put one behind the other, for the reason that `report::Line` gives.
 #![tactic(auto)]
 
 ghost use Rattle.std.specs.Prelude.{◌≡◌};
