@@ -1,5 +1,5 @@
 -- Document 01, "Console and program": the line that `shelf` writes, as ASCII.
-use Rattle.std.specs.Prelude.{List, [], ◌∷◌, ◌++◌, ℕ, take, get_or, Err, None, Ok, Option, Some}
+use Rattle.std.specs.Prelude.{List, [], ◌∷◌, ◌++◌, ℕ, take, get_or, Err, None, Ok, Option, Result, Some}
 use Rattle.text.specs.Decimal.{decimal}
 use Rattle.machine.specs.declared.Refusal.{Refusal}
 use Rattle.machine.specs.Refusals.{Answer, four_numbers}
@@ -44,6 +44,12 @@ refusal_line r = numbers_line (four_numbers r)
 unfoldable pub verdict_line : Verdict → List ℕ
 verdict_line (Carried n) = carried_text ++ (decimal n ++ line_feed)
 verdict_line (NotCarried c n) = not_carried_text ++ (decimal c ++ (blank_space ++ (decimal n ++ line_feed)))
+
+-- one of these, "no table", or the line of what is told by four numbers
+unfoldable pub told_line : {R : Type 0} → (R → List ℕ) → Result (Option Verdict) R → List ℕ
+told_line four (Ok (Some v)) = verdict_line v
+told_line four (Ok None) = no_table_text
+told_line four (Err r) = numbers_line (four r)
 
 -- one of these, "no table", or a refusal's line
 unfoldable pub outcome_line : Answer (Option Verdict) → List ℕ

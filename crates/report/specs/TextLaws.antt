@@ -1,16 +1,17 @@
 -- Laws of the lines' texts, as words, numbers and the bytes after them.
 use mathlib.Core.List.{List, [], ◌∷◌, ◌++◌, flatten}
-use Rattle.std.specs.Prelude.{◌≡◌, refl, ℕ, ◌≤◌, get_or, min, length, take}
+use Rattle.std.specs.Prelude.{◌≡◌, refl, ℕ, ◌≤◌, get_or, min, length, take, Err, None, Ok, Option, Some}
 use Rattle.std.proofs.Common.{append_assoc, append-nil, length-append, sym, ap, ◌∙◌, arith, take_all}
 use Rattle.std.proofs.Math.Logic.{by_cases}
 use Rattle.std.proofs.Math.Decide.{dec_lt}
 use Rattle.text.specs.Decimal.{decimal}
 use Rattle.text.specs.DecimalLaws.{decimal_most}
 use Rattle.machine.specs.declared.Refusal.{Refusal}
+use Rattle.machine.specs.declared.Verdict.{Verdict}
 use Rattle.machine.specs.declared.Verdict.TheVariants.{Carried, NotCarried}
-use Rattle.machine.specs.Refusals.{number_of, spot_of, four_numbers}
+use Rattle.machine.specs.Refusals.{Answer, number_of, spot_of, four_numbers}
 use Rattle.codec.specs.Reader.{input_room}
-use Rattle.report.specs.Text.{blank_space, line_feed, carried_text, not_carried_text, refused_text, numbers_line, refusal_line, verdict_line}
+use Rattle.report.specs.Text.{blank_space, line_feed, carried_text, not_carried_text, refused_text, numbers_line, refusal_line, verdict_line, told_line, outcome_line}
 
 -- a line has room for each: of n, and of each other number, at most 20 digits
 -- what is put for a refusal, by its numbers
@@ -46,6 +47,13 @@ not_carried_line c n =
     let short : length line ≤ 128 = simp length-append (omega (arith, decimal_most c, decimal_most n)) in
     let same : line ≡ not_carried_text ++ (decimal c ++ (blank_space ++ (decimal n ++ line_feed))) = simp (append_assoc, append-nil) in
     take_all 128 line short ∙ same
+
+-- of a refusal it is what document 01 says
+pub told_outcome : (said : Answer (Option Verdict)) → told_line four_numbers said ≡ outcome_line said
+unfolding told_line outcome_line refusal_line
+told_outcome (Ok (Some v)) = refl
+told_outcome (Ok None) = refl
+told_outcome (Err r) = refl
 
 -- longer input is cut, and shorter input is taken whole
 pub input_cut : (input : List ℕ) {n : ℕ} → n ≡ min (length input) input_room → take n input ≡ take input_room input

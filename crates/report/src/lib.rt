@@ -3,11 +3,11 @@
 
 ghost use Rattle.std.specs.Prelude.{◌≡◌, ◌≤◌, [], ◌∷◌, ◌++◌, take};
 ghost use Rattle.text.specs.Decimal.{decimal};
-ghost use Rattle.report.specs.Text.{no_table_text, numbers_line, verdict_line, outcome_line, shelf_line};
+ghost use Rattle.report.specs.Text.{no_table_text, numbers_line, verdict_line, told_line, shelf_line};
 ghost use Rattle.report.specs.Answers.{line_of};
 
 use arrayvec::ArrayVec;
-use machine::{Numbered, Refusal, Verdict};
+use machine::{Numbered, Verdict};
 use text::{append, append_byte, append_number};
 
 // A line of text with its line feed: the first `length` bytes of `text`, and zeros after them. Its words are put one behind the other: `write!` promises
@@ -92,10 +92,10 @@ fn bare_line() -> Growing
     line
 }
 
-// The line of what is said of a file.
-pub fn verdict_line(said: Result<Option<Verdict>, Refusal>) -> Line
-    ensures value { result ≡ line_of (outcome_line said) }
-    ensures text { take result.length result.text ≡ outcome_line said }
+// The line of what is said of a file, with a refusal or any four numbers that are told as one.
+pub fn verdict_line<R: Numbered>(said: Result<Option<Verdict>, R>) -> Line
+    ensures value { result ≡ line_of (told_line R.four said) }
+    ensures text { take result.length result.text ≡ told_line R.four said }
     ensures room { result.length ≤ 128 }
 {
     match said {

@@ -1,5 +1,5 @@
 -- The word and four numbers, each put behind the line so far, are the parts of the definition, and there is room for them.
-use Rattle.std.proofs.Common.{List, ℕ, ap, get_or, ◌∙◌}
+use Rattle.std.proofs.Common.{ℕ, ap, get_or, ◌∙◌}
 use Rattle.std.specs.Prelude.{refl}
 use Rattle.text.specs.AppendLaws.{appended_new, last, next}
 use Rattle.report.specs.Answers.{line_of}
